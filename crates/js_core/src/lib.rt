@@ -2,4 +2,7 @@
 #![tactic(auto)]
 
 pub mod memory;
+pub mod operators;
+pub mod syntax;
 pub mod units;
+pub mod whole;

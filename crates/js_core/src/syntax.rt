@@ -1,0 +1,238 @@
+//! Syntax trees of ECMA-262 5.1 annex A.3 to A.5. A clause sees an `Expr`, a `Stmt`, a `Code` or a `Script` as the pure
+//! tree of `specs/Tree.antt`. No tree is higher than 1,000.
+
+use crate::operators::{BinaryOp, UnaryOp};
+use crate::units::Units;
+use crate::whole::Whole;
+use std::marker::Model;
+use std::rc::Rc;
+
+/// An expression (section 11).
+#[cycle(syntax)]
+#[derive(Drop)]
+pub struct Expr {
+    pub node: ExprNode,
+}
+
+/// The kinds of expressions. Parentheses make no node.
+#[cycle(syntax)]
+#[derive(Drop)]
+pub enum ExprNode {
+    Name(Units),
+    Num(Whole),
+    Text(Units),
+    Bool(bool),
+    Null,
+    This,
+    /// An array literal; `None` is an absent element.
+    List(Vec<Option<Expr>>),
+    /// An object literal.
+    Literal(Vec<(Units, Expr)>),
+    Func(Rc<Code>),
+    Member(Box<Expr>, Units),
+    Index(Box<Expr>, Box<Expr>),
+    Call(Box<Expr>, Vec<Expr>),
+    New(Box<Expr>, Vec<Expr>),
+    Unary(UnaryOp, Box<Expr>),
+    /// `++` where `up`, else `--`, before its target where `prefix`, else after it.
+    Update {
+        up: bool,
+        prefix: bool,
+        target: Box<Expr>,
+    },
+    Binary(BinaryOp, Box<Expr>, Box<Expr>),
+    And(Box<Expr>, Box<Expr>),
+    Or(Box<Expr>, Box<Expr>),
+    Cond(Box<Expr>, Box<Expr>, Box<Expr>),
+    /// `None` is `=`, an operator its compound assignment.
+    Assign(Option<BinaryOp>, Box<Expr>, Box<Expr>),
+    /// Two or more parts.
+    Comma(Vec<Expr>),
+}
+
+/// A function's name, formals and body (section 13).
+#[cycle(syntax)]
+#[derive(Drop)]
+pub struct Code {
+    pub name: Option<Units>,
+    pub formals: Vec<Units>,
+    pub body: Vec<Stmt>,
+}
+
+/// A name that a `var` declares, with its initialiser.
+#[cycle(syntax)]
+#[derive(Drop)]
+pub struct Declarator {
+    pub name: Units,
+    pub value: Option<Expr>,
+}
+
+/// What stands first in the header of a `for`.
+#[cycle(syntax)]
+#[derive(Drop)]
+pub enum ForInit {
+    Nothing,
+    Var(Vec<Declarator>),
+    Expr(Expr),
+}
+
+/// A clause of a `switch`; `None` is `default`.
+#[cycle(syntax)]
+#[derive(Drop)]
+pub struct Case {
+    pub test: Option<Expr>,
+    pub body: Vec<Stmt>,
+}
+
+/// The catch clause of a `try`.
+#[cycle(syntax)]
+#[derive(Drop)]
+pub struct Catch {
+    pub name: Units,
+    pub body: Vec<Stmt>,
+}
+
+/// A statement (section 12), or a function declaration.
+#[cycle(syntax)]
+#[derive(Drop)]
+pub struct Stmt {
+    pub node: StmtNode,
+}
+
+/// The kinds of statements. The body of an `If`, `Do`, `While`, `For` or `ForIn` is a block's list, or the one
+/// statement that stood there.
+#[cycle(syntax)]
+#[derive(Drop)]
+pub enum StmtNode {
+    Var(Vec<Declarator>),
+    Function(Rc<Code>),
+    Expr(Expr),
+    Empty,
+    Block(Vec<Stmt>),
+    If(Expr, Vec<Stmt>, Option<Vec<Stmt>>),
+    Do(Vec<Stmt>, Expr),
+    While(Expr, Vec<Stmt>),
+    For {
+        init: ForInit,
+        test: Option<Expr>,
+        step: Option<Expr>,
+        body: Vec<Stmt>,
+    },
+    /// A declared target is a `Name`.
+    ForIn {
+        declared: bool,
+        target: Expr,
+        object: Expr,
+        body: Vec<Stmt>,
+    },
+    Continue,
+    Break,
+    Return(Option<Expr>),
+    Throw(Expr),
+    Try {
+        block: Vec<Stmt>,
+        catch: Option<Catch>,
+        /// The `finally`.
+        last: Option<Vec<Stmt>>,
+    },
+    Switch(Expr, Vec<Case>),
+}
+
+/// A program (section 14).
+#[derive(Drop)]
+pub struct Script {
+    pub body: Vec<Stmt>,
+}
+
+impl Model for Expr {
+    ghost use Rattle.js_core.specs.Tree as tree;
+    ghost use Rattle.js_core.specs.Codes.{coded_expr};
+
+    ghost Value = { tree.Expr };
+
+    ghost coded = { coded_expr };
+
+    ghost use Rattle.js_core.specs.Sizes.{expr_size};
+    ghost use Rattle.js_core.specs.Views.{expr_of};
+
+    ghost view = { λ e. expr_of e.node };
+
+    ghost use Rattle.std.specs.Prelude.{◌≤◌};
+    ghost use Rattle.js_core.specs.Height.{expr_height};
+
+    ghost invariant = { λ e. expr_height (expr_of e.node) ≤ 1000 };
+
+    ghost size = { expr_size };
+
+    ghost use Rattle.js_core.specs.Falls.{expr_falls};
+
+    ghost size_decreases = { λ a h. expr_falls a.node };
+}
+
+impl Model for Code {
+    ghost use Rattle.js_core.specs.Tree as tree;
+    ghost use Rattle.js_core.specs.Codes.{coded_code};
+
+    ghost Value = { tree.Code };
+
+    ghost coded = { coded_code };
+
+    ghost use Rattle.js_core.specs.Sizes.{code_size};
+    ghost use Rattle.js_core.specs.Tree.{code, stmts_of};
+
+    ghost view = { λ c. code c.name c.formals.items (stmts_of c.body.items) };
+
+    ghost use Rattle.std.specs.Prelude.{◌≤◌};
+    ghost use Rattle.js_core.specs.Height.{stmts_height};
+
+    ghost invariant = { λ c. stmts_height (stmts_of c.body.items) ≤ 1000 };
+
+    ghost size = { code_size };
+
+    ghost use Rattle.js_core.specs.Falls.{code_falls};
+
+    ghost size_decreases = { λ a h. code_falls a };
+}
+
+impl Model for Stmt {
+    ghost use Rattle.js_core.specs.Tree as tree;
+    ghost use Rattle.js_core.specs.Codes.{coded_stmt};
+
+    ghost Value = { tree.Stmt };
+
+    ghost coded = { coded_stmt };
+
+    ghost use Rattle.js_core.specs.Sizes.{stmt_size};
+    ghost use Rattle.js_core.specs.Views.{stmt_of};
+
+    ghost view = { λ s. stmt_of s.node };
+
+    ghost use Rattle.std.specs.Prelude.{◌≤◌};
+    ghost use Rattle.js_core.specs.Height.{stmt_height};
+
+    ghost invariant = { λ s. stmt_height (stmt_of s.node) ≤ 1000 };
+
+    ghost size = { stmt_size };
+
+    ghost use Rattle.js_core.specs.Falls.{stmt_falls};
+
+    ghost size_decreases = { λ a h. stmt_falls a.node };
+}
+
+impl Model for Script {
+    ghost use Rattle.js_core.specs.Tree as tree;
+    ghost use Rattle.js_core.specs.Codes.{coded_stmts};
+
+    ghost Value = { tree.Stmts };
+
+    ghost coded = { coded_stmts };
+
+    ghost use Rattle.js_core.specs.Tree.{stmts_of};
+
+    ghost view = { λ s. stmts_of s.body.items };
+
+    ghost use Rattle.std.specs.Prelude.{◌≤◌};
+    ghost use Rattle.js_core.specs.Height.{stmts_height};
+
+    ghost invariant = { λ s. stmts_height (stmts_of s.body.items) ≤ 1000 };
+}
