@@ -235,4 +235,3 @@ coded_stmts = record { code = of_stmts; inj = stmts_inj }
 
 abbrev pub coded_code : Coded Code
 coded_code = record { code = of_code; inj = code_inj }
-

@@ -87,4 +87,3 @@ abbrev mutual
   pub cases_size : Cases → ℕ
   cases_size no_cases = 1
   cases_size (then_case a0 a1 a2) = maybe_expr_size a0 + stmts_size a1 + cases_size a2 + 1
-

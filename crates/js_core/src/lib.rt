@@ -1,6 +1,7 @@
 //! The base of the product: texts of 16-bit units, whole numbers, values, syntax trees and lines.
 #![tactic(auto)]
 
+pub mod height;
 pub mod memory;
 pub mod operators;
 pub mod syntax;

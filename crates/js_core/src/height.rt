@@ -1,0 +1,236 @@
+//! How high a tree is: an expression without parts is 1, and any other node is 1 more than its highest part. A
+//! function expression is 1 more than its highest statement, and a function declaration 3 more.
+
+ghost use Rattle.std.specs.Prelude.{◌≡◌, ◌≤◌, ◌<◌, ◌+◌, option_map};
+ghost use Rattle.std.specs.Option.{option_copied};
+ghost use Rattle.js_core.specs.Tree.{exprs_of, maybe_expr, holes_of, fields_of, stmts_of, maybe_stmts};
+ghost use Rattle.js_core.specs.Views.{declarators_of, init_of, catch_of, cases_of};
+ghost use Rattle.js_core.specs.Height as spec;
+
+use crate::syntax::{
+    Case, Catch, Code, Declarator, Expr, ExprNode, ForInit, Script, Stmt, StmtNode,
+};
+use crate::units::Units;
+
+impl Script {
+    /// The height of the highest statement, or 0 where there is none. No memory.
+    pub fn height(&self) -> u64
+        ensures exact { result ≡ spec.stmts_height self.now }
+        ensures small { spec.stmts_height self.now ≤ 1000 }
+    {
+        stmts_height(self.body.as_slice())
+    }
+}
+
+impl Expr {
+    /// The height of the expression. No memory.
+    #[cycle(height)]
+    pub fn height(&self) -> u64
+        ensures exact { result ≡ spec.expr_height self.now }
+        ensures small { spec.expr_height self.now ≤ 1000 }
+    {
+        match &self.node {
+            ExprNode::Name(_)
+            | ExprNode::Num(_)
+            | ExprNode::Text(_)
+            | ExprNode::Bool(_)
+            | ExprNode::Null
+            | ExprNode::This => 1,
+            ExprNode::List(es) => holes_height(es.as_slice()) + 1,
+            ExprNode::Literal(fs) => fields_height(fs.as_slice()) + 1,
+            ExprNode::Func(code) => code.height() + 1,
+            ExprNode::Member(e, _) | ExprNode::Unary(_, e) => e.height() + 1,
+            ExprNode::Update {
+                up: _,
+                prefix: _,
+                target,
+            } => target.height() + 1,
+            ExprNode::Index(a, b)
+            | ExprNode::Binary(_, a, b)
+            | ExprNode::And(a, b)
+            | ExprNode::Or(a, b)
+            | ExprNode::Assign(_, a, b) => a.height().max(b.height()) + 1,
+            ExprNode::Call(f, es) | ExprNode::New(f, es) => {
+                f.height().max(exprs_height(es.as_slice())) + 1
+            }
+            ExprNode::Cond(a, b, c) => a.height().max(b.height().max(c.height())) + 1,
+            ExprNode::Comma(es) => exprs_height(es.as_slice()) + 1,
+        }
+    }
+}
+
+impl Code {
+    /// The height of the highest statement of the body, or 0 where there is none. No memory.
+    #[cycle(height)]
+    pub fn height(&self) -> u64
+        ensures exact { result ≡ spec.code_height self.now }
+        ensures small { spec.code_height self.now ≤ 1000 }
+    {
+        stmts_height(self.body.as_slice())
+    }
+}
+
+impl Stmt {
+    /// The height of the statement. No memory.
+    #[cycle(height)]
+    pub fn height(&self) -> u64
+        ensures exact { result ≡ spec.stmt_height self.now }
+        ensures small { spec.stmt_height self.now ≤ 1000 }
+    {
+        match &self.node {
+            StmtNode::Empty | StmtNode::Continue | StmtNode::Break => 1,
+            StmtNode::Var(ds) => declarators_height(ds.as_slice()) + 1,
+            StmtNode::Function(code) => code.height() + 3,
+            StmtNode::Expr(e) | StmtNode::Throw(e) => e.height() + 1,
+            StmtNode::Block(ss) => stmts_height(ss.as_slice()) + 1,
+            StmtNode::If(e, a, b) => {
+                e.height()
+                    .max(stmts_height(a.as_slice()).max(maybe_stmts_height(b)))
+                    + 1
+            }
+            StmtNode::Do(body, e) => stmts_height(body.as_slice()).max(e.height()) + 1,
+            StmtNode::While(e, body) => e.height().max(stmts_height(body.as_slice())) + 1,
+            StmtNode::For {
+                init,
+                test,
+                step,
+                body,
+            } => {
+                let header = maybe_expr_height(step).max(stmts_height(body.as_slice()));
+                init_height(init).max(maybe_expr_height(test).max(header)) + 1
+            }
+            StmtNode::ForIn {
+                declared: _,
+                target,
+                object,
+                body,
+            } => {
+                target
+                    .height()
+                    .max(object.height().max(stmts_height(body.as_slice())))
+                    + 1
+            }
+            StmtNode::Return(e) => maybe_expr_height(e) + 1,
+            StmtNode::Try { block, catch, last } => {
+                let handlers = catch_height(catch).max(maybe_stmts_height(last));
+                stmts_height(block.as_slice()).max(handlers) + 1
+            }
+            StmtNode::Switch(e, cases) => e.height().max(cases_height(cases.as_slice())) + 1,
+        }
+    }
+}
+
+#[cycle(height)]
+fn exprs_height(es: &[Expr]) -> u64
+    requires { spec.exprs_height (exprs_of es.now) ≤ 1000 }
+    ensures { result ≡ spec.exprs_height (exprs_of es.now) }
+{
+    match es {
+        [] => 0,
+        [e, rest @ ..] => e.height().max(exprs_height(rest)),
+    }
+}
+
+#[cycle(height)]
+fn maybe_expr_height(e: &Option<Expr>) -> u64
+    ensures exact { result ≡ spec.maybe_expr_height (maybe_expr e.now) }
+    ensures small { spec.maybe_expr_height (maybe_expr e.now) ≤ 1000 }
+{
+    match e {
+        None => 0,
+        Some(e) => e.height(),
+    }
+}
+
+#[cycle(height)]
+fn holes_height(es: &[Option<Expr>]) -> u64
+    requires { spec.holes_height (holes_of es.now) ≤ 1000 }
+    ensures { result ≡ spec.holes_height (holes_of es.now) }
+{
+    match es {
+        [] => 0,
+        [None, rest @ ..] => holes_height(rest),
+        [Some(e), rest @ ..] => e.height().max(holes_height(rest)),
+    }
+}
+
+#[cycle(height)]
+fn fields_height(fs: &[(Units, Expr)]) -> u64
+    requires { spec.fields_height (fields_of fs.now) ≤ 1000 }
+    ensures { result ≡ spec.fields_height (fields_of fs.now) }
+{
+    match fs {
+        [] => 0,
+        [(_, e), rest @ ..] => e.height().max(fields_height(rest)),
+    }
+}
+
+#[cycle(height)]
+fn stmts_height(ss: &[Stmt]) -> u64
+    requires { spec.stmts_height (stmts_of ss.now) ≤ 1000 }
+    ensures { result ≡ spec.stmts_height (stmts_of ss.now) }
+{
+    match ss {
+        [] => 0,
+        [s, rest @ ..] => s.height().max(stmts_height(rest)),
+    }
+}
+
+#[cycle(height)]
+fn maybe_stmts_height(ss: &Option<Vec<Stmt>>) -> u64
+    requires { spec.maybe_stmts_height (maybe_stmts (option_map (λ v. v.items) ss.now)) ≤ 1000 }
+    ensures { result ≡ spec.maybe_stmts_height (maybe_stmts (option_map (λ v. v.items) ss.now)) }
+{
+    match ss {
+        None => 0,
+        Some(ss) => stmts_height(ss.as_slice()),
+    }
+}
+
+#[cycle(height)]
+fn declarators_height(ds: &[Declarator]) -> u64
+    requires { spec.declarators_height (declarators_of ds.now) ≤ 1000 }
+    ensures { result ≡ spec.declarators_height (declarators_of ds.now) }
+{
+    match ds {
+        [] => 0,
+        [d, rest @ ..] => (maybe_expr_height(&d.value) + 1).max(declarators_height(rest)),
+    }
+}
+
+#[cycle(height)]
+fn init_height(init: &ForInit) -> u64
+    requires { spec.for_init_height (init_of init.now) ≤ 1000 }
+    ensures { result ≡ spec.for_init_height (init_of init.now) }
+{
+    match init {
+        ForInit::Nothing => 0,
+        ForInit::Var(ds) => declarators_height(ds.as_slice()),
+        ForInit::Expr(e) => e.height(),
+    }
+}
+
+#[cycle(height)]
+fn catch_height(catch: &Option<Catch>) -> u64
+    requires { spec.maybe_catch_height (catch_of catch.now) ≤ 1000 }
+    ensures { result ≡ spec.maybe_catch_height (catch_of catch.now) }
+{
+    match catch {
+        None => 0,
+        Some(catch) => stmts_height(catch.body.as_slice()),
+    }
+}
+
+#[cycle(height)]
+fn cases_height(cases: &[Case]) -> u64
+    requires { spec.cases_height (cases_of cases.now) ≤ 1000 }
+    ensures { result ≡ spec.cases_height (cases_of cases.now) }
+{
+    match cases {
+        [] => 0,
+        [case, rest @ ..] => {
+            let this = maybe_expr_height(&case.test).max(stmts_height(case.body.as_slice()));
+            this.max(cases_height(rest))
+        }
+    }
+}
