@@ -3,3 +3,4 @@
 
 pub mod memory;
 pub mod units;
+pub mod whole;
