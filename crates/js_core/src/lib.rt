@@ -1,6 +1,10 @@
 //! The base of the product: texts of 16-bit units, whole numbers, values, syntax trees and lines.
 #![tactic(auto)]
 
+pub mod ids;
+pub mod line;
 pub mod memory;
+pub mod token;
 pub mod units;
+pub mod value;
 pub mod whole;
