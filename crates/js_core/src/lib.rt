@@ -4,6 +4,7 @@
 pub mod ids;
 pub mod line;
 pub mod memory;
+pub mod throw;
 pub mod token;
 pub mod units;
 pub mod value;
