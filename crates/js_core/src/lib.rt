@@ -2,8 +2,13 @@
 #![tactic(auto)]
 
 pub mod height;
+pub mod ids;
+pub mod line;
 pub mod memory;
 pub mod operators;
 pub mod syntax;
+pub mod throw;
+pub mod token;
 pub mod units;
+pub mod value;
 pub mod whole;

@@ -1,0 +1,139 @@
+//! The errors that the language and its host throw.
+
+ghost use Rattle.std.specs.Prelude.{◌≡◌, ◌++◌, IfOk, OnOk};
+ghost use Rattle.js_core.specs.Throw.{error_name_of, message_of, thrown_text};
+
+use crate::memory::OutOfMemory;
+use crate::units::Units;
+use std::alloc::Global;
+
+/// What is wrong where an error is thrown. It fixes the error's `name` and `message`.
+#[derive(Debug, PartialEq, Eq, Drop)]
+pub enum Throw {
+    /// ReferenceError, NAME `is not defined`: the name is not resolved.
+    NotDefined(Units),
+    /// TypeError, `not a function`: the callee, the constructor or the right side of instanceof is none.
+    NotFunction,
+    /// TypeError, `no properties`: a property of undefined or null.
+    NoProperties,
+    /// TypeError, `cannot set`: the property may not be put.
+    CannotSet,
+    /// TypeError, `cannot define`: the property may not be defined, or the extension not prevented.
+    CannotDefine,
+    /// TypeError, `cannot delete`: the property may not be deleted.
+    CannotDelete,
+    /// TypeError, `no primitive value`: an object where a primitive value is needed.
+    NoPrimitive,
+    /// TypeError, `not an object`: the right side of `in`, or the prototype that instanceof reads.
+    NotObject,
+    /// TypeError, `wrong argument`: any other TypeError of a built-in.
+    WrongArgument,
+    /// RangeError, `number out of range`: a number, a radix or the count of live timers.
+    OutOfRange,
+    /// RangeError, `text too long`: a string of more than 1,048,576 units.
+    TextTooLong,
+    /// RangeError, `invalid length`: the length of an array.
+    InvalidLength,
+    /// RangeError, `too deep`: more than 1,000 active functions.
+    TooDeep,
+    /// Error, `HIERARCHY_REQUEST_ERR` (DOM Level 2 Core, code 3).
+    Hierarchy,
+    /// Error, `INVALID_CHARACTER_ERR` (DOM Level 2 Core, code 5).
+    InvalidCharacter,
+    /// Error, `NOT_FOUND_ERR` (DOM Level 2 Core, code 8).
+    NotFound,
+    /// Error, `NOT_SUPPORTED_ERR` (DOM Level 2 Core, code 9).
+    NotSupported,
+    /// Error, `UNSPECIFIED_EVENT_TYPE_ERR` (DOM Level 2 Events, code 0).
+    UnspecifiedEventType,
+}
+
+impl Throw {
+    /// The error's `message`.
+    pub fn message(&self, alloc: Global) -> Result<Units, OutOfMemory>
+        ensures { IfOk result (λ text. text ≡ message_of self.now) }
+    {
+        let mut units = Vec::new(alloc);
+        self.push_message(&mut units)?;
+        Units::of(alloc, units.as_slice())
+    }
+
+    /// The text of the line for this error where nothing catches it: its `name`, a colon, a space and its `message`.
+    pub fn line_text(&self, alloc: Global) -> Result<Units, OutOfMemory>
+        ensures { IfOk result (λ text. text ≡ thrown_text self.now) }
+    {
+        let mut units = Vec::new(alloc);
+        push_ascii(&mut units, self.error_name())?;
+        push_ascii(&mut units, b": ")?;
+        self.push_message(&mut units)?;
+        Units::of(alloc, units.as_slice())
+    }
+
+    fn push_message(&self, out: &mut Vec<u16>) -> Result<(), OutOfMemory>
+        ensures { OnOk result (out.new.items ≡ out.old.items ++ message_of self.now) }
+    {
+        let (name, words) = self.message_parts();
+        out.extend_from_slice(name)?;
+        push_ascii(out, words)
+    }
+
+    fn error_name(&self) -> &'static [u8]
+        ensures { result.now ≡ error_name_of self.now }
+    {
+        match self {
+            Throw::NotDefined(_) => b"ReferenceError",
+            Throw::NotFunction
+            | Throw::NoProperties
+            | Throw::CannotSet
+            | Throw::CannotDefine
+            | Throw::CannotDelete
+            | Throw::NoPrimitive
+            | Throw::NotObject
+            | Throw::WrongArgument => b"TypeError",
+            Throw::OutOfRange | Throw::TextTooLong | Throw::InvalidLength | Throw::TooDeep => {
+                b"RangeError"
+            }
+            Throw::Hierarchy
+            | Throw::InvalidCharacter
+            | Throw::NotFound
+            | Throw::NotSupported
+            | Throw::UnspecifiedEventType => b"Error",
+        }
+    }
+
+    // The name that the message begins with, which is empty where it has none, and the words that follow it.
+    fn message_parts(&self) -> (&[u16], &'static [u8])
+        ensures { result.0.now ++ result.1.now ≡ message_of self.now }
+    {
+        match self {
+            Throw::NotDefined(name) => (name.as_slice(), b" is not defined"),
+            Throw::NotFunction => (&[], b"not a function"),
+            Throw::NoProperties => (&[], b"no properties"),
+            Throw::CannotSet => (&[], b"cannot set"),
+            Throw::CannotDefine => (&[], b"cannot define"),
+            Throw::CannotDelete => (&[], b"cannot delete"),
+            Throw::NoPrimitive => (&[], b"no primitive value"),
+            Throw::NotObject => (&[], b"not an object"),
+            Throw::WrongArgument => (&[], b"wrong argument"),
+            Throw::OutOfRange => (&[], b"number out of range"),
+            Throw::TextTooLong => (&[], b"text too long"),
+            Throw::InvalidLength => (&[], b"invalid length"),
+            Throw::TooDeep => (&[], b"too deep"),
+            Throw::Hierarchy => (&[], b"HIERARCHY_REQUEST_ERR"),
+            Throw::InvalidCharacter => (&[], b"INVALID_CHARACTER_ERR"),
+            Throw::NotFound => (&[], b"NOT_FOUND_ERR"),
+            Throw::NotSupported => (&[], b"NOT_SUPPORTED_ERR"),
+            Throw::UnspecifiedEventType => (&[], b"UNSPECIFIED_EVENT_TYPE_ERR"),
+        }
+    }
+}
+
+// Appends the characters of an ASCII text, each as one unit.
+fn push_ascii(out: &mut Vec<u16>, text: &[u8]) -> Result<(), OutOfMemory>
+    ensures { OnOk result (out.new.items ≡ out.old.items ++ text.now) }
+{
+    for byte in text {
+        out.push(u16::from(*byte))?;
+    }
+    Ok(())
+}
