@@ -137,3 +137,70 @@ fn push_ascii(out: &mut Vec<u16>, text: &[u8]) -> Result<(), OutOfMemory>
     }
     Ok(())
 }
+
+#[cfg(test)]
+mod tests {
+    use super::*;
+    use std::process::Abort;
+    use std::test::Fail;
+
+    fn says(
+        rt: &(impl Abort + AllocGlobal),
+        what: Throw,
+        name: &str,
+        message: &str,
+    ) -> Result<(), Fail> {
+        let text = format!(in rt.alloc(); "{name}: {message}")?;
+        let line = Units::from_utf8(rt.alloc(), text.as_str())?;
+        assert!(rt; what.line_text(rt.alloc())? == line, "{name}: {message}");
+        assert!(rt;
+            what.message(rt.alloc())? == Units::from_utf8(rt.alloc(), message)?,
+            "{message}"
+        );
+        Ok(())
+    }
+
+    #[test]
+    fn a_language_error_has_its_name_and_message(rt: HostRuntime) -> Result<(), Fail> {
+        let name = Units::from_utf8(rt.alloc(), "größe")?;
+        says(
+            &rt,
+            Throw::NotDefined(name),
+            "ReferenceError",
+            "größe is not defined",
+        )?;
+        says(&rt, Throw::NotFunction, "TypeError", "not a function")?;
+        says(&rt, Throw::NoProperties, "TypeError", "no properties")?;
+        says(&rt, Throw::CannotSet, "TypeError", "cannot set")?;
+        says(&rt, Throw::CannotDefine, "TypeError", "cannot define")?;
+        says(&rt, Throw::CannotDelete, "TypeError", "cannot delete")?;
+        says(&rt, Throw::NoPrimitive, "TypeError", "no primitive value")?;
+        says(&rt, Throw::NotObject, "TypeError", "not an object")?;
+        says(&rt, Throw::WrongArgument, "TypeError", "wrong argument")?;
+        Ok(())
+    }
+
+    #[test]
+    fn a_limit_or_host_error_has_its_name_and_message(rt: HostRuntime) -> Result<(), Fail> {
+        says(&rt, Throw::OutOfRange, "RangeError", "number out of range")?;
+        says(&rt, Throw::TextTooLong, "RangeError", "text too long")?;
+        says(&rt, Throw::InvalidLength, "RangeError", "invalid length")?;
+        says(&rt, Throw::TooDeep, "RangeError", "too deep")?;
+        says(&rt, Throw::Hierarchy, "Error", "HIERARCHY_REQUEST_ERR")?;
+        says(
+            &rt,
+            Throw::InvalidCharacter,
+            "Error",
+            "INVALID_CHARACTER_ERR",
+        )?;
+        says(&rt, Throw::NotFound, "Error", "NOT_FOUND_ERR")?;
+        says(&rt, Throw::NotSupported, "Error", "NOT_SUPPORTED_ERR")?;
+        says(
+            &rt,
+            Throw::UnspecifiedEventType,
+            "Error",
+            "UNSPECIFIED_EVENT_TYPE_ERR",
+        )?;
+        Ok(())
+    }
+}

@@ -5,6 +5,7 @@ ghost use Rattle.std.specs.Cmp.Lexicographic.{pointwise};
 ghost use Rattle.std.specs.Cmp.Rules.{comparing, hashing};
 ghost use Rattle.std.specs.Hash as fed;
 ghost use Rattle.std.proofs.Common.{rules};
+ghost use Rattle.js_core.specs.Text.{utf16_of};
 
 use crate::memory::OutOfMemory;
 use std::alloc::Global;
@@ -66,6 +67,18 @@ impl Units {
         })
     }
 
+    /// The text with these characters, each as its one or two units of UTF-16.
+    pub fn from_utf8(alloc: Global, text: &str) -> Result<Units, OutOfMemory>
+        ensures { IfOk result (λ units. units ≡ utf16_of text.now) }
+    {
+        let mut units = Vec::new(alloc);
+        for character in text.chars() {
+            let mut pair = [0; 2];
+            units.extend_from_slice(character.encode_utf16(&mut pair))?;
+        }
+        Units::of(alloc, units.as_slice())
+    }
+
     /// The same text, which shares the units.
     pub fn clone(&self) -> Result<Units, OutOfMemory>
         ensures { IfOk result (λ text. text ≡ self.now) }
@@ -80,5 +93,42 @@ impl Units {
         ensures { result.now ≡ self.now }
     {
         self.units.as_slice()
+    }
+}
+
+#[cfg(test)]
+mod tests {
+    use super::*;
+    use std::process::Abort;
+    use std::test::Fail;
+
+    fn spells(rt: &(impl Abort + AllocGlobal), text: &str, units: &[u16]) -> Result<(), Fail> {
+        let got = Units::from_utf8(rt.alloc(), text)?;
+        assert_eq!(rt; got.as_slice(), units, "{text}");
+        assert!(rt; got == Units::of(rt.alloc(), units)?);
+        Ok(())
+    }
+
+    #[test]
+    fn takes_the_utf16_units_of_a_text(rt: HostRuntime) -> Result<(), Fail> {
+        spells(&rt, "", &[])?;
+        spells(&rt, "a\u{0}\u{7f}", &[0x61, 0, 0x7f])?;
+        spells(&rt, "\u{80}\u{7ff}\u{800}", &[0x80, 0x7ff, 0x800])?;
+        spells(&rt, "\u{d7ff}\u{e000}\u{ffff}", &[0xd7ff, 0xe000, 0xffff])?;
+        spells(&rt, "\u{10000}\u{103ff}", &[0xd800, 0xdc00, 0xd800, 0xdfff])?;
+        spells(
+            &rt,
+            "x\u{1f600}\u{10ffff}",
+            &[0x78, 0xd83d, 0xde00, 0xdbff, 0xdfff],
+        )?;
+        Ok(())
+    }
+
+    #[test]
+    fn a_clone_is_equal(rt: HostRuntime) -> Result<(), Fail> {
+        let lone = Units::of(rt.alloc(), &[0xdc00, 0x41])?;
+        assert!(rt; lone.clone()? == lone);
+        assert_eq!(rt; lone.as_slice(), [0xdc00, 0x41].as_slice());
+        Ok(())
     }
 }
