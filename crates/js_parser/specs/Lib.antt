@@ -1,0 +1,5 @@
+pub mod First
+pub mod Items
+pub mod Names
+pub mod Spelling
+pub mod Words

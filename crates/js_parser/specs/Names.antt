@@ -1,0 +1,36 @@
+-- The names of variables and functions.
+use Rattle.std.specs.Prelude.{ℕ, Bool, true, false, not, ◌&&◌, ◌||◌, List, [], ◌∷◌, ◌++◌, codes}
+use Rattle.std.specs.Char.{is_ascii_alphabetic, is_ascii_alphanumeric}
+use Rattle.std.specs.Str.{bytes_eq}
+use Rattle.std.specs.List.{list_any, list_all}
+use Rattle.js_core.specs.GlobalNames.{global_names}
+
+-- the text is one of these
+abbrev pub is_one_of : List (List ℕ) → List ℕ → Bool
+is_one_of texts x = list_any (bytes_eq x) texts
+
+-- the reserved words of ECMA-262 5.1 section 7.6.1, those of strict code too
+abbrev pub reserved_words : List (List ℕ)
+reserved_words =
+    codes "break" ∷ codes "case" ∷ codes "catch" ∷ codes "class" ∷ codes "const" ∷ codes "continue" ∷ codes "debugger"
+    ∷ codes "default" ∷ codes "delete" ∷ codes "do" ∷ codes "else" ∷ codes "enum" ∷ codes "export" ∷ codes "extends"
+    ∷ codes "false" ∷ codes "finally" ∷ codes "for" ∷ codes "function" ∷ codes "if" ∷ codes "implements"
+    ∷ codes "import" ∷ codes "in" ∷ codes "instanceof" ∷ codes "interface" ∷ codes "let" ∷ codes "new" ∷ codes "null"
+    ∷ codes "package" ∷ codes "private" ∷ codes "protected" ∷ codes "public" ∷ codes "return" ∷ codes "static"
+    ∷ codes "super" ∷ codes "switch" ∷ codes "this" ∷ codes "throw" ∷ codes "true" ∷ codes "try" ∷ codes "typeof"
+    ∷ codes "var" ∷ codes "void" ∷ codes "while" ∷ codes "with" ∷ codes "yield" ∷ []
+
+-- an ASCII letter, then ASCII letters and digits
+abbrev pub is_plain_word : List ℕ → Bool
+is_plain_word [] = false
+is_plain_word (u ∷ us) = is_ascii_alphabetic u && list_all is_ascii_alphanumeric us
+
+-- a plain word that is no reserved word, no built-in global name, and neither `eval` nor `arguments`
+abbrev pub is_name : List ℕ → Bool
+is_name x =
+    is_plain_word x && not (is_one_of reserved_words x) && not (is_one_of global_names x)
+    && not (is_one_of (codes "eval" ∷ codes "arguments" ∷ []) x)
+
+-- a built-in name that stands for a value
+abbrev pub is_value_name : List ℕ → Bool
+is_value_name x = is_one_of (codes "NaN" ∷ codes "undefined" ∷ []) x

@@ -1,0 +1,4 @@
+//! The reading of scripts.
+#![tactic(auto)]
+
+pub mod fault;
