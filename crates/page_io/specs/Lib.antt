@@ -1,0 +1,6 @@
+pub mod Faults
+pub mod Content
+pub mod Taken
+pub mod MemoryFilesOf
+pub mod MemorySinkOf
+pub mod RealFilesOf

@@ -1,0 +1,7 @@
+//! The outside: files, sinks and keepers, in memory and real.
+#![tactic(auto)]
+
+pub mod files;
+pub mod memory_files;
+pub mod memory_sink;
+pub mod sink;
