@@ -1,3 +1,5 @@
 mod Counts
 mod MemoryPuts
 mod MemoryReads
+mod RealReads
+mod StreamSteps

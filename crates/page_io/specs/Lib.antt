@@ -4,3 +4,5 @@ pub mod Taken
 pub mod MemoryFilesOf
 pub mod MemorySinkOf
 pub mod RealFilesOf
+pub mod RealSinkOf
+pub mod Streams

@@ -4,4 +4,6 @@
 pub mod files;
 pub mod memory_files;
 pub mod memory_sink;
+pub mod real_files;
+pub mod real_sink;
 pub mod sink;

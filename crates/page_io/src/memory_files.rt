@@ -61,7 +61,8 @@ impl MemoryFiles {
     fn fail(&mut self, name: String) -> ReadFault
         ensures fault { result ≡ ReadFault.Failed }
         ensures after { self.new ≡ record self.old {
-            faults = counted self.old.faults; failed = Some (string_bytes name)
+          faults = counted self.old.faults;
+          failed = Some (string_bytes name);
         } }
     {
         self.faults = self.faults.saturating_add(1);
