@@ -1,0 +1,2 @@
+mod GlobalNamesLemmas
+mod Spelling

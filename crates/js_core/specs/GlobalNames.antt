@@ -2,7 +2,7 @@
 use Rattle.std.specs.Prelude.{ℕ, Bool, List, [], ◌∷◌, codes, bytes_eq}
 use Rattle.std.specs.List.{list_any, Contains}
 
-abbrev pub global_names : List (List ℕ)
+unfoldable pub global_names : List (List ℕ)
 global_names =
     codes "window" ∷ codes "document" ∷ codes "console" ∷ codes "alert"
     ∷ codes "setTimeout" ∷ codes "setInterval" ∷ codes "setIntervalFrom" ∷ codes "clearTimeout" ∷ codes "clearInterval"

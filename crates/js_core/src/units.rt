@@ -4,6 +4,7 @@ ghost use Rattle.std.specs.Prelude.{◌≡◌, IfOk, bytes_eq};
 ghost use Rattle.std.specs.Cmp.Lexicographic.{pointwise};
 ghost use Rattle.std.specs.Cmp.Rules.{comparing, hashing};
 ghost use Rattle.std.specs.Hash as fed;
+ghost use Rattle.std.specs.List.{list_any};
 ghost use Rattle.std.proofs.Common.{rules};
 ghost use Rattle.js_core.specs.Text.{utf16_of};
 
@@ -93,6 +94,29 @@ impl Units {
         ensures { result.now ≡ self.now }
     {
         self.units.as_slice()
+    }
+
+    /// Whether the units are these bytes, each as one unit, as an ASCII text has them.
+    pub fn spells(&self, text: &[u8]) -> bool
+        ensures { result ≡ bytes_eq self.now text.now }
+    {
+        let units = self.as_slice();
+        if units.len() != text.len() {
+            return false;
+        }
+        for (i, byte) in text.iter().enumerate() {
+            if units[i] != u16::from(*byte) {
+                return false;
+            }
+        }
+        true
+    }
+
+    /// Whether the units are the bytes of one of these texts, each byte as one unit.
+    pub fn is_among(&self, texts: &[&[u8]]) -> bool
+        ensures { result ≡ list_any (λ text. bytes_eq self.now text.now) texts.now }
+    {
+        texts.iter().any(|text| self.spells(text))
     }
 }
 
