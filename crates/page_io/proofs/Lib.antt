@@ -3,3 +3,4 @@ mod MemoryPuts
 mod MemoryReads
 mod RealReads
 mod StreamSteps
+mod Tables

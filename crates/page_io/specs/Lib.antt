@@ -6,3 +6,5 @@ pub mod MemorySinkOf
 pub mod RealFilesOf
 pub mod RealSinkOf
 pub mod Streams
+pub mod Table
+pub mod MemoryKeeperOf
