@@ -81,9 +81,9 @@ put_rows k v (e ∷ rows) =
 pub table_insert : (k : String Global × ℕ) (v : Vec ℕ Global) (rows : Rows) → table_of (insert_entry stored_cmp rows k v) ≡ insert (table_of rows) (key_of k) v.items
 table_insert k v rows =
     same_map key_total key_exact _ _ (λ q.
-      get-from_entries key_total _ q ∙ ap (find key_cmp q) (put_rows k v rows)
-      ∙ find-put key_cmp key_total q (key_of k) v.items (map row_of rows)
-      ∙ sym (get-insert key_total (table_of rows) (key_of k) v.items q ∙ ap (cond (eq_by_cmp key_cmp q (key_of k)) (Some v.items)) (get-from_entries key_total _ q)))
+    get-from_entries key_total _ q ∙ ap (find key_cmp q) (put_rows k v rows)
+    ∙ find-put key_cmp key_total q (key_of k) v.items (map row_of rows)
+    ∙ sym (get-insert key_total (table_of rows) (key_of k) v.items q ∙ ap (cond (eq_by_cmp key_cmp q (key_of k)) (Some v.items)) (get-from_entries key_total _ q)))
 
 -- what is found under a key once the row of k is gone
 gone_by : (k : String Global × ℕ) (old new : Rows) → KeepsOthers (eq_by_cmp stored_cmp) (is_at (stored_cmp k)) old new → lookup (is_at (stored_cmp k)) new ≡ None → (q : Key) (b : Bool) → eq_by_cmp key_cmp q (key_of k) ≡ b → option_map (λ (v : Vec ℕ Global). v.items) (lookup (λ x. eq_by_cmp key_cmp q (key_of x)) new) ≡ cond b None (option_map (λ v. v.items) (lookup (λ x. eq_by_cmp key_cmp q (key_of x)) old))
@@ -93,15 +93,15 @@ gone_by k old new keeps none q true e =
     rw (same, none)
 gone_by k old new keeps none q false e =
     ap (option_map (λ v. v.items)) (keeps (λ x. eq_by_cmp key_cmp q (key_of x))
-      (λ x y t. rw (tied q (key_of x) t))
-      (λ x t. ap (eq_by_cmp key_cmp q) (sym (tied (key_of k) (key_of x) t)) ∙ e))
+    (λ x y t. rw (tied q (key_of x) t))
+    (λ x t. ap (eq_by_cmp key_cmp q) (sym (tied (key_of k) (key_of x) t)) ∙ e))
 
 -- a row that is removed
 pub table_remove : (k : String Global × ℕ) (old new : Rows) → KeepsOthers (eq_by_cmp stored_cmp) (is_at (stored_cmp k)) old new → lookup (is_at (stored_cmp k)) new ≡ None → table_of new ≡ remove (table_of old) (key_of k)
 table_remove k old new keeps none =
     same_map key_total key_exact _ _ (λ q.
-      get_rows q new ∙ gone_by k old new keeps none q (eq_by_cmp key_cmp q (key_of k)) refl
-      ∙ sym (get-remove key_total (table_of old) (key_of k) q ∙ ap (cond (eq_by_cmp key_cmp q (key_of k)) None) (get_rows q old)))
+    get_rows q new ∙ gone_by k old new keeps none q (eq_by_cmp key_cmp q (key_of k)) refl
+    ∙ sym (get-remove key_total (table_of old) (key_of k) q ∙ ap (cond (eq_by_cmp key_cmp q (key_of k)) None) (get_rows q old)))
 
 -- ---- all rows, in order
 
@@ -122,5 +122,5 @@ pub entries_rows : (rows : Rows) → IsStrictlySortedBy stored_cmp (keys_of rows
 entries_rows rows h =
     let sorted = sorted_rows rows h in
     ap entries (same_map key_total key_exact (table_of rows) (from_sorted (map row_of rows)) (λ q.
-      get-from_entries key_total (map row_of rows) q ∙ sym (get-from_sorted key_cmp (map row_of rows) q sorted)))
+    get-from_entries key_total (map row_of rows) q ∙ sym (get-from_sorted key_cmp (map row_of rows) q sorted)))
     ∙ entries-from_sorted key_cmp (map row_of rows) sorted

@@ -179,3 +179,92 @@ impl Keeper for MemoryKeeper {
         Ok(remove_row(&mut self.rows, alloc, name, version)?)
     }
 }
+
+#[cfg(test)]
+mod tests {
+    use super::*;
+    use std::process::Abort;
+    use std::test::Fail;
+
+    fn expect_row(
+        rt: &impl Abort,
+        alloc: Global,
+        keeper: &mut MemoryKeeper,
+        name: &str,
+        version: u64,
+        wanted: Option<&str>,
+    ) -> Result<(), Fail> {
+        match (keeper.get(alloc, name, version)?, wanted) {
+            (Some(bytes), Some(text)) => assert_eq!(rt; bytes.as_slice(), text.as_bytes()),
+            (found, wanted) => assert!(rt; found.is_none() && wanted.is_none()),
+        }
+        Ok(())
+    }
+
+    fn expect_list(
+        rt: &impl Abort,
+        alloc: Global,
+        keeper: &mut MemoryKeeper,
+        wanted: &[(&str, u64, u64)],
+    ) -> Result<(), Fail> {
+        let names = keeper.list(alloc)?;
+        assert_eq!(rt; names.len(), wanted.len());
+        for (kept, row) in names.iter().zip(wanted) {
+            assert!(rt; kept.name == Units::from_utf8(alloc, row.0)?);
+            assert_eq!(rt; kept.version, row.1);
+            assert_eq!(rt; kept.size, row.2);
+        }
+        Ok(())
+    }
+
+    #[test]
+    fn keeps_rows(rt: HostRuntime) -> Result<(), Fail> {
+        let alloc = rt.alloc();
+        let mut keeper = MemoryKeeper::new(alloc, Vec::new(alloc));
+        expect_list(&rt, alloc, &mut keeper, &[])?;
+        for (name, version, text) in [
+            ("b", 1, "one"),
+            ("a", 2, "two"),
+            ("ab", 0, ""),
+            ("é", 7, "last"),
+            ("a", 1, "four"),
+            ("b", 1, "other"),
+        ] {
+            keeper.put(alloc, name, version, text.as_bytes())?;
+        }
+        let all = [
+            ("a", 1, 4),
+            ("a", 2, 3),
+            ("ab", 0, 0),
+            ("b", 1, 5),
+            ("é", 7, 4),
+        ];
+        expect_list(&rt, alloc, &mut keeper, &all)?;
+        expect_row(&rt, alloc, &mut keeper, "b", 1, Some("other"))?;
+        expect_row(&rt, alloc, &mut keeper, "ab", 0, Some(""))?;
+        expect_row(&rt, alloc, &mut keeper, "a", 3, None)?;
+        assert_eq!(rt; keeper.remove(alloc, "a", 2)?, true);
+        assert_eq!(rt; keeper.remove(alloc, "a", 2)?, false);
+        expect_row(&rt, alloc, &mut keeper, "a", 2, None)?;
+        expect_row(&rt, alloc, &mut keeper, "a", 1, Some("four"))?;
+        expect_list(&rt, alloc, &mut keeper, &[all[0], all[2], all[3], all[4]])?;
+        assert_eq!(rt; keeper.faults, 0);
+        Ok(())
+    }
+
+    #[test]
+    fn fails_where_listed(rt: HostRuntime) -> Result<(), Fail> {
+        let alloc = rt.alloc();
+        let mut keeper = MemoryKeeper::new(alloc, vec![in alloc; 2, 3, 5, 7]?);
+        keeper.put(alloc, "a", 1, b"first")?;
+        let failed = KeeperFault::Failed;
+        assert_eq!(rt; keeper.put(alloc, "a", 1, b"second"), Err(failed));
+        assert!(rt; matches!(&keeper.get(alloc, "a", 1), Err(KeeperFault::Failed)));
+        expect_row(&rt, alloc, &mut keeper, "a", 1, Some("first"))?;
+        assert_eq!(rt; keeper.remove(alloc, "a", 1), Err(failed));
+        expect_list(&rt, alloc, &mut keeper, &[("a", 1, 5)])?;
+        assert!(rt; matches!(&keeper.list(alloc), Err(KeeperFault::Failed)));
+        assert_eq!(rt; keeper.faults, 4);
+        Ok(())
+    }
+}
