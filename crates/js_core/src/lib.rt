@@ -5,6 +5,7 @@ pub mod global_names;
 pub mod height;
 pub mod ids;
 pub mod line;
+pub mod line_text;
 pub mod memory;
 pub mod operators;
 pub mod syntax;

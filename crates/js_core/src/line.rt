@@ -1,5 +1,11 @@
 //! The lines that a page puts out.
 
+ghost use Rattle.std.specs.Prelude.{◌≡◌, [], ◌++◌, length, OnOk, OnErr, take, if◌then◌else◌, codes};
+ghost use Rattle.js_core.specs.Line.{kind_words, has_text, line_of};
+ghost use Rattle.js_core.specs.LineText.{line_text};
+
+use crate::line_text::{push_line_text, truncate_on_error};
+use crate::memory::OutOfMemory;
 use crate::units::Units;
 
 /// What a line tells.
@@ -26,4 +32,60 @@ pub struct Line {
     pub kind: LineKind,
     /// Its text. It counts for nothing where the kind has no text.
     pub text: Units,
+}
+
+impl LineKind {
+    /// Whether a line of this kind has a text.
+    pub fn has_text(self) -> bool
+        ensures { result ≡ has_text self }
+    {
+        !matches!(self, LineKind::Stopped | LineKind::NoElement)
+    }
+
+    fn words(self) -> &'static [u8]
+        ensures { result.now ≡ kind_words self }
+    {
+        match self {
+            LineKind::Log => b"log",
+            LineKind::Alert => b"alert",
+            LineKind::Uncaught => b"uncaught",
+            LineKind::Dom => b"dom",
+            LineKind::Stopped => b"stopped",
+            LineKind::NoElement => b"no element",
+        }
+    }
+}
+
+impl Line {
+    /// Appends the line as it is put out: the words of its kind (`log`, `alert`, `uncaught`, `dom`, `stopped` or
+    /// `no element`), a space and the text where the kind has one, and LF. After an error nothing is appended.
+    pub fn write(&self, out: &mut Vec<u8>) -> Result<(), OutOfMemory>
+        ensures ok { OnOk result (out.new.items ≡ out.old.items ++ line_of self.now) }
+        ensures err { OnErr result (out.new.items ≡ out.old.items) }
+    {
+        let length = out.len();
+        let pushed = self.push(out);
+        truncate_on_error(out, length, pushed)
+    }
+
+    fn push(&self, out: &mut Vec<u8>) -> Result<(), OutOfMemory>
+        ensures ok { OnOk result (out.new.items ≡ out.old.items ++ line_of self.now) }
+        ensures err { OnErr result (take (length out.old.items) out.new.items ≡ out.old.items) }
+    {
+        out.extend_from_slice(self.kind.words())?;
+        self.push_text(out)?;
+        out.push(b'\n')?;
+        Ok(())
+    }
+
+    fn push_text(&self, out: &mut Vec<u8>) -> Result<(), OutOfMemory>
+        ensures ok { OnOk result (out.new.items ≡ out.old.items ++ (if has_text self.now.kind then codes " " ++ line_text self.now.text else [])) }
+        ensures err { OnErr result (take (length out.old.items) out.new.items ≡ out.old.items) }
+    {
+        if !self.kind.has_text() {
+            return Ok(());
+        }
+        out.push(b' ')?;
+        push_line_text(self.text.as_slice(), out)
+    }
 }

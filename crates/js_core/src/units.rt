@@ -1,13 +1,15 @@
 //! Texts of 16-bit units.
 
-ghost use Rattle.std.specs.Prelude.{◌≡◌, IfOk, bytes_eq};
+ghost use Rattle.std.specs.Prelude.{◌≡◌, ◌++◌, IfOk, OnOk, OnErr, bytes_eq};
 ghost use Rattle.std.specs.Cmp.Lexicographic.{pointwise};
 ghost use Rattle.std.specs.Cmp.Rules.{comparing, hashing};
 ghost use Rattle.std.specs.Hash as fed;
 ghost use Rattle.std.specs.List.{list_any};
 ghost use Rattle.std.proofs.Common.{rules};
+ghost use Rattle.js_core.specs.LineText.{line_text};
 ghost use Rattle.js_core.specs.Text.{utf16_of};
 
+use crate::line_text::{push_line_text, truncate_on_error};
 use crate::memory::OutOfMemory;
 use std::alloc::Global;
 use std::hash::{Hash, Hasher};
@@ -94,6 +96,18 @@ impl Units {
         ensures { result.now ≡ self.now }
     {
         self.units.as_slice()
+    }
+
+    /// Appends the text as it stands in a line: a backslash is doubled, the units 0000 to 001F and 007F to 009F and the
+    /// surrogates without a partner become `\u` and four upper-case hexadecimal digits, and all else is UTF-8. After an
+    /// error nothing is appended.
+    pub fn to_line_text(&self, out: &mut Vec<u8>) -> Result<(), OutOfMemory>
+        ensures ok { OnOk result (out.new.items ≡ out.old.items ++ line_text self.now) }
+        ensures err { OnErr result (out.new.items ≡ out.old.items) }
+    {
+        let length = out.len();
+        let pushed = push_line_text(self.as_slice(), out);
+        truncate_on_error(out, length, pushed)
     }
 
     /// Whether the units are these bytes, each as one unit, as an ASCII text has them.
