@@ -115,3 +115,63 @@ fn pair_code_point(high: u16, low: u16) -> u32
 {
     0x1_0000 + (u32::from(high) - 0xD800) * 0x400 + (u32::from(low) - 0xDC00)
 }
+
+#[cfg(test)]
+mod tests {
+    use crate::units::Units;
+    use std::process::Abort;
+    use std::test::Fail;
+
+    fn reads(rt: &(impl Abort + AllocGlobal), units: &[u16], expected: &str) -> Result<(), Fail> {
+        let mut out = Vec::from_slice(rt.alloc(), b"> ")?;
+        Units::of(rt.alloc(), units)?.to_line_text(&mut out)?;
+        let wanted = format!(in rt.alloc(); "> {expected}")?;
+        assert_eq!(rt; out.as_slice(), wanted.as_bytes(), "{units:?}");
+        Ok(())
+    }
+
+    #[test]
+    fn escapes_controls_and_backslashes(rt: HostRuntime) -> Result<(), Fail> {
+        reads(&rt, &[], "")?;
+        reads(&rt, &[0x61, 0x5c, 0x5c, 0x75], r"a\\\\u")?;
+        reads(
+            &rt,
+            &[0x00, 0x09, 0x0a, 0x1f, 0x20],
+            r"\u0000\u0009\u000A\u001F ",
+        )?;
+        reads(&rt, &[0x7e, 0x7f, 0x80], r"~\u007F\u0080")?;
+        reads(&rt, &[0x9f, 0xa0, 0xff], "\\u009F\u{a0}\u{ff}")?;
+        reads(
+            &rt,
+            &[0x7ff, 0x800, 0x2028, 0xabcd],
+            "\u{7ff}\u{800}\u{2028}\u{abcd}",
+        )?;
+        Ok(())
+    }
+
+    #[test]
+    fn joins_pairs_and_escapes_lone_surrogates(rt: HostRuntime) -> Result<(), Fail> {
+        reads(&rt, &[0xd83d, 0xde00], "\u{1f600}")?;
+        reads(
+            &rt,
+            &[0xd800, 0xdc00, 0xdbff, 0xdfff],
+            "\u{10000}\u{10ffff}",
+        )?;
+        reads(
+            &rt,
+            &[0xd7ff, 0xe000, 0xfffd, 0xffff],
+            "\u{d7ff}\u{e000}\u{fffd}\u{ffff}",
+        )?;
+        reads(&rt, &[0xd800], r"\uD800")?;
+        reads(&rt, &[0xdbff, 0x61], r"\uDBFFa")?;
+        reads(&rt, &[0xdc00, 0xd800], r"\uDC00\uD800")?;
+        reads(&rt, &[0xdfff, 0xd7ff], "\\uDFFF\u{d7ff}")?;
+        reads(&rt, &[0xdbff, 0xe000], "\\uDBFF\u{e000}")?;
+        reads(
+            &rt,
+            &[0xd83d, 0xd83d, 0xde00, 0xde00],
+            "\\uD83D\u{1f600}\\uDE00",
+        )?;
+        Ok(())
+    }
+}

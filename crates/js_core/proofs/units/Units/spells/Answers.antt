@@ -1,4 +1,4 @@
-use Rattle.std.proofs.Common.{◌≡◌, ◌∙◌, ap, length, sym, arith, get_or}
+use Rattle.std.proofs.Common.{◌∙◌, ap, length, sym, arith, get_or}
 use Rattle.js_core.proofs.Spelling.{bytes_eq-each}
 use Rattle.js_core.proofs.units.Units.spells.Goals as goal
 
