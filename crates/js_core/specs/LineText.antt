@@ -24,7 +24,7 @@ unit_escape u = backslash ∷ 117 ∷ hex_digit_of 0x1000 u ∷ hex_digit_of 0x1
 abbrev pub is_escaped : ℕ → Bool
 is_escaped c = nat_lt c 0x20 || (nat_le 0x7F c && nat_lt c 0xA0) || (nat_le 0xD800 c && nat_lt c 0xE000)
 
--- a code point in a line: a backslash is doubled, and what is neither escaped stands in UTF-8
+-- a code point in a line: a backslash is doubled, what is escaped is `\u` and its digits, and all else is UTF-8
 abbrev pub line_code : ℕ → List ℕ
 line_code c = if c == backslash then backslash ∷ backslash ∷ [] else (if is_escaped c then unit_escape c else encode_utf8 c)
 

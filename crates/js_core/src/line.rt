@@ -8,7 +8,7 @@ use crate::line_text::{push_line_text, truncate_on_error};
 use crate::memory::OutOfMemory;
 use crate::units::Units;
 
-/// What a line tells.
+/// What a line tells, which its first words say.
 #[derive(Clone, Copy, Debug, PartialEq, Eq)]
 pub enum LineKind {
     /// `console.log` was called.
@@ -30,7 +30,7 @@ pub enum LineKind {
 pub struct Line {
     /// What the line tells.
     pub kind: LineKind,
-    /// Its text. It counts for nothing where the kind has no text.
+    /// Its text, which is not put out where the kind has none.
     pub text: Units,
 }
 

@@ -12,7 +12,8 @@ use std::alloc::Global;
 pub enum Throw {
     /// ReferenceError, NAME `is not defined`: the name is not resolved.
     NotDefined(Units),
-    /// TypeError, `not a function`: the callee, the constructor or the right side of instanceof is none.
+    /// TypeError, `not a function`: what is called, constructed or on the right side of instanceof is none, or it is a
+    /// built-in that may not be constructed.
     NotFunction,
     /// TypeError, `no properties`: a property of undefined or null.
     NoProperties,
