@@ -1,10 +1,9 @@
 //! How high a tree is: an expression without parts is 1, and any other node is 1 more than its highest part. A
 //! function expression is 1 more than its highest statement, and a function declaration 3 more.
 
-ghost use Rattle.std.specs.Prelude.{◌≡◌, ◌≤◌, ◌<◌, ◌+◌, option_map};
-ghost use Rattle.std.specs.Option.{option_copied};
+ghost use Rattle.std.specs.Prelude.{◌≡◌, ◌≤◌, ◌<◌, ◌+◌, max, IfOk, option_map};
 ghost use Rattle.js_core.specs.Tree.{exprs_of, maybe_expr, holes_of, fields_of, stmts_of, maybe_stmts};
-ghost use Rattle.js_core.specs.Views.{declarators_of, init_of, catch_of, cases_of};
+ghost use Rattle.js_core.specs.Views.{declarators_of, init_of, catch_of, cases_of, stmt_of};
 ghost use Rattle.js_core.specs.Height as spec;
 
 use crate::syntax::{
@@ -232,5 +231,77 @@ fn cases_height(cases: &[Case]) -> u64
             let this = maybe_expr_height(&case.test).max(stmts_height(case.body.as_slice()));
             this.max(cases_height(rest))
         }
+    }
+}
+
+#[cfg(test)]
+mod tests {
+    use super::*;
+    use crate::operators::BinaryOp;
+    use crate::whole::Whole;
+    use std::alloc::Global;
+    use std::rc::Rc;
+    use std::test::Fail;
+
+    fn one() -> Expr
+        ensures { spec.expr_height result ≡ 1 }
+    {
+        Expr {
+            node: ExprNode::Num(Whole::nan()),
+        }
+    }
+
+    fn sum(alloc: Global, left: Expr, right: Expr) -> Result<Expr, Fail>
+        requires left { spec.expr_height left < 1000 }
+        requires right { spec.expr_height right < 1000 }
+        ensures { IfOk result (λ e. spec.expr_height e ≡ max (spec.expr_height left) (spec.expr_height right) + 1) }
+    {
+        Ok(Expr {
+            node: ExprNode::Binary(
+                BinaryOp::Add,
+                Box::new(alloc, left)?,
+                Box::new(alloc, right)?,
+            ),
+        })
+    }
+
+    fn statements(alloc: Global, node: StmtNode) -> Result<Vec<Stmt>, Fail>
+        requires { spec.stmt_height (stmt_of node) ≤ 1000 }
+        ensures { IfOk result (λ ss. spec.stmts_height (stmts_of ss.items) ≡ spec.stmt_height (stmt_of node)) }
+    {
+        let mut body = Vec::new(alloc);
+        body.push(Stmt { node })?;
+        Ok(body)
+    }
+
+    #[test]
+    fn counts_levels(rt: HostRuntime) -> Result<(), Fail> {
+        let alloc = rt.alloc();
+        assert_eq!(rt; one().height(), 1);
+        let value = sum(alloc, one(), sum(alloc, one(), one())?)?;
+        assert_eq!(rt; value.height(), 3);
+        let body = statements(alloc, StmtNode::Return(Some(value)))?;
+        let code = Code {
+            name: None,
+            formals: Vec::new(alloc),
+            body,
+        };
+        assert_eq!(rt; code.height(), 4);
+        let declared = Stmt {
+            node: StmtNode::Function(Rc::new(alloc, code)?),
+        };
+        assert_eq!(rt; declared.height(), 7);
+        let script = Script {
+            body: statements(alloc, declared.node)?,
+        };
+        assert_eq!(rt; script.height(), 7);
+        assert_eq!(rt;
+            Script {
+                body: Vec::new(alloc)
+            }
+            .height(),
+            0
+        );
+        Ok(())
     }
 }
