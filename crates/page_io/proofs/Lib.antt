@@ -1,4 +1,5 @@
 mod Counts
+pub mod KeyOrder
 mod MemoryPuts
 mod MemoryReads
 mod RealReads

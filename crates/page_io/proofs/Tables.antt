@@ -2,40 +2,18 @@
 use Rattle.std.proofs.Common.{◌≡◌, ℕ, Bool, true, false, cond, ◌&&◌, T, List, [], ◌∷◌, map, Option, Some, None, is_some, String, Vec, Global, refl, sym, ap, subst, ◌∙◌}
 use Rattle.std.specs.Option.{option_map}
 use Rattle.std.specs.String.{string_bytes}
-use Rattle.std.specs.Ordering.{nat_cmp, is_lt, eq_by_cmp, ordering_then, match_ordering}
-use Rattle.std.specs.Cmp.{IsTotalOrder, Equal-is}
-use Rattle.std.specs.Cmp.Lexicographic.{slice_cmp}
+use Rattle.std.specs.Ordering.{is_lt, eq_by_cmp, match_ordering}
 use Rattle.std.specs.declared.cmp.Ordering.{Ordering}
 use Rattle.std.specs.declared.cmp.Ordering.TheVariants.{Less, Equal, Greater}
-use Rattle.std.specs.FinMap.{IsAntisymmetric, nat_cmp-IsAntisymmetric, slice_cmp-IsAntisymmetric, find, put, is_sorted, entries, get, insert, remove, contains_key, from_sorted, same_map, get-from_entries, get-from_sorted, get-insert, get-remove, entries-from_sorted}
+use Rattle.std.specs.FinMap.{find, put, is_sorted, entries, get, insert, remove, contains_key, from_sorted, same_map, get-from_entries, get-from_sorted, get-insert, get-remove, entries-from_sorted}
 use Rattle.std.specs.FinMap.Entries.{by_order, below_all, find-put}
 use Rattle.std.specs.BTreeMap.{insert_entry, is_at}
 use Rattle.std.specs.Map.{lookup, keys_of, KeepsOthers}
 use Rattle.std.specs.List.{AllByRecursion}
 use Rattle.std.specs.List.Sorted.{IsStrictlySortedBy}
-use Rattle.std.proofs.lemmas.Cmp.{then_total, on_total, nat_cmp_total, nat_list_cmp_total}
 use Rattle.page_io.specs.Table.{Key, key_cmp}
 use Rattle.page_io.specs.MemoryKeeperOf.{row_of, table_of}
-
--- ---- the order of the keys
-
-pub key_total : IsTotalOrder key_cmp
-key_total = then_total (on_total (λ (k : Key). k.0) nat_list_cmp_total) (on_total (λ (k : Key). k.1) nat_cmp_total)
-
-both_equal : (r s : Ordering) → ordering_then r s ≡ Equal → (r ≡ Equal) × (s ≡ Equal)
-both_equal Less s e = cc
-both_equal Equal s e = (refl, e)
-both_equal Greater s e = cc
-
-key_exact : IsAntisymmetric key_cmp
-key_exact x y e =
-    let both = both_equal (slice_cmp nat_cmp x.0 y.0) (nat_cmp x.1 y.1) e in
-    let name : x.0 ≡ y.0 = slice_cmp-IsAntisymmetric nat_cmp-IsAntisymmetric x.0 y.0 both.0 in
-    let version : x.1 ≡ y.1 = nat_cmp-IsAntisymmetric x.1 y.1 both.1 in
-    λ i. (name i, version i)
-
-tied : (x y : Key) → eq_by_cmp key_cmp x y ≡ true → x ≡ y
-tied x y e = key_exact x y ((Equal-is (key_cmp x y)).0 e)
+use Rattle.page_io.proofs.KeyOrder.{key_total, key_exact, tied}
 
 -- ---- the stored rows
 

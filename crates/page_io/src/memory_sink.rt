@@ -38,7 +38,12 @@ impl Model for MemorySink {
 
 impl MemorySink {
     /// An empty sink with this room, which is made at once. The puts whose numbers are listed in `failing` fail,
-    /// and take as many bytes as stands beside the number, as far as the piece and the room go.
+    /// and take as many bytes as stands beside the number, as far as the piece and the room go; of two pairs
+    /// with one number the first counts.
+    ///
+    /// # Errors
+    ///
+    /// Want of memory for the room. A put needs none after that.
     pub fn new(
         alloc: Global,
         room: u64,

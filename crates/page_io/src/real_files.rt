@@ -10,7 +10,8 @@ use std::fs::File;
 use std::io::Read;
 use std::marker::Model;
 
-/// Files of the system, which tell no content. Each failure is counted, a u64 that stays at its last value.
+/// Files of the system, which tell no content. A read fails where the file cannot be opened or a read of it
+/// answers an error. Each failure is counted, a u64 that stays at its last value.
 #[derive(Drop)]
 pub struct RealFiles<'a, R = HostRuntime> {
     rt: &'a R,

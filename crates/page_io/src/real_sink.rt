@@ -9,7 +9,8 @@ use crate::sink::{PutFault, Sink};
 use std::io::Write;
 use std::marker::Model;
 
-/// A sink over a writer, which does not tell what it took. Each failure is counted, a u64 that stays at its
+/// A sink over a writer, which is flushed at the end of each put. A put fails where a write or the flush answers
+/// an error, or where the writer takes nothing of what is left. Each failure is counted, a u64 that stays at its
 /// last value.
 #[derive(Drop)]
 pub struct RealSink<W> {
