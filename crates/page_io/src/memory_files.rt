@@ -113,3 +113,46 @@ impl Files for MemoryFiles {
         }
     }
 }
+
+#[cfg(test)]
+mod tests {
+    use super::*;
+    use std::test::Fail;
+
+    #[test]
+    fn reads_in_turn(rt: HostRuntime) -> Result<(), Fail> {
+        let alloc = rt.alloc();
+        let mut held = Vec::new(alloc);
+        for (name, text) in [("a", "one"), ("b", ""), ("a", "two")] {
+            held.push((
+                String::from_str(alloc, name)?,
+                text.as_bytes().to_vec(alloc)?,
+            ))?;
+        }
+        let mut files = MemoryFiles::new(held, vec![in alloc; 2, 5]?);
+        let failed = Err(ReadFault::Failed);
+        let cases = [
+            ("a", 3, Ok("one"), 0, None),
+            ("a", 3, failed, 1, Some("a")),
+            ("a", 2, Err(ReadFault::TooLong), 1, Some("a")),
+            ("c", 9, failed, 2, Some("c")),
+            ("b", 0, failed, 3, Some("b")),
+            ("b", 0, Ok(""), 3, Some("b")),
+            ("a", 0, Err(ReadFault::TooLong), 3, Some("b")),
+            ("a", u64::MAX, Ok("one"), 3, Some("b")),
+        ];
+        for (name, limit, wanted, faults, last) in cases {
+            match (files.read(alloc, name, limit), wanted) {
+                (Ok(bytes), Ok(text)) => assert_eq!(rt; bytes.as_slice(), text.as_bytes()),
+                (Err(fault), Err(other)) => assert_eq!(rt; fault, other),
+                _ => assert!(rt; false, "{name} at {limit}"),
+            }
+            assert_eq!(rt; files.faults, faults, "{name} at {limit}");
+            match (&files.failed, last) {
+                (Some(kept), Some(name)) => assert_eq!(rt; kept.as_str(), name),
+                (kept, last) => assert!(rt; kept.is_none() && last.is_none()),
+            }
+        }
+        Ok(())
+    }
+}

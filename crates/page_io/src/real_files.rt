@@ -103,3 +103,87 @@ impl<R: std::fs::Files> Files for RealFiles<'_, R> {
         result
     }
 }
+
+#[cfg(test)]
+mod tests {
+    use super::*;
+    use std::io::ErrorKind;
+    use std::test::Fail;
+    use std::{fs, io};
+
+    #[test]
+    fn reads_a_file(rt: HostRuntime) -> Result<(), Fail> {
+        let alloc = rt.alloc();
+        fs::write(&rt, "real_files_test", "whole")?;
+        let mut files = RealFiles::new(&rt);
+        for limit in [5, 6, u64::MAX] {
+            let bytes = files.read(alloc, "real_files_test", limit)?;
+            assert_eq!(rt; bytes.as_slice(), b"whole".as_slice());
+        }
+        match files.read(alloc, "real_files_test", 4) {
+            Ok(_) => assert!(rt; false),
+            Err(fault) => assert_eq!(rt; fault, ReadFault::TooLong),
+        }
+        assert_eq!(rt; files.faults, 0);
+        assert!(rt; files.failed.is_none());
+        match files.read(alloc, "real_files_test_missing", 9) {
+            Ok(_) => assert!(rt; false),
+            Err(fault) => assert_eq!(rt; fault, ReadFault::Failed),
+        }
+        assert_eq!(rt; files.faults, 1);
+        match &files.failed {
+            Some(name) => assert_eq!(rt; name.as_str(), "real_files_test_missing"),
+            None => assert!(rt; false),
+        }
+        fs::remove_file(&rt, "real_files_test")?;
+        Ok(())
+    }
+
+    // A reader that gives two bytes at a time, and fails at a numbered call.
+    #[derive(Drop)]
+    struct Slow<'a> {
+        rest: &'a [u8],
+        calls: u32,
+        fails_at: u32,
+    }
+
+    impl Read for Slow<'_> {
+        fn read(&mut self, buf: &mut [u8]) -> io::Result<usize> {
+            self.calls = self.calls.wrapping_add(1);
+            if self.calls == self.fails_at {
+                return Err(io::Error::from(ErrorKind::Other));
+            }
+            let count = self.rest.len().min(buf.len()).min(2);
+            buf[..count].copy_from_slice(&self.rest[..count]);
+            self.rest = &self.rest[count..];
+            Ok(count)
+        }
+    }
+
+    #[test]
+    fn reads_in_pieces(rt: HostRuntime) -> Result<(), Fail> {
+        let alloc = rt.alloc();
+        let cases = [
+            (5, 0, Ok("abcde")),
+            (4, 0, Err(ReadFault::TooLong)),
+            (0, 0, Err(ReadFault::TooLong)),
+            (5, 1, Err(ReadFault::Failed)),
+            (5, 3, Err(ReadFault::Failed)),
+            (5, 4, Err(ReadFault::Failed)),
+            (5, 5, Ok("abcde")),
+        ];
+        for (limit, fails_at, wanted) in cases {
+            let mut reader = Slow {
+                rest: b"abcde",
+                calls: 0,
+                fails_at,
+            };
+            match (read_up_to(alloc, &mut reader, limit), wanted) {
+                (Ok(bytes), Ok(text)) => assert_eq!(rt; bytes.as_slice(), text.as_bytes()),
+                (Err(fault), Err(other)) => assert_eq!(rt; fault, other, "at {limit}, {fails_at}"),
+                _ => assert!(rt; false, "at {limit}, {fails_at}"),
+            }
+        }
+        Ok(())
+    }
+}

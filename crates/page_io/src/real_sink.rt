@@ -72,3 +72,83 @@ impl<W: Write> Sink for RealSink<W> {
         result
     }
 }
+
+#[cfg(test)]
+mod tests {
+    use super::*;
+    use std::io;
+    use std::io::ErrorKind;
+    use std::test::Fail;
+
+    // A writer that takes a few bytes at a time, and fails at a numbered call of `write` or of `flush`.
+    #[derive(Drop)]
+    struct Slow {
+        taken: Vec<u8>,
+        at_once: usize,
+        writes: u32,
+        flushes: u32,
+        write_fails: u32,
+        flush_fails: u32,
+    }
+
+    impl Write for Slow {
+        fn write(&mut self, buf: &[u8]) -> io::Result<usize> {
+            self.writes = self.writes.wrapping_add(1);
+            if self.writes == self.write_fails {
+                return Err(io::Error::from(ErrorKind::Other));
+            }
+            let count = buf.len().min(self.at_once);
+            self.taken.extend_from_slice(&buf[..count])?;
+            Ok(count)
+        }
+
+        fn flush(&mut self) -> io::Result<()> {
+            self.flushes = self.flushes.wrapping_add(1);
+            if self.flushes == self.flush_fails {
+                return Err(io::Error::from(ErrorKind::Other));
+            }
+            Ok(())
+        }
+    }
+
+    #[test]
+    fn writes_in_pieces(rt: HostRuntime) -> Result<(), Fail> {
+        let failed = Err(PutFault::Failed);
+        let cases = [
+            (2, 0, 0, Ok(()), "abcde", 0, 1),
+            (9, 0, 0, Ok(()), "abcde", 0, 1),
+            (2, 1, 0, failed, "", 1, 0),
+            (2, 3, 0, failed, "abcd", 1, 0),
+            (2, 0, 1, failed, "abcde", 1, 1),
+            (0, 0, 0, failed, "", 1, 0),
+        ];
+        for (at_once, write_fails, flush_fails, wanted, taken, faults, flushes) in cases {
+            let mut sink = RealSink::new(Slow {
+                taken: Vec::new(rt.alloc()),
+                at_once,
+                writes: 0,
+                flushes: 0,
+                write_fails,
+                flush_fails,
+            });
+            assert_eq!(rt;
+                sink.put(b"abcde"),
+                wanted,
+                "at {write_fails}, {flush_fails}"
+            );
+            assert_eq!(rt; sink.writer.taken.as_slice(), taken.as_bytes());
+            assert_eq!(rt; sink.faults, faults, "at {write_fails}, {flush_fails}");
+            assert_eq!(rt;
+                sink.writer.flushes,
+                flushes,
+                "at {write_fails}, {flush_fails}"
+            );
+        }
+        let mut sink = RealSink::new(Vec::new(rt.alloc()));
+        assert_eq!(rt; sink.put(b"abc"), Ok(()));
+        assert_eq!(rt; sink.put(b""), Ok(()));
+        assert_eq!(rt; sink.put(b"de"), Ok(()));
+        assert_eq!(rt; sink.writer.as_slice(), b"abcde".as_slice());
+        Ok(())
+    }
+}

@@ -5,7 +5,7 @@ use Rattle.page_io.proofs.real_sink.write_whole.Given as goal
 abbrev pub invariant-loop-done : goal.invariant-loop-done
 invariant-loop-done g l = record {
   within : l.done ≤ length l.piece;
-  front : Appends (g.W.Write.contents l.initial.writer) (g.W.Write.contents l.writer) (take l.done l.piece)
+  front : Appends (g.W.Write.contents l.initial.writer) (g.W.Write.contents l.writer) (take l.done l.piece);
 }
 
 abbrev pub decreases-loop-done : goal.decreases-loop-done
