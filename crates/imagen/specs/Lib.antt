@@ -1,0 +1,5 @@
+pub mod Command
+pub mod Events
+pub mod Page
+pub mod Replay
+pub mod Status
