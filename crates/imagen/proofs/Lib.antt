@@ -1,4 +1,5 @@
 pub mod Between
 pub mod Found
+pub mod Heads
 pub mod ItemsSoFar
 pub mod OneMember

@@ -1,7 +1,6 @@
 -- What `replay` writes, and why it ends.
 use Rattle.std.specs.Prelude.{◌≡◌, ℕ, ◌<◌, ◌≤◌, ◌⊎◌, List, length, Option, Some, None, Result, Ok as Read, Err}
 use Rattle.js_core.specs.Line.{lines_text}
-use Rattle.js_core.specs.Tree as tree
 use Rattle.page_io.specs.Content.{Told}
 use Rattle.page_io.specs.Faults.{Rose}
 use Rattle.page_io.specs.Taken.{Takes, TakesFront}
@@ -9,7 +8,8 @@ use Rattle.js_machine.specs.declared.event.Event.{Event}
 use Rattle.js_machine.specs.Run.{lines_of_run}
 use Rattle.imagen.specs.declared.status.Status.{Status}
 use Rattle.imagen.specs.declared.status.Status.TheVariants.{Ok, PageRefused, Usage, EventsRefused, ReadFault, WriteFault, OutOfMemory}
-use Rattle.imagen.specs.Page.{Accepted, IsRefusedAs}
+use Rattle.imagen.specs.declared.page.Accepted.{Accepted}
+use Rattle.imagen.specs.Page.{IsAccepted, IsRefusedAs}
 use Rattle.imagen.specs.Events.{events_of}
 use Rattle.imagen.specs.Command.{Command, replay}
 
@@ -26,10 +26,10 @@ Of None P = Unit {0}
 Of (Some None) P = ⊥
 Of (Some (Some content)) P = P content
 
--- the page is not too long, and accepted with this script
-pub record IsPage (page : List ℕ) (script : tree.Stmts) : Type 0 where
-  pub fits : length page ≤ page_limit
-  pub accepted : Accepted page script
+-- the bytes are not too long, and accepted as this page
+pub record IsPage (bytes : List ℕ) (page : Accepted) : Type 0 where
+  pub fits : length bytes ≤ page_limit
+  pub accepted : IsAccepted bytes page
 
 -- the file is not too long, and holds these events
 pub record IsEventFile (file : List ℕ) (events : List Event) : Type 0 where
@@ -37,12 +37,12 @@ pub record IsEventFile (file : List ℕ) (events : List Event) : Type 0 where
   pub holds : events_of file ≡ Read events
 
 -- the text of the lines of loading the page, and then of those of the events of the file
-pub record Replays (page file text : List ℕ) : Type 0 where
-  pub script : tree.Stmts
+pub record Replays (bytes file text : List ℕ) : Type 0 where
+  pub page : Accepted
   pub events : List Event
-  pub of_page : IsPage page script
+  pub of_page : IsPage bytes page
   pub of_file : IsEventFile file events
-  pub lines : text ≡ lines_text (lines_of_run script events)
+  pub lines : text ≡ lines_text (lines_of_run page.script events)
 
 -- why a page is refused: it is too long, or it is not and this is the first cause
 abbrev pub RefusesPage : Status → Told → Type 0
@@ -56,7 +56,7 @@ IsNoEventFile file i = ((event_file_limit < length file) × (i ≡ 0)) ⊎ ((len
 
 -- why the events are refused: the page is accepted, and the event file is not
 abbrev pub RefusesEvents : Status → Told → Told → Type 0
-RefusesEvents (EventsRefused i) page file = Of page (λ bytes. (script : tree.Stmts) × IsPage bytes script) × Of file (λ bytes. IsNoEventFile bytes i)
+RefusesEvents (EventsRefused i) page file = Of page (λ bytes. (accepted : Accepted) × IsPage bytes accepted) × Of file (λ bytes. IsNoEventFile bytes i)
 RefusesEvents status page file = Unit {0}
 
 -- what is put to the output: the whole text, a front of it after a fault of the output, and else nothing

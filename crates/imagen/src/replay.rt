@@ -7,7 +7,7 @@ ghost use Rattle.js_machine.specs.Run.{run_of, lines_of_run};
 ghost use Rattle.imagen.specs.Replay.{Of, IsPage, IsEventFile, StopsAtPage, StopsAtEvents, CountsReads, ReplayEnds};
 
 use crate::events::{EventFault, events};
-use crate::page::{AcceptFault, accept};
+use crate::page::{AcceptFault, Accepted, accept};
 use crate::status::Status;
 use js_core::line::Line;
 use js_core::memory::OutOfMemory;
@@ -25,9 +25,9 @@ pub const PAGE_LIMIT: u64 = 16_777_216;
 pub const EVENT_FILE_LIMIT: u64 = 4_194_304;
 
 // Reads and accepts a page.
-fn read_page<F: Files>(alloc: Global, files: &mut F, name: &str) -> Result<Script, Status>
-    ensures ok { IfOk result (λ script. Of (F.content files.old name.now) (λ page. IsPage page script)) }
-    ensures first { IfOk result IsFirst }
+fn read_page<F: Files>(alloc: Global, files: &mut F, name: &str) -> Result<Accepted, Status>
+    ensures ok { IfOk result (λ page. Of (F.content files.old name.now) (λ bytes. IsPage bytes page)) }
+    ensures first { IfOk result (λ page. IsFirst page.script) }
     ensures stops { IfErr result (λ status. StopsAtPage status (F.content files.old name.now)) }
     ensures same { (n : List ℕ) → F.content files.new n ≡ F.content files.old n }
     ensures counts { CountsReads (F.faults files.old) (F.faults files.new) (F.failed files.new) name.now result }
@@ -39,7 +39,7 @@ fn read_page<F: Files>(alloc: Global, files: &mut F, name: &str) -> Result<Scrip
         Err(ReadFault::OutOfMemory) => return Err(Status::OutOfMemory),
     };
     match accept(alloc, &bytes) {
-        Ok(script) => Ok(script),
+        Ok(page) => Ok(page),
         Err(AcceptFault::Refused(refusal)) => Err(Status::PageRefused(Some(refusal))),
         Err(AcceptFault::OutOfMemory) => Err(Status::OutOfMemory),
     }
@@ -116,15 +116,15 @@ pub fn replay<F: Files, O: Sink>(
       taken_now = O.taken out.new;
     }) }
 {
-    let script = match read_page(alloc, files, page) {
-        Ok(script) => script,
+    let page = match read_page(alloc, files, page) {
+        Ok(page) => page,
         Err(status) => return status,
     };
     let list = match read_events(alloc, files, events) {
         Ok(list) => list,
         Err(status) => return status,
     };
-    let Ok(text) = text_of_run(alloc, &script, &list) else {
+    let Ok(text) = text_of_run(alloc, &page.script, &list) else {
         return Status::OutOfMemory;
     };
     match out.put(&text) {
