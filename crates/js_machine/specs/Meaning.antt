@@ -44,10 +44,10 @@ console_log v = change (put_line Log (text_of v))
 -- both operands, the left one first, and then the operator on them as numbers
 abbrev pub operate : (Option ℤ → Option ℤ → Option (Option ℤ)) → Act Cell → Act Cell → Act Cell
 operate f a b = do
-    v ← a
-    w ← b
-    n ← or_raise OutOfRange (f (to_number v) (to_number w))
-    ret (Num n)
+  v ← a
+  w ← b
+  n ← or_raise OutOfRange (f (to_number v) (to_number w))
+  ret (Num n)
 
 -- the value of an expression
 abbrev pub eval : tree.Expr → Act Cell

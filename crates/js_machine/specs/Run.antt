@@ -50,9 +50,9 @@ first_ones seen (x ∷ xs) = if is_one_of seen x then first_ones seen xs else x 
 -- a script is entered: its functions are bound, and then its variables, each undefined
 abbrev pub entered : tree.Stmts → Store
 entered script = record {
-    names = function_names 0 (codes_of script) ++ map (λ x. (x, Undefined)) (first_ones [] (variables_of script));
-    codes = codes_of script;
-    lines = [];
+  names = function_names 0 (codes_of script) ++ map (λ x. (x, Undefined)) (first_ones [] (variables_of script));
+  codes = codes_of script;
+  lines = [];
 }
 
 -- the page once its script has run

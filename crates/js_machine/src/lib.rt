@@ -2,4 +2,13 @@
 #![tactic(auto)]
 
 pub mod cell;
+pub mod deed;
+pub mod entry;
 pub mod event;
+pub mod expressions;
+pub mod first;
+pub mod globals;
+pub mod machine;
+pub mod numbers;
+#[cfg(test)]
+mod tests;

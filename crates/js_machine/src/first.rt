@@ -1,0 +1,157 @@
+//! A page of the first kind between host events.
+
+ghost use Rattle.std.specs.Prelude.{◌≡◌, IfOk, OnOk, ℕ, List};
+ghost use Rattle.js_core.specs.Tree as tree;
+ghost use Rattle.js_parser.specs.Items.{IsFirst};
+ghost use Rattle.js_machine.specs.declared.event.Event.TheVariants.{Call};
+ghost use Rattle.js_machine.specs.Entry.{bound};
+ghost use Rattle.js_machine.specs.Globals.{held_by};
+ghost use Rattle.js_machine.specs.Meaning.{exec_all, call_name};
+ghost use Rattle.js_machine.specs.Rest.{codes_in, store_of, outcome_of};
+ghost use Rattle.js_machine.specs.Run.{step_limit, depth_limit, settled, store_after, load_of, do_event};
+
+use crate::cell::Cell;
+use crate::entry::{declare_functions, declare_variables, functions};
+use crate::event::Event;
+use crate::globals::Globals;
+use crate::machine::{End, Meter, run, run_call};
+use js_core::line::{Line, LineKind};
+use js_core::memory::OutOfMemory;
+use js_core::syntax::{Code, Script};
+use js_core::units::Units;
+use std::alloc::Global;
+use std::marker::Model;
+use std::rc::Rc;
+
+/// The steps that a script and a host event have.
+pub const STEP_LIMIT: u64 = 1_000_000;
+
+/// How many functions may be active at once.
+pub const DEPTH_LIMIT: u64 = 1_000;
+
+/// A page between host events. Contracts see its global names with what they hold, in the order in which they came, its
+/// functions, and the lines that it has put out.
+#[derive(Drop)]
+pub struct First {
+    globals: Globals,
+    codes: Vec<Rc<Code>>,
+}
+
+impl Model for First {
+    ghost use Rattle.js_machine.specs.Act.{Store};
+    ghost use Rattle.js_machine.specs.Rest.{codes_in, store_of};
+
+    ghost Value = { Store };
+
+    ghost view = { λ p. store_of (codes_in p.codes.items) p.globals };
+}
+
+/// The page once its script has run. An exception that the script throws ends it, and so does want of steps: both are
+/// told by a line, and what was done before stays.
+pub fn load_first(alloc: Global, script: &Script) -> Result<First, OutOfMemory>
+    requires { IsFirst script.now }
+    ensures { IfOk result (λ page. page ≡ load_of script.now) }
+{
+    load(alloc, script)
+}
+
+// The page of any script once it has run.
+pub(crate) fn load(alloc: Global, script: &Script) -> Result<First, OutOfMemory>
+    ensures { IfOk result (λ page. page ≡ store_after (exec_all (call_name depth_limit) script.now) (bound script.now)) }
+{
+    let mut page = enter(alloc, script)?;
+    page.run_script(script)?;
+    Ok(page)
+}
+
+fn enter(alloc: Global, script: &Script) -> Result<First, OutOfMemory>
+    ensures { IfOk result (λ page. page ≡ bound script.now) }
+{
+    let body = script.body.as_slice();
+    let codes = functions(alloc, body)?;
+    let mut globals = Globals::new(alloc);
+    declare_functions(&mut globals, codes.as_slice())?;
+    declare_variables(&mut globals, body)?;
+    Ok(First { globals, codes })
+}
+
+impl First {
+    fn run_script(&mut self, script: &Script) -> Result<(), OutOfMemory>
+        ensures { OnOk result (self.new ≡ store_after (exec_all (call_name depth_limit) script.now) self.old) }
+    {
+        let mut meter = full(STEP_LIMIT);
+        let codes = self.codes.as_slice();
+        let end = run(codes, &mut self.globals, script.body.as_slice(), &mut meter)?;
+        settle(&mut self.globals, end)
+    }
+
+    /// The page after the host event. An exception that nothing catches and want of steps end the event: both are told
+    /// by a line, and what was done before stays. After an `Err` the page is spent.
+    pub fn act(&mut self, event: &Event) -> Result<(), OutOfMemory>
+        ensures { OnOk result (self.new ≡ do_event event.now self.old) }
+    {
+        match event {
+            Event::Call(name) => self.call(name),
+        }
+    }
+
+    /// The page after the host event that calls the global name.
+    pub fn call(&mut self, name: &Units) -> Result<(), OutOfMemory>
+        ensures { OnOk result (self.new ≡ do_event (Call name.now) self.old) }
+    {
+        self.call_within(name, STEP_LIMIT)
+    }
+
+    // The same with so many steps.
+    pub(crate) fn call_within(&mut self, name: &Units, steps: u64) -> Result<(), OutOfMemory>
+        ensures { OnOk result (self.new ≡ settled ((call_name depth_limit name.now).run self.old steps)) }
+    {
+        let mut meter = full(steps);
+        let codes = self.codes.as_slice();
+        let end = run_call(codes, &mut self.globals, name, &mut meter)?;
+        settle(&mut self.globals, end)
+    }
+
+    /// The lines that the page has put out.
+    pub fn lines(&self) -> &[Line]
+        ensures { result.now ≡ self.now.lines }
+    {
+        self.globals.lines()
+    }
+
+    /// What the global name holds, or `None` where it is not there.
+    pub fn cell(&self, name: &Units) -> Option<Cell>
+        ensures { result ≡ held_by self.now.names name.now }
+    {
+        self.globals.get(name)
+    }
+
+    /// The functions of the page, each at its place.
+    pub fn codes(&self) -> &[Rc<Code>]
+        ensures { codes_in result.now ≡ self.now.codes }
+    {
+        self.codes.as_slice()
+    }
+}
+
+// So many steps, and all the levels of depth.
+fn full(steps: u64) -> Meter
+    ensures { result ≡ record { steps = steps; depth = depth_limit } }
+{
+    Meter {
+        steps,
+        depth: DEPTH_LIMIT,
+    }
+}
+
+// An exception that nothing catches and want of steps are told by a line.
+fn settle(globals: &mut Globals, end: End) -> Result<(), OutOfMemory>
+    ensures { OnOk result ((codes : List tree.Code) (n : ℕ) → store_of codes globals.new ≡ settled (outcome_of end (store_of codes globals.old) n)) }
+{
+    let alloc = globals.allocator();
+    match end {
+        End::Done => Ok(()),
+        End::Thrown(what) => globals.put_line(LineKind::Uncaught, what.line_text(alloc)?),
+        End::Stopped => globals.put_line(LineKind::Stopped, Units::of(alloc, &[])?),
+    }
+}
