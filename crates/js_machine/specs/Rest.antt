@@ -1,6 +1,5 @@
 -- What a statement leads to, and what a stack of lists of statements has yet to do.
-use Rattle.std.specs.Prelude.{ℕ, suc, ◌+◌, ◌*◌, ◌≤◌, ◌≡◌, List, [], ◌∷◌, length, map, Result, Ok, Err}
-use Rattle.std_alloc.specs.declared.rc.counts.Rc.{Rc}
+use Rattle.std.specs.Prelude.{ℕ, suc, ◌+◌, ◌*◌, ◌≤◌, ◌≡◌, List, [], ◌∷◌, length, Result, Ok, Err}
 use Rattle.js_core.specs.declared.throw.Throw.{Throw}
 use Rattle.js_core.specs.Tree as tree
 use Rattle.js_core.specs.Tree.{code, no_stmts, then_stmt, stmts_of}
@@ -13,9 +12,6 @@ use Rattle.js_machine.specs.declared.machine.Meter.{Meter}
 use Rattle.js_machine.specs.Act.{Store, Outcome, Ended, Thrown, Abandoned, Act, ret, bind}
 use Rattle.js_machine.specs.Globals.{World}
 use Rattle.js_machine.specs.Meaning.{eval, exec, exec_all, apply, call_name, write_name, console_log}
-
-abbrev pub codes_in : List (Rc tree.Code) → List tree.Code
-codes_in cs = map (λ c. c.value) cs
 
 abbrev pub store_of : List tree.Code → World → Store
 store_of codes w = record { names = w.names; codes = codes; lines = w.lines }

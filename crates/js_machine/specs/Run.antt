@@ -15,10 +15,10 @@ use Rattle.js_machine.specs.Act.{Store, Outcome, Ended, Thrown, Abandoned, Act}
 use Rattle.js_machine.specs.Meaning.{exec_all, call_name, put_line}
 
 -- steps that a script and a host event have; functions that may be active at once. They do not unfold.
-pub step_limit : ℕ
+unfoldable pub step_limit : ℕ
 step_limit = 1000000
 
-pub depth_limit : ℕ
+unfoldable pub depth_limit : ℕ
 depth_limit = 1000
 
 -- what a script or a host event leaves: an exception that nothing catches and want of steps are told by a line

@@ -66,7 +66,7 @@ fn name_call_deed<'a>(name: &'a Units, args: &'a [Expr]) -> Deed<'a>
 {
     match args {
         [] => Deed::Call(name),
-        _ => Deed::Nothing,
+        [_first, _rest @ ..] => Deed::Nothing,
     }
 }
 
@@ -83,8 +83,9 @@ fn log_deed<'a>(object: &'a Units, member: &'a Units, args: &'a [Expr]) -> Deed<
     ensures { seen result ≡ deed_of (tree.expr (tree.call (tree.member (tree.name object.now) member.now) (exprs_of args.now))) }
 {
     match args {
+        [] => Deed::Nothing,
         [value] => Deed::Log(value),
-        _ => Deed::Nothing,
+        [_first, _second, _rest @ ..] => Deed::Nothing,
     }
 }
 
@@ -92,12 +93,11 @@ fn var_deed<'a>(declarators: &'a [Declarator]) -> Deed<'a>
     ensures { seen result ≡ deed_of (tree.var (declarators_of declarators.now)) }
 {
     match declarators {
-        [
-            Declarator {
-                name,
-                value: Some(value),
-            },
-        ] => Deed::Assign(name, value),
-        _ => Deed::Nothing,
+        [] => Deed::Nothing,
+        [Declarator { name, value }] => match value {
+            Some(value) => Deed::Assign(name, value),
+            None => Deed::Nothing,
+        },
+        [_first, _second, _rest @ ..] => Deed::Nothing,
     }
 }

@@ -1,37 +1,21 @@
 //! How a script is entered (ECMA-262 5.1 section 10.5).
 
-ghost use Rattle.std.specs.Prelude.{◌≡◌, IfOk, OnOk};
+ghost use Rattle.std.specs.Prelude.{◌≡◌, OnOk};
 ghost use Rattle.js_core.specs.Tree.{stmts_of};
 ghost use Rattle.js_core.specs.Views.{declarators_of};
 ghost use Rattle.js_parser.specs.Items.{variables_of};
 ghost use Rattle.js_machine.specs.Entry.{bind_functions, bind_variables, first_of};
-ghost use Rattle.js_machine.specs.Rest.{codes_in};
-ghost use Rattle.js_machine.specs.Run.{codes_of};
 
+use crate::codes::Codes;
 use crate::globals::Globals;
 use js_core::memory::OutOfMemory;
-use js_core::syntax::{Code, Declarator, Stmt, StmtNode};
-use std::alloc::Global;
-use std::rc::Rc;
-
-/// The functions that the script declares, in order.
-pub fn functions(alloc: Global, script: &[Stmt]) -> Result<Vec<Rc<Code>>, OutOfMemory>
-    ensures { IfOk result (λ codes. codes_in codes.items ≡ codes_of (stmts_of script.now)) }
-{
-    let mut codes = Vec::new(alloc);
-    for stmt in script {
-        if let StmtNode::Function(code) = &stmt.node {
-            codes.push(code.clone()?)?;
-        }
-    }
-    Ok(codes)
-}
+use js_core::syntax::{Declarator, Stmt, StmtNode};
 
 /// Binds the name of each function to its place among them.
-pub fn declare_functions(globals: &mut Globals, codes: &[Rc<Code>]) -> Result<(), OutOfMemory>
-    ensures { OnOk result (globals.new ≡ record { names = bind_functions globals.old.names 0 (codes_in codes.now); lines = globals.old.lines }) }
+pub fn declare_functions(globals: &mut Globals, codes: &Codes) -> Result<(), OutOfMemory>
+    ensures { OnOk result (globals.new ≡ record { names = bind_functions globals.old.names 0 codes.now; lines = globals.old.lines }) }
 {
-    for (at, code) in codes.iter().enumerate() {
+    for (at, code) in codes.as_slice().iter().enumerate() {
         if let Some(name) = &code.name {
             globals.declare_function(name.clone()?, at as u64)?;
         }

@@ -1,7 +1,6 @@
 //! The values of expressions.
 
 ghost use Rattle.std.specs.Prelude.{◌≡◌, IfOk, bytes_eq, codes};
-ghost use Rattle.js_core.specs.Tree as tree;
 ghost use Rattle.js_machine.specs.Values as spec;
 ghost use Rattle.js_machine.specs.Values.{value_of, value_of_name, value_of_global};
 
@@ -16,30 +15,17 @@ use js_core::units::Units;
 use js_core::whole::Whole;
 
 /// The value of the expression, or what its evaluation throws (ECMA-262 5.1 section 11).
-#[cycle(values)]
 pub fn value(globals: &Globals, e: &Expr) -> Result<Result<Cell, Throw>, OutOfMemory>
     ensures { IfOk result (λ value. value ≡ value_of globals.now.names e.now) }
 {
     match &e.node {
         ExprNode::Name(name) => named_value(globals, name),
         ExprNode::Num(number) => Ok(Ok(Cell::Num(*number))),
-        ExprNode::Binary(op, a, b) => binary_value(globals, *op, a, b),
-        _ => Ok(Ok(Cell::Undefined)),
-    }
-}
-
-#[cycle(values)]
-fn binary_value(
-    globals: &Globals,
-    op: BinaryOp,
-    a: &Expr,
-    b: &Expr,
-) -> Result<Result<Cell, Throw>, OutOfMemory>
-    ensures { IfOk result (λ value. value ≡ value_of globals.now.names (tree.binary op a.now b.now)) }
-{
-    match op {
-        BinaryOp::Add => Ok(sum(value(globals, a)?, value(globals, b)?)),
-        BinaryOp::Sub => Ok(difference(value(globals, a)?, value(globals, b)?)),
+        ExprNode::Binary(op, a, b) => match op {
+            BinaryOp::Add => Ok(sum(value(globals, a)?, value(globals, b)?)),
+            BinaryOp::Sub => Ok(difference(value(globals, a)?, value(globals, b)?)),
+            _ => Ok(Ok(Cell::Undefined)),
+        },
         _ => Ok(Ok(Cell::Undefined)),
     }
 }
@@ -82,28 +68,25 @@ fn named_value(globals: &Globals, name: &Units) -> Result<Result<Cell, Throw>, O
 fn is_nan(name: &Units) -> bool
     ensures { result ≡ bytes_eq name.now (codes "NaN") }
 {
-    is_word(name, b"NaN")
+    is_word(name.as_slice(), b"NaN")
 }
 
 fn is_undefined(name: &Units) -> bool
     ensures { result ≡ bytes_eq name.now (codes "undefined") }
 {
-    is_word(name, b"undefined")
+    is_word(name.as_slice(), b"undefined")
 }
 
-fn is_word(name: &Units, word: &[u8]) -> bool
-    ensures { result ≡ bytes_eq name.now word.now }
+fn is_word(units: &[u16], word: &[u8]) -> bool
+    ensures { result ≡ bytes_eq units.now word.now }
 {
-    let units = name.as_slice();
-    if units.len() != word.len() {
-        return false;
-    }
-    for (unit, byte) in units.iter().zip(word.iter()) {
-        if *unit != u16::from(*byte) {
-            return false;
+    match (units, word) {
+        ([], []) => true,
+        ([], [_, ..]) | ([_, ..], []) => false,
+        ([unit, units @ ..], [byte, word @ ..]) => {
+            *unit == u16::from(*byte) && is_word(units, word)
         }
     }
-    true
 }
 
 /// What a global name holds: ReferenceError where it is not there (section 8.7.1).

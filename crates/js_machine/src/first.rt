@@ -7,21 +7,21 @@ ghost use Rattle.js_machine.specs.declared.event.Event.TheVariants.{Call};
 ghost use Rattle.js_machine.specs.Entry.{bound};
 ghost use Rattle.js_machine.specs.Globals.{held_by};
 ghost use Rattle.js_machine.specs.Meaning.{exec_all, call_name};
-ghost use Rattle.js_machine.specs.Rest.{codes_in, store_of, outcome_of};
+ghost use Rattle.js_machine.specs.Rest.{store_of, outcome_of};
 ghost use Rattle.js_machine.specs.Run.{step_limit, depth_limit, settled, store_after, load_of, do_event};
 
 use crate::cell::Cell;
-use crate::entry::{declare_functions, declare_variables, functions};
+use crate::codes::Codes;
+use crate::entry::{declare_functions, declare_variables};
 use crate::event::Event;
 use crate::globals::Globals;
 use crate::machine::{End, Meter, run, run_call};
 use js_core::line::{Line, LineKind};
 use js_core::memory::OutOfMemory;
-use js_core::syntax::{Code, Script};
+use js_core::syntax::Script;
 use js_core::units::Units;
 use std::alloc::Global;
 use std::marker::Model;
-use std::rc::Rc;
 
 /// The steps that a script and a host event have.
 pub const STEP_LIMIT: u64 = 1_000_000;
@@ -34,16 +34,19 @@ pub const DEPTH_LIMIT: u64 = 1_000;
 #[derive(Drop)]
 pub struct First {
     globals: Globals,
-    codes: Vec<Rc<Code>>,
+    codes: Codes,
 }
 
 impl Model for First {
     ghost use Rattle.js_machine.specs.Act.{Store};
-    ghost use Rattle.js_machine.specs.Rest.{codes_in, store_of};
+    ghost use Rattle.js_machine.specs.Rest.{store_of};
+    ghost use Rattle.js_machine.specs.Coded.{coded_store};
 
     ghost Value = { Store };
 
-    ghost view = { λ p. store_of (codes_in p.codes.items) p.globals };
+    ghost coded = { coded_store };
+
+    ghost view = { λ p. store_of p.codes p.globals };
 }
 
 /// The page once its script has run. An exception that the script throws ends it, and so does want of steps: both are
@@ -68,9 +71,9 @@ fn enter(alloc: Global, script: &Script) -> Result<First, OutOfMemory>
     ensures { IfOk result (λ page. page ≡ bound script.now) }
 {
     let body = script.body.as_slice();
-    let codes = functions(alloc, body)?;
+    let codes = Codes::declared(alloc, body)?;
     let mut globals = Globals::new(alloc);
-    declare_functions(&mut globals, codes.as_slice())?;
+    declare_functions(&mut globals, &codes)?;
     declare_variables(&mut globals, body)?;
     Ok(First { globals, codes })
 }
@@ -80,8 +83,12 @@ impl First {
         ensures { OnOk result (self.new ≡ store_after (exec_all (call_name depth_limit) script.now) self.old) }
     {
         let mut meter = full(STEP_LIMIT);
-        let codes = self.codes.as_slice();
-        let end = run(codes, &mut self.globals, script.body.as_slice(), &mut meter)?;
+        let end = run(
+            &self.codes,
+            &mut self.globals,
+            script.body.as_slice(),
+            &mut meter,
+        )?;
         settle(&mut self.globals, end)
     }
 
@@ -107,8 +114,7 @@ impl First {
         ensures { OnOk result (self.new ≡ settled ((call_name depth_limit name.now).run self.old steps)) }
     {
         let mut meter = full(steps);
-        let codes = self.codes.as_slice();
-        let end = run_call(codes, &mut self.globals, name, &mut meter)?;
+        let end = run_call(&self.codes, &mut self.globals, name, &mut meter)?;
         settle(&mut self.globals, end)
     }
 
@@ -127,10 +133,10 @@ impl First {
     }
 
     /// The functions of the page, each at its place.
-    pub fn codes(&self) -> &[Rc<Code>]
-        ensures { codes_in result.now ≡ self.now.codes }
+    pub fn codes(&self) -> &Codes
+        ensures { result.now ≡ self.now.codes }
     {
-        self.codes.as_slice()
+        &self.codes
     }
 }
 

@@ -54,9 +54,7 @@ impl Globals {
     pub fn set(&mut self, name: &Units, cell: Cell)
         ensures { self.new ≡ record { names = with_name self.old.names name.now cell; lines = self.old.lines } }
     {
-        if let Some(held) = self.names.get_mut(name) {
-            *held = cell;
-        }
+        set_name(&mut self.names, name, cell);
     }
 
     /// The name of a function holds its place among the codes, and comes last where it is new.
@@ -90,5 +88,15 @@ impl Globals {
         ensures { result.now ≡ self.now.lines }
     {
         self.lines.as_slice()
+    }
+}
+
+#[tactic(auto, using(crate::proofs::Names::set_value_absent))]
+fn set_name(names: &mut IndexMap<Units, Cell>, name: &Units, cell: Cell)
+    ensures { names.new.entries ≡ with_name names.old.entries name.now cell }
+{
+    match names.get_mut(name) {
+        Some(held) => *held = cell,
+        None => {}
     }
 }

@@ -2,6 +2,7 @@
 #![tactic(auto)]
 
 pub mod cell;
+pub mod codes;
 pub mod deed;
 pub mod entry;
 pub mod event;

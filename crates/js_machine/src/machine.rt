@@ -1,21 +1,21 @@
 //! The machine: a stack of lists of statements that are left to do, one for each function that is active.
 
-ghost use Rattle.std.specs.Prelude.{◌≡◌, ◌<◌, ◌+◌, ◌^◌, IfOk, slice_get};
+ghost use Rattle.std.specs.Prelude.{◌≡◌, ◌<◌, ◌+◌, ◌^◌, IfOk};
 ghost use Rattle.js_core.specs.Tree.{stmts_of};
-ghost use Rattle.js_machine.specs.Meaning.{exec_all, call_name, body_of};
-ghost use Rattle.js_machine.specs.Rest.{codes_in, store_of, outcome_of, Follows, Assigns, Logs, Calls, Enters, Levels, Lighter};
+ghost use Rattle.js_machine.specs.Meaning.{exec_all, call_name};
+ghost use Rattle.js_machine.specs.Rest.{store_of, outcome_of, Follows, Assigns, Logs, Calls, Enters, Levels, Lighter};
 
 use crate::cell::Cell;
+use crate::codes::Codes;
 use crate::deed::{Deed, what_is_done};
 use crate::expressions::{global_value, value};
 use crate::globals::Globals;
 use crate::numbers::text_of;
 use js_core::line::LineKind;
 use js_core::memory::OutOfMemory;
-use js_core::syntax::{Code, Expr, Stmt};
+use js_core::syntax::{Expr, Stmt};
 use js_core::throw::Throw;
 use js_core::units::Units;
-use std::rc::Rc;
 
 /// What is left.
 #[derive(Clone, Copy)]
@@ -48,13 +48,13 @@ pub enum End {
 
 /// Does the statements, and what the functions that they call do.
 pub fn run<'a>(
-    codes: &'a [Rc<Code>],
+    codes: &'a Codes,
     globals: &mut Globals,
     body: &'a [Stmt],
     meter: &mut Meter,
 ) -> Result<End, OutOfMemory>
     requires { meter.old.depth < 2 ^ 32 }
-    ensures { IfOk result (λ end. outcome_of end (store_of (codes_in codes.now) globals.new) meter.new.steps ≡ (exec_all (call_name meter.old.depth) (stmts_of body.now)).run (store_of (codes_in codes.now) globals.old) meter.old.steps) }
+    ensures { IfOk result (λ end. outcome_of end (store_of codes.now globals.new) meter.new.steps ≡ (exec_all (call_name meter.old.depth) (stmts_of body.now)).run (store_of codes.now globals.old) meter.old.steps) }
 {
     let mut stack = Vec::new(globals.allocator());
     stack.push(body)?;
@@ -77,13 +77,13 @@ pub fn run<'a>(
 
 /// Calls a global name, and does what the function does.
 pub fn run_call(
-    codes: &[Rc<Code>],
+    codes: &Codes,
     globals: &mut Globals,
     name: &Units,
     meter: &mut Meter,
 ) -> Result<End, OutOfMemory>
     requires { meter.old.depth < 2 ^ 32 }
-    ensures { IfOk result (λ end. outcome_of end (store_of (codes_in codes.now) globals.new) meter.new.steps ≡ (call_name meter.old.depth name.now).run (store_of (codes_in codes.now) globals.old) meter.old.steps) }
+    ensures { IfOk result (λ end. outcome_of end (store_of codes.now globals.new) meter.new.steps ≡ (call_name meter.old.depth name.now).run (store_of codes.now globals.old) meter.old.steps) }
 {
     match call(codes, globals, name, meter)? {
         Next::Done => Ok(End::Done),
@@ -95,14 +95,14 @@ pub fn run_call(
 
 /// Does the statement, up to the entry of the function that it calls.
 fn step<'a>(
-    codes: &'a [Rc<Code>],
+    codes: &'a Codes,
     globals: &mut Globals,
     stmt: &Stmt,
     meter: &mut Meter,
 ) -> Result<Next<'a>, OutOfMemory>
-    ensures follows { IfOk result (λ next. Follows (codes_in codes.now) stmt.now globals.old meter.old next globals.new meter.new) }
+    ensures follows { IfOk result (λ next. Follows codes.now stmt.now globals.old meter.old next globals.new meter.new) }
     ensures levels { IfOk result (λ next. Levels meter.old next meter.new) }
-    ensures lighter { IfOk result (λ next. Lighter (codes_in codes.now) meter.old next meter.new) }
+    ensures lighter { IfOk result (λ next. Lighter codes.now meter.old next meter.new) }
 {
     match what_is_done(stmt) {
         Deed::Assign(name, e) => assign(globals, name, e),
@@ -139,14 +139,14 @@ fn log<'a>(globals: &mut Globals, e: &Expr) -> Result<Next<'a>, OutOfMemory>
 
 /// Calls a global name, up to the entry of the function.
 pub fn call<'a>(
-    codes: &'a [Rc<Code>],
+    codes: &'a Codes,
     globals: &Globals,
     name: &Units,
     meter: &mut Meter,
 ) -> Result<Next<'a>, OutOfMemory>
-    ensures follows { IfOk result (λ next. Calls (codes_in codes.now) name.now globals.now meter.old next meter.new) }
+    ensures follows { IfOk result (λ next. Calls codes.now name.now globals.now meter.old next meter.new) }
     ensures levels { IfOk result (λ next. Levels meter.old next meter.new) }
-    ensures lighter { IfOk result (λ next. Lighter (codes_in codes.now) meter.old next meter.new) }
+    ensures lighter { IfOk result (λ next. Lighter codes.now meter.old next meter.new) }
 {
     match global_value(globals, name)? {
         Ok(Cell::Function(at)) => Ok(enter(codes, at, meter)),
@@ -155,11 +155,12 @@ pub fn call<'a>(
     }
 }
 
+#[tactic(auto, using(crate::proofs::Sizes::body_is_paid))]
 /// Enters a function, which takes a step, and one of the levels of depth.
-fn enter<'a>(codes: &'a [Rc<Code>], at: u64, meter: &mut Meter) -> Next<'a>
-    ensures follows { Enters (codes_in codes.now) at meter.old result meter.new }
+fn enter<'a>(codes: &'a Codes, at: u64, meter: &mut Meter) -> Next<'a>
+    ensures follows { Enters codes.now at meter.old result meter.new }
     ensures levels { Levels meter.old result meter.new }
-    ensures lighter { Lighter (codes_in codes.now) meter.old result meter.new }
+    ensures lighter { Lighter codes.now meter.old result meter.new }
 {
     if meter.steps == 0 {
         return Next::Stopped;
@@ -169,14 +170,5 @@ fn enter<'a>(codes: &'a [Rc<Code>], at: u64, meter: &mut Meter) -> Next<'a>
         return Next::Thrown(Throw::TooDeep);
     }
     meter.depth -= 1;
-    Next::Enter(body_at(codes, at))
-}
-
-fn body_at<'a>(codes: &'a [Rc<Code>], at: u64) -> &'a [Stmt]
-    ensures { stmts_of result.now ≡ body_of (slice_get (codes_in codes.now) at) }
-{
-    match codes.get(at as usize) {
-        Some(code) => code.body.as_slice(),
-        None => &[],
-    }
+    Next::Enter(codes.body_at(at))
 }
