@@ -1,5 +1,6 @@
 -- The limits in numbers.
-use Rattle.std.specs.Prelude.{ℕ, ◌≡◌, refl}
+use Rattle.std.specs.Prelude.{ℕ, ◌<◌, ◌^◌, ◌≡◌, refl}
+use Rattle.std.proofs.Common.{arith}
 use Rattle.js_machine.specs.Run.{step_limit, depth_limit}
 
 pub step_limit_is : step_limit ≡ 1000000

@@ -59,6 +59,13 @@ Levels m (next.Enter body) m' = suc m'.depth ≡ m.depth
 Levels m (next.Thrown t) m' = Unit {0}
 Levels m next.Stopped m' = Unit {0}
 
+-- no function is entered
+abbrev pub IsFlat : Next → Type 0
+IsFlat next.Done = Unit {0}
+IsFlat (next.Enter body) = ⊥
+IsFlat (next.Thrown t) = Unit {0}
+IsFlat next.Stopped = ⊥
+
 abbrev pub count : tree.Stmts → ℕ
 count no_stmts = 0
 count (then_stmt s ss) = suc (count ss)

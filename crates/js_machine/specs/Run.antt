@@ -1,5 +1,5 @@
 -- What a page does when it is loaded, and under host events.
-use Rattle.std.specs.Prelude.{ℕ, ◌+◌, ◌++◌, List, [], ◌∷◌, Option, Some, None, if◌then◌else◌, length, map, drop}
+use Rattle.std.specs.Prelude.{ℕ, ◌≡◌, ◌+◌, ◌++◌, List, [], ◌∷◌, Option, Some, None, if◌then◌else◌, length, map, drop}
 use Rattle.js_core.specs.declared.line.Line.{Line}
 use Rattle.js_core.specs.declared.line.LineKind.TheVariants.{Uncaught, Stopped as StoppedLine}
 use Rattle.js_core.specs.Throw.{thrown_text}
@@ -62,6 +62,10 @@ load_of script = store_after (exec_all (call_name depth_limit) script) (entered 
 -- the page after one host event
 abbrev pub do_event : Event → Store → Store
 do_event (Call f) s = store_after (call_name depth_limit f) s
+
+-- an event takes no line back
+abbrev pub LinesGrow : Type 0
+LinesGrow = (s : Store) (e : Event) → (more : List Line) × ((do_event e s).lines ≡ s.lines ++ more)
 
 -- the page after each of the events in order
 abbrev pub run_all : Store → List Event → Store

@@ -1,6 +1,6 @@
 //! A page of the first kind between host events.
 
-ghost use Rattle.std.specs.Prelude.{◌≡◌, IfOk, OnOk, ℕ, List};
+ghost use Rattle.std.specs.Prelude.{◌≡◌, ◌<◌, ◌^◌, IfOk, OnOk, ℕ, List};
 ghost use Rattle.js_core.specs.Tree as tree;
 ghost use Rattle.js_parser.specs.Items.{IsFirst};
 ghost use Rattle.js_machine.specs.declared.event.Event.TheVariants.{Call};
@@ -8,7 +8,7 @@ ghost use Rattle.js_machine.specs.Entry.{bound};
 ghost use Rattle.js_machine.specs.Globals.{held_by};
 ghost use Rattle.js_machine.specs.Meaning.{exec_all, call_name};
 ghost use Rattle.js_machine.specs.Rest.{store_of, outcome_of};
-ghost use Rattle.js_machine.specs.Run.{step_limit, depth_limit, settled, store_after, load_of, do_event};
+ghost use Rattle.js_machine.specs.Run.{step_limit, depth_limit, settled, store_after, load_of, do_event, LinesGrow};
 
 use crate::cell::Cell;
 use crate::codes::Codes;
@@ -51,6 +51,7 @@ impl Model for First {
 
 /// The page once its script has run. An exception that the script throws ends it, and so does want of steps: both are
 /// told by a line, and what was done before stays.
+#[tactic(auto, using(crate::proofs::Entering::first_entered))]
 pub fn load_first(alloc: Global, script: &Script) -> Result<First, OutOfMemory>
     requires { IsFirst script.now }
     ensures { IfOk result (λ page. page ≡ load_of script.now) }
@@ -82,7 +83,7 @@ impl First {
     fn run_script(&mut self, script: &Script) -> Result<(), OutOfMemory>
         ensures { OnOk result (self.new ≡ store_after (exec_all (call_name depth_limit) script.now) self.old) }
     {
-        let mut meter = full(STEP_LIMIT);
+        let mut meter = full(all_steps());
         let end = run(
             &self.codes,
             &mut self.globals,
@@ -106,7 +107,7 @@ impl First {
     pub fn call(&mut self, name: &Units) -> Result<(), OutOfMemory>
         ensures { OnOk result (self.new ≡ do_event (Call name.now) self.old) }
     {
-        self.call_within(name, STEP_LIMIT)
+        self.call_within(name, all_steps())
     }
 
     // The same with so many steps.
@@ -140,9 +141,18 @@ impl First {
     }
 }
 
+#[tactic(auto, using(crate::proofs::Limits::step_limit_is))]
+fn all_steps() -> u64
+    ensures { result ≡ step_limit }
+{
+    STEP_LIMIT
+}
+
 // So many steps, and all the levels of depth.
+#[tactic(auto, using(crate::proofs::Limits::depth_limit_is))]
 fn full(steps: u64) -> Meter
-    ensures { result ≡ record { steps = steps; depth = depth_limit } }
+    ensures all { result ≡ record { steps = steps; depth = depth_limit } }
+    ensures fits { depth_limit < 2 ^ 32 }
 {
     Meter {
         steps,
@@ -161,3 +171,9 @@ fn settle(globals: &mut Globals, end: End) -> Result<(), OutOfMemory>
         End::Stopped => globals.put_line(LineKind::Stopped, Units::of(alloc, &[])?),
     }
 }
+
+/// A law: no host event takes a line back.
+#[tactic(auto, using(crate::proofs::Lines::lines_grow))]
+pub fn law_lines_grow()
+    ensures { LinesGrow }
+{}

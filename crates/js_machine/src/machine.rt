@@ -3,7 +3,7 @@
 ghost use Rattle.std.specs.Prelude.{◌≡◌, ◌<◌, ◌+◌, ◌^◌, IfOk};
 ghost use Rattle.js_core.specs.Tree.{stmts_of};
 ghost use Rattle.js_machine.specs.Meaning.{exec_all, call_name};
-ghost use Rattle.js_machine.specs.Rest.{store_of, outcome_of, Follows, Assigns, Logs, Calls, Enters, Levels, Lighter};
+ghost use Rattle.js_machine.specs.Rest.{store_of, outcome_of, Follows, Assigns, Logs, Calls, Enters, IsFlat, Levels, Lighter};
 
 use crate::cell::Cell;
 use crate::codes::Codes;
@@ -93,6 +93,7 @@ pub fn run_call(
     }
 }
 
+#[tactic(auto, using(crate::proofs::Steps::assign_follows, crate::proofs::Steps::log_follows, crate::proofs::Steps::call_follows, crate::proofs::Steps::nothing_follows))]
 /// Does the statement, up to the entry of the function that it calls.
 fn step<'a>(
     codes: &'a Codes,
@@ -112,8 +113,10 @@ fn step<'a>(
     }
 }
 
+#[tactic(auto, using(crate::proofs::Evaluation::assign_done, crate::proofs::Evaluation::assign_thrown))]
 fn assign<'a>(globals: &mut Globals, name: &Units, e: &Expr) -> Result<Next<'a>, OutOfMemory>
-    ensures { IfOk result (λ next. Assigns name.now e.now globals.old next globals.new) }
+    ensures follows { IfOk result (λ next. Assigns name.now e.now globals.old next globals.new) }
+    ensures flat { IfOk result IsFlat }
 {
     match value(globals, e)? {
         Ok(cell) => {
@@ -124,8 +127,10 @@ fn assign<'a>(globals: &mut Globals, name: &Units, e: &Expr) -> Result<Next<'a>,
     }
 }
 
+#[tactic(auto, using(crate::proofs::Evaluation::log_done, crate::proofs::Evaluation::log_thrown))]
 fn log<'a>(globals: &mut Globals, e: &Expr) -> Result<Next<'a>, OutOfMemory>
-    ensures { IfOk result (λ next. Logs e.now globals.old next globals.new) }
+    ensures follows { IfOk result (λ next. Logs e.now globals.old next globals.new) }
+    ensures flat { IfOk result IsFlat }
 {
     match value(globals, e)? {
         Ok(cell) => {
