@@ -1,17 +1,11 @@
--- What `replay` writes, and why it ends.
-use Rattle.std.specs.Prelude.{◌≡◌, ℕ, ◌<◌, ◌≤◌, ◌⊎◌, List, length, Option, Some, None, Result, Ok as Read, Err}
+-- What `replay` writes.
+use Rattle.std.specs.Prelude.{◌≡◌, ℕ, ◌≤◌, List, length, Result, Ok}
 use Rattle.js_core.specs.Line.{lines_text}
-use Rattle.page_io.specs.Content.{Told}
-use Rattle.page_io.specs.Faults.{Rose}
-use Rattle.page_io.specs.Taken.{Takes, TakesFront}
 use Rattle.js_machine.specs.declared.event.Event.{Event}
 use Rattle.js_machine.specs.Run.{lines_of_run}
-use Rattle.imagen.specs.declared.status.Status.{Status}
-use Rattle.imagen.specs.declared.status.Status.TheVariants.{Ok, PageRefused, Usage, EventsRefused, ReadFault, WriteFault, OutOfMemory}
 use Rattle.imagen.specs.declared.page.Accepted.{Accepted}
-use Rattle.imagen.specs.Page.{IsAccepted, IsRefusedAs}
+use Rattle.imagen.specs.Page.{IsAccepted}
 use Rattle.imagen.specs.Events.{events_of}
-use Rattle.imagen.specs.Command.{Command, replay}
 
 -- a page file and an event file have at most so many bytes
 abbrev pub page_limit : ℕ
@@ -19,12 +13,6 @@ page_limit = 16777216
 
 abbrev pub event_file_limit : ℕ
 event_file_limit = 4194304
-
--- of the bytes that a name holds, where that is told; a name that is told to hold nothing has none
-abbrev pub Of : Told → (List ℕ → Type 0) → Type 0
-Of None P = Unit {0}
-Of (Some None) P = ⊥
-Of (Some (Some content)) P = P content
 
 -- the bytes are not too long, and accepted as this page
 pub record IsPage (bytes : List ℕ) (page : Accepted) : Type 0 where
@@ -34,7 +22,7 @@ pub record IsPage (bytes : List ℕ) (page : Accepted) : Type 0 where
 -- the file is not too long, and holds these events
 pub record IsEventFile (file : List ℕ) (events : List Event) : Type 0 where
   pub fits : length file ≤ event_file_limit
-  pub holds : events_of file ≡ Read events
+  pub holds : events_of file ≡ Ok events
 
 -- the text of the lines of loading the page, and then of those of the events of the file
 pub record Replays (bytes file text : List ℕ) : Type 0 where
@@ -43,87 +31,3 @@ pub record Replays (bytes file text : List ℕ) : Type 0 where
   pub of_page : IsPage bytes page
   pub of_file : IsEventFile file events
   pub lines : text ≡ lines_text (lines_of_run page.script events)
-
--- why a page is refused: it is too long, or it is not and this is the first cause
-abbrev pub RefusesPage : Status → Told → Type 0
-RefusesPage (PageRefused None) page = Of page (λ bytes. page_limit < length bytes)
-RefusesPage (PageRefused (Some r)) page = Of page (λ bytes. (length bytes ≤ page_limit) × IsRefusedAs bytes r)
-RefusesPage status page = Unit {0}
-
--- the file is too long, or it is not and holds no list of events
-abbrev pub IsNoEventFile : List ℕ → ℕ → Type 0
-IsNoEventFile file i = ((event_file_limit < length file) × (i ≡ 0)) ⊎ ((length file ≤ event_file_limit) × (events_of file ≡ Err i))
-
--- why the events are refused: the page is accepted, and the event file is not
-abbrev pub RefusesEvents : Status → Told → Told → Type 0
-RefusesEvents (EventsRefused i) page file = Of page (λ bytes. (accepted : Accepted) × IsPage bytes accepted) × Of file (λ bytes. IsNoEventFile bytes i)
-RefusesEvents status page file = Unit {0}
-
--- what is put to the output: the whole text, a front of it after a fault of the output, and else nothing
-abbrev pub Puts : Status → Told → Told → Option (List ℕ) → Option (List ℕ) → Type 0
-Puts Ok page file before now = Of page (λ p. Of file (λ e. (text : List ℕ) × Replays p e text × Takes before now text))
-Puts WriteFault page file before now = Of page (λ p. Of file (λ e. (text : List ℕ) × Replays p e text × TakesFront before now text))
-Puts Usage page file before now = ⊥
-Puts status page file before now = now ≡ before
-
--- a read failed in this call, and the last one that failed was of this or that name
-pub record ReadFailed (before now : ℕ) (failed : Option (List ℕ)) (page events : List ℕ) : Type 0 where
-  pub rose : Rose before now
-  pub named : (failed ≡ Some page) ⊎ (failed ≡ Some events)
-
-abbrev pub WhyReadFault : Status → ℕ → ℕ → Option (List ℕ) → List ℕ → List ℕ → Type 0
-WhyReadFault ReadFault before now failed page events = ReadFailed before now failed page events
-WhyReadFault status before now failed page events = Unit {0}
-
-abbrev pub WhyWriteFault : Status → ℕ → ℕ → Type 0
-WhyWriteFault WriteFault before now = Rose before now
-WhyWriteFault status before now = Unit {0}
-
--- What is seen of files and output before and after a command.
-pub record Seen : Type 0 where
-  -- what the page's name and that of the events hold
-  pub page : Told
-  pub events : Told
-  -- the counts of failed reads, and the name of the last one
-  pub reads_before : ℕ
-  pub reads_now : ℕ
-  pub failed : Option (List ℕ)
-  -- the counts of failed puts, and the bytes taken
-  pub puts_before : ℕ
-  pub puts_now : ℕ
-  pub taken_before : Option (List ℕ)
-  pub taken_now : Option (List ℕ)
-
--- Each status of `replay` has its cause, and says what was put. The causes exclude each other in the order of the
--- work (page, acceptance, events, lines, writing), so each comes exactly where it says, but for want of memory and
--- faults of the outside.
-pub record ReplayEnds (status : Status) (page events : List ℕ) (seen : Seen) : Type 0 where
-  pub page_refused : RefusesPage status seen.page
-  pub events_refused : RefusesEvents status seen.page seen.events
-  pub read_fault : WhyReadFault status seen.reads_before seen.reads_now seen.failed page events
-  pub write_fault : WhyWriteFault status seen.puts_before seen.puts_now
-  pub puts : Puts status seen.page seen.events seen.taken_before seen.taken_now
-
--- of the file words of a `replay`
-abbrev pub OnReplay : Option Command → (List ℕ → List ℕ → Type 0) → Type 0
-OnReplay None P = Unit {0}
-OnReplay (Some (replay page events)) P = P page events
-
--- why reading the page ends the command
-abbrev pub StopsAtPage : Status → Told → Type 0
-StopsAtPage (PageRefused r) page = RefusesPage (PageRefused r) page
-StopsAtPage ReadFault page = Unit {0}
-StopsAtPage OutOfMemory page = Unit {0}
-StopsAtPage status page = ⊥
-
--- why reading the events ends the command
-abbrev pub StopsAtEvents : Status → Told → Type 0
-StopsAtEvents (EventsRefused i) file = Of file (λ bytes. IsNoEventFile bytes i)
-StopsAtEvents ReadFault file = Unit {0}
-StopsAtEvents OutOfMemory file = Unit {0}
-StopsAtEvents status file = ⊥
-
--- a read of this name that ends the command with `ReadFault` failed in the call
-pub record CountsReads {T : Type 0} (before now : ℕ) (failed : Option (List ℕ)) (name : List ℕ) (result : Result T Status) : Type 0 where
-  pub later : before ≤ now
-  pub rose : result ≡ Err ReadFault → Rose before now × (failed ≡ Some name)

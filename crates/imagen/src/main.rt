@@ -13,12 +13,16 @@ use std::rt::Env;
 
 mod command;
 mod events;
+mod notes;
 mod page;
+mod reading;
 mod replay;
 mod run;
+mod saving;
 mod status;
 #[cfg(test)]
 mod tests;
+mod work;
 
 // The words after the program's name.
 fn words_of<R: Env + AllocGlobal>(rt: &R) -> io::Result<Vec<String>> {

@@ -1,0 +1,62 @@
+//! The note of a status.
+
+ghost use Rattle.std.specs.Prelude.{◌++◌, OnOk, OnErr};
+ghost use Rattle.page_io.specs.Faults.{CountsFaults};
+ghost use Rattle.page_io.specs.Taken.{Takes, TakesFront};
+ghost use Rattle.imagen.specs.Notes.{note_of, Noted};
+
+use crate::status::{Refusal, Status};
+use itoa::Buffer;
+use page_io::sink::{PutFault, Sink};
+
+// Puts three pieces, as long as none fails.
+fn put_three<N: Sink>(
+    notes: &mut N,
+    first: &[u8],
+    second: &[u8],
+    third: &[u8],
+) -> Result<(), PutFault>
+    ensures ok { OnOk result (Takes (N.taken notes.old) (N.taken notes.new) (first.now ++ second.now ++ third.now)) }
+    ensures fault { OnErr result (TakesFront (N.taken notes.old) (N.taken notes.new) (first.now ++ second.now ++ third.now)) }
+    ensures counts { CountsFaults PutFault.Failed (N.faults notes.old) (N.faults notes.new) result }
+{
+    notes.put(first)?;
+    notes.put(second)?;
+    notes.put(third)
+}
+
+// Puts the note of a status.
+fn put_note<N: Sink>(notes: &mut N, status: Status) -> Result<(), PutFault>
+    ensures ok { OnOk result (Takes (N.taken notes.old) (N.taken notes.new) (note_of status)) }
+    ensures fault { OnErr result (TakesFront (N.taken notes.old) (N.taken notes.new) (note_of status)) }
+    ensures counts { CountsFaults PutFault.Failed (N.faults notes.old) (N.faults notes.new) result }
+{
+    let mut digits = Buffer::new();
+    match status {
+        Status::Ok => notes.put(b""),
+        Status::PageRefused(None) => notes.put(b"page refused: too long\n"),
+        Status::PageRefused(Some(Refusal::NotUtf8)) => notes.put(b"page refused: not utf-8\n"),
+        Status::PageRefused(Some(Refusal::NotBuilt(script))) => {
+            let number = digits.format(script).as_bytes();
+            put_three(notes, b"page refused: script ", number, b": not built\n")
+        }
+        Status::Usage => notes.put(
+            b"usage: imagen check P, replay P E, instrument P, save P E, stress N\n",
+        ),
+        Status::EventsRefused(item) => {
+            let number = digits.format(item).as_bytes();
+            put_three(notes, b"events refused: ", number, b"\n")
+        }
+        Status::ReadFault => notes.put(b"read fault\n"),
+        Status::WriteFault => notes.put(b"write fault\n"),
+        Status::OutOfMemory => notes.put(b"out of memory\n"),
+    }
+}
+
+/// Puts the note of a status: one line, and nothing where the command ended well. A fault of the notes changes nothing
+/// else.
+pub fn write_note<N: Sink>(notes: &mut N, status: Status)
+    ensures { Noted (note_of status) (N.taken notes.old) (N.taken notes.new) (N.faults notes.old) (N.faults notes.new) }
+{
+    let _ = put_note(notes, status);
+}

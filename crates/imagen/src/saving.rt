@@ -1,0 +1,173 @@
+//! The text that `save` writes.
+
+ghost use Rattle.std.specs.Prelude.{◌≡◌, ◌<◌, ◌≤◌, ◌++◌, IfOk, OnOk, Some, map, pos, neg_ℤ};
+ghost use Rattle.std.specs.List.{All};
+ghost use Rattle.std.specs.Rc.{rc_value};
+ghost use Rattle.js_core.specs.Whole.{InRange};
+ghost use Rattle.js_core.specs.Height.{stmts_height};
+ghost use Rattle.js_core.specs.Tree as tree;
+ghost use Rattle.js_core.specs.Tree.{stmts_of};
+ghost use Rattle.js_parser.specs.Items.{IsFirst};
+ghost use Rattle.js_machine.specs.Run.{run_of};
+ghost use Rattle.js_machine.specs.Saved as spec;
+ghost use Rattle.imagen.specs.Saving.{saved_page, before, before_maybe};
+
+use crate::replay::run_page;
+use indexmap::map::Slice;
+use js_core::memory::OutOfMemory;
+use js_core::operators::BinaryOp;
+use js_core::syntax::{Code, Declarator, Expr, ExprNode, Script, Stmt, StmtNode};
+use js_core::units::Units;
+use js_core::whole::Whole;
+use js_machine::cell::Cell;
+use js_machine::event::Event;
+use js_machine::first::First;
+use js_parser::printing::print_items;
+use std::alloc::Global;
+use std::rc::Rc;
+
+const SAVED_HEAD: &[u8] = b"<!--imagen 1--><html><script>\"use strict\";";
+const SAVED_TAIL: &[u8] = b"</script></html>";
+
+// The expression of a number.
+fn saved_number(alloc: Global, n: Whole) -> Result<Expr, OutOfMemory>
+    ensures { IfOk result (λ e. e ≡ spec.saved_number n) }
+{
+    let Some(number) = n.get() else {
+        return Ok(Expr {
+            node: ExprNode::Name(Units::from_utf8(alloc, "NaN")?),
+        });
+    };
+    if number < 0 {
+        from_zero(alloc, opposite(number))
+    } else {
+        Ok(literal(n))
+    }
+}
+
+// The number -n.
+fn opposite(number: i64) -> Whole
+    requires { InRange number }
+    ensures { result ≡ Some (neg_ℤ number) }
+{
+    match Whole::new(-number) {
+        Some(opposite) => opposite,
+        None => unreachable!(),
+    }
+}
+
+// The expression `0-N`.
+fn from_zero(alloc: Global, amount: Whole) -> Result<Expr, OutOfMemory>
+    ensures { IfOk result (λ e. e ≡ tree.binary BinaryOp.Sub (tree.num (Some (pos 0))) (tree.num amount)) }
+{
+    let zero = Box::new(alloc, literal(opposite(0)))?;
+    let amount = Box::new(alloc, literal(amount))?;
+    Ok(Expr {
+        node: ExprNode::Binary(BinaryOp::Sub, zero, amount),
+    })
+}
+
+fn literal(n: Whole) -> Expr
+    ensures { result ≡ tree.num n }
+{
+    Expr {
+        node: ExprNode::Num(n),
+    }
+}
+
+// The declaration of a variable that holds this, or nothing for a function.
+fn saved_variable(alloc: Global, name: &Units, cell: Cell) -> Result<Option<Stmt>, OutOfMemory>
+    ensures { IfOk result (λ item. (rest : tree.Stmts) → before_maybe item rest ≡ spec.saved_variable name.now cell rest) }
+{
+    let value = match cell {
+        Cell::Function(_) => return Ok(None),
+        Cell::Undefined => None,
+        Cell::Num(n) => Some(saved_number(alloc, n)?),
+    };
+    let mut declarators = Vec::new(alloc);
+    declarators.push(Declarator {
+        name: name.clone()?,
+        value,
+    })?;
+    Ok(Some(Stmt {
+        node: StmtNode::Var(declarators),
+    }))
+}
+
+// The declarations of the variables, in order, after what is there.
+fn push_variables(
+    alloc: Global,
+    names: Slice<'_, Units, Cell>,
+    items: &mut Vec<Stmt>,
+) -> Result<(), OutOfMemory>
+    ensures { OnOk result ((rest : tree.Stmts) → before items.new.items rest ≡ before items.old.items (spec.saved_variables names rest)) }
+{
+    let mut at = 0;
+    while let Some((name, cell)) = names.get_index(at) {
+        if let Some(item) = saved_variable(alloc, name, *cell)? {
+            items.push(item)?;
+        }
+        at += 1;
+    }
+    Ok(())
+}
+
+// The function declarations, in order, after what is there.
+fn push_functions(codes: &[Rc<Code>], items: &mut Vec<Stmt>) -> Result<(), OutOfMemory>
+    requires { stmts_height (spec.saved_functions (map rc_value codes.now)) ≤ 1000 }
+    ensures { OnOk result (stmts_of items.new.items ≡ before items.old.items (spec.saved_functions (map rc_value codes.now))) }
+{
+    let mut rest = codes;
+    while let [code, after @ ..] = rest {
+        items.push(Stmt {
+            node: StmtNode::Function(code.clone()?),
+        })?;
+        rest = after;
+    }
+    Ok(())
+}
+
+// The items that a page is saved as.
+fn saved_items(alloc: Global, page: &First) -> Result<Vec<Stmt>, OutOfMemory>
+    requires { IsFirst (spec.saved_script page.now) }
+    ensures { IfOk result (λ items. stmts_of items.items ≡ spec.saved_items page.now) }
+{
+    let mut items = Vec::new(alloc);
+    push_variables(alloc, page.names(), &mut items)?;
+    push_functions(page.codes().as_slice(), &mut items)?;
+    Ok(items)
+}
+
+// Appends ASCII characters, each a unit.
+fn push_ascii(units: &[u16], out: &mut Vec<u8>) -> Result<(), OutOfMemory>
+    requires { All (λ u. u < 128) units.now }
+    ensures { OnOk result (out.new.items ≡ out.old.items ++ units.now) }
+{
+    for unit in units {
+        out.push(*unit as u8)?;
+    }
+    Ok(())
+}
+
+// The saved page of what a page has.
+fn page_text(alloc: Global, page: &First) -> Result<Vec<u8>, OutOfMemory>
+    requires { IsFirst (spec.saved_script page.now) }
+    ensures { IfOk result (λ text. text.items ≡ saved_page page.now) }
+{
+    let items = saved_items(alloc, page)?;
+    let mut units = Vec::new(alloc);
+    print_items(&items, &mut units)?;
+    let mut text = Vec::from_slice(alloc, SAVED_HEAD)?;
+    push_ascii(&units, &mut text)?;
+    text.extend_from_slice(SAVED_TAIL)?;
+    Ok(text)
+}
+
+/// The page that is saved after the script and then the events.
+pub fn saved_text(alloc: Global, script: &Script, list: &[Event]) -> Result<Vec<u8>, OutOfMemory>
+    requires { IsFirst script.now }
+    ensures { IfOk result (λ text. text.items ≡ saved_page (run_of script.now list.now)) }
+{
+    let page = run_page(alloc, script, list)?;
+    page_text(alloc, &page)
+}

@@ -1,0 +1,73 @@
+//! What the commands do.
+
+ghost use Rattle.std.specs.Prelude.{◌≡◌, IfOk};
+ghost use Rattle.js_core.specs.Line.{lines_text};
+ghost use Rattle.js_parser.specs.Items.{IsFirst};
+ghost use Rattle.js_machine.specs.Run.{run_of, lines_of_run};
+ghost use Rattle.imagen.specs.Command.{view};
+ghost use Rattle.imagen.specs.Ending.{Ends, IsTextOf};
+
+use crate::command::{Command, Work};
+use crate::reading::{read_events, read_page};
+use crate::replay::replayed_text;
+use crate::saving::saved_text;
+use crate::status::Status;
+use js_core::memory::OutOfMemory;
+use js_core::syntax::Script;
+use js_machine::event::Event;
+use page_io::files::Files;
+use page_io::sink::Sink;
+use std::alloc::Global;
+
+// The text that a command writes for a script and events.
+fn text_of(
+    alloc: Global,
+    work: Work,
+    script: &Script,
+    list: &[Event],
+) -> Result<Vec<u8>, OutOfMemory>
+    requires { IsFirst script.now }
+    ensures { IfOk result (λ text. IsTextOf work script.now list.now text.items) }
+{
+    match work {
+        Work::Replay => replayed_text(alloc, script, list),
+        Work::Save => saved_text(alloc, script, list),
+    }
+}
+
+/// Does what the command asks for. The order is: reading and accepting the page, reading the events, loading and acting,
+/// writing. The first cause to end is the answer.
+pub fn perform<F: Files, O: Sink>(
+    alloc: Global,
+    command: Command<'_>,
+    files: &mut F,
+    out: &mut O,
+) -> Status
+    ensures { Ends (view command) result (record {
+      page = F.content files.old command.page.now;
+      events = F.content files.old command.events.now;
+      reads_before = F.faults files.old;
+      reads_now = F.faults files.new;
+      failed = F.failed files.new;
+      puts_before = O.faults out.old;
+      puts_now = O.faults out.new;
+      taken_before = O.taken out.old;
+      taken_now = O.taken out.new;
+    }) }
+{
+    let page = match read_page(alloc, files, command.page) {
+        Ok(page) => page,
+        Err(status) => return status,
+    };
+    let list = match read_events(alloc, files, command.events) {
+        Ok(list) => list,
+        Err(status) => return status,
+    };
+    let Ok(text) = text_of(alloc, command.work, &page.script, &list) else {
+        return Status::OutOfMemory;
+    };
+    match out.put(&text) {
+        Ok(()) => Status::Ok,
+        Err(_) => Status::WriteFault,
+    }
+}
