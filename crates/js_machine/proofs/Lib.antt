@@ -4,5 +4,6 @@ pub mod Limits
 pub mod Lines
 pub mod Names
 pub mod Sizes
+pub mod Smallest
 pub mod Stacks
 pub mod Steps

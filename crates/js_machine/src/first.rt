@@ -16,6 +16,7 @@ use crate::entry::{declare_functions, declare_variables};
 use crate::event::Event;
 use crate::globals::Globals;
 use crate::machine::{End, Meter, run, run_call};
+use indexmap::map::Slice;
 use js_core::line::{Line, LineKind};
 use js_core::memory::OutOfMemory;
 use js_core::syntax::Script;
@@ -131,6 +132,13 @@ impl First {
         ensures { result ≡ held_by self.now.names name.now }
     {
         self.globals.get(name)
+    }
+
+    /// The global names with what they hold, in the order in which they came.
+    pub fn names(&self) -> Slice<'_, Units, Cell>
+        ensures { result ≡ self.now.names }
+    {
+        self.globals.names()
     }
 
     /// The functions of the page, each at its place.

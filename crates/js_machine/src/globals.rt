@@ -6,6 +6,7 @@ ghost use Rattle.js_machine.specs.Entry.{bind_function, bind_variable};
 
 use crate::cell::Cell;
 use indexmap::IndexMap;
+use indexmap::map::Slice;
 use js_core::line::{Line, LineKind};
 use js_core::memory::OutOfMemory;
 use js_core::units::Units;
@@ -81,6 +82,13 @@ impl Globals {
     {
         self.lines.push(Line { kind, text })?;
         Ok(())
+    }
+
+    /// The names with what they hold, in the order in which they came.
+    pub fn names(&self) -> Slice<'_, Units, Cell>
+        ensures { result ≡ self.now.names }
+    {
+        self.names.as_slice()
     }
 
     /// The lines.

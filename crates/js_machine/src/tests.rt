@@ -1,11 +1,15 @@
 // Runs of small pages. The expected lines and values are worked out by hand from ECMA-262 5.1.
 
+ghost use Rattle.std.specs.Prelude.{◌≡◌, ◌≤◌, IfOk};
+ghost use Rattle.js_core.specs.Tree.{no_stmts, stmts_of};
+ghost use Rattle.js_core.specs.Views.{expr_of};
+ghost use Rattle.js_core.specs.Height.{expr_height, stmt_height, stmts_height};
+ghost use Rattle.js_parser.specs.Items.{with_directive};
+
 use crate::cell::Cell;
 use crate::event::Event;
-use crate::first::{First, load};
-use crate::globals::Globals;
-use crate::machine::{End, Meter, run_call};
-use crate::numbers::text_of;
+use crate::first::{First, load, load_first};
+use crate::numbers::{text_of, whole_add, whole_sub};
 use js_core::line::LineKind;
 use js_core::memory::OutOfMemory;
 use js_core::operators::BinaryOp;
@@ -13,11 +17,8 @@ use js_core::syntax::{Code, Declarator, Expr, ExprNode, Script, Stmt, StmtNode};
 use js_core::units::Units;
 use js_core::whole::Whole;
 use std::alloc::Global;
-use std::process::Abort;
 use std::rc::Rc;
 use std::test::Fail;
-
-const LARGEST: i64 = 9_007_199_254_740_991;
 
 fn whole(n: i64) -> Whole {
     match Whole::new(n) {
@@ -26,61 +27,89 @@ fn whole(n: i64) -> Whole {
     }
 }
 
-fn name(alloc: Global, text: &str) -> Result<Expr, OutOfMemory> {
-    Ok(Expr {
-        node: ExprNode::Name(Units::from_utf8(alloc, text)?),
-    })
-}
-
-fn number(n: i64) -> Expr {
+fn number(n: i64) -> Expr
+    ensures { expr_height result ≡ 1 }
+{
     Expr {
         node: ExprNode::Num(whole(n)),
     }
 }
 
-fn joined(alloc: Global, op: BinaryOp, a: Expr, b: Expr) -> Result<Expr, OutOfMemory> {
+fn name(alloc: Global, text: &str) -> Result<Expr, OutOfMemory>
+    ensures { IfOk result (λ e. expr_height e ≡ 1) }
+{
     Ok(Expr {
-        node: ExprNode::Binary(op, Box::new(alloc, a)?, Box::new(alloc, b)?),
+        node: ExprNode::Name(Units::from_utf8(alloc, text)?),
     })
 }
 
-fn statement(node: ExprNode) -> Stmt {
+fn statement(node: ExprNode) -> Stmt
+    requires { expr_height (expr_of node) ≤ 3 }
+    ensures { stmt_height result ≤ 9 }
+{
     Stmt {
         node: StmtNode::Expr(Expr { node }),
     }
 }
 
-fn assign(alloc: Global, x: &str, e: Expr) -> Result<Stmt, OutOfMemory> {
-    Ok(statement(ExprNode::Assign(None, Box::new(alloc, name(alloc, x)?)?, Box::new(alloc, e)?)))
+fn sum(alloc: Global, a: Expr, b: Expr) -> Result<Expr, OutOfMemory>
+    requires left { expr_height a ≡ 1 }
+    requires right { expr_height b ≡ 1 }
+    ensures { IfOk result (λ e. expr_height e ≡ 2) }
+{
+    Ok(Expr {
+        node: ExprNode::Binary(BinaryOp::Add, Box::new(alloc, a)?, Box::new(alloc, b)?),
+    })
 }
 
-fn log(alloc: Global, e: Expr) -> Result<Stmt, OutOfMemory> {
+// `x=x+n;`
+fn add(alloc: Global, x: &str, n: i64) -> Result<Stmt, OutOfMemory>
+    ensures { IfOk result (λ s. stmt_height s ≤ 9) }
+{
+    let value = sum(alloc, name(alloc, x)?, number(n))?;
+    let target = Box::new(alloc, name(alloc, x)?)?;
+    let value = Box::new(alloc, value)?;
+    Ok(statement(ExprNode::Assign(None, target, value)))
+}
+
+// `console.log(x);`
+fn log(alloc: Global, x: &str) -> Result<Stmt, OutOfMemory>
+    ensures { IfOk result (λ s. stmt_height s ≤ 9) }
+{
     let console = Box::new(alloc, name(alloc, "console")?)?;
     let callee = Expr {
         node: ExprNode::Member(console, Units::from_utf8(alloc, "log")?),
     };
-    let mut args = Vec::new(alloc);
-    args.push(e)?;
+    let args = vec![in alloc; name(alloc, x)?]?;
     Ok(statement(ExprNode::Call(Box::new(alloc, callee)?, args)))
 }
 
-fn call(alloc: Global, x: &str) -> Result<Stmt, OutOfMemory> {
+// `x();`
+fn call(alloc: Global, x: &str) -> Result<Stmt, OutOfMemory>
+    ensures { IfOk result (λ s. stmt_height s ≤ 9) }
+{
     let callee = Box::new(alloc, name(alloc, x)?)?;
     Ok(statement(ExprNode::Call(callee, Vec::new(alloc))))
 }
 
-fn var(alloc: Global, x: &str, value: Option<Expr>) -> Result<Stmt, OutOfMemory> {
-    let mut declarators = Vec::new(alloc);
-    declarators.push(Declarator {
+// `var x=n;`
+fn var(alloc: Global, x: &str, n: i64) -> Result<Stmt, OutOfMemory>
+    ensures { IfOk result (λ s. stmt_height s ≤ 9) }
+{
+    let declarator = Declarator {
         name: Units::from_utf8(alloc, x)?,
-        value,
-    })?;
+        value: Some(number(n)),
+    };
     Ok(Stmt {
-        node: StmtNode::Var(declarators),
+        node: StmtNode::Var(vec![in alloc; declarator]?),
     })
 }
 
-fn function(alloc: Global, x: &str, body: Vec<Stmt>) -> Result<Stmt, OutOfMemory> {
+// `function x(){body}`
+fn function(alloc: Global, x: &str, body: Vec<Stmt>) -> Result<Stmt, OutOfMemory>
+    requires { stmts_height (stmts_of body.items) ≤ 9 }
+    ensures { IfOk result (λ s. stmt_height s ≤ 12) }
+{
     let code = Code {
         name: Some(Units::from_utf8(alloc, x)?),
         formals: Vec::new(alloc),
@@ -91,215 +120,184 @@ fn function(alloc: Global, x: &str, body: Vec<Stmt>) -> Result<Stmt, OutOfMemory
     })
 }
 
-// `x=x+n;`
-fn add(alloc: Global, x: &str, n: i64) -> Result<Stmt, OutOfMemory> {
-    let sum = joined(alloc, BinaryOp::Add, name(alloc, x)?, number(n))?;
-    assign(alloc, x, sum)
+fn two(alloc: Global, a: Stmt, b: Stmt) -> Result<Vec<Stmt>, OutOfMemory>
+    requires first { stmt_height a ≤ 9 }
+    requires second { stmt_height b ≤ 9 }
+    ensures { IfOk result (λ all. stmts_height (stmts_of all.items) ≤ 9) }
+{
+    Ok(vec![in alloc; a, b]?)
 }
 
-fn page(alloc: Global, body: Vec<Stmt>) -> Result<First, OutOfMemory> {
-    load(alloc, &Script { body })
+fn script(alloc: Global, a: Stmt, b: Stmt, c: Stmt) -> Result<Script, OutOfMemory>
+    requires first { stmt_height a ≤ 12 }
+    requires second { stmt_height b ≤ 12 }
+    requires third { stmt_height c ≤ 12 }
+{
+    Ok(Script {
+        body: vec![in alloc; a, b, c]?,
+    })
 }
 
 fn event(alloc: Global, x: &str) -> Result<Event, OutOfMemory> {
     Ok(Event::Call(Units::from_utf8(alloc, x)?))
 }
 
-fn has_line(
+// Whether the last line of the page, which has so many, is this one.
+fn ends_with(
+    alloc: Global,
     page: &First,
-    at: usize,
+    count: usize,
     kind: LineKind,
     text: &str,
-    alloc: Global,
 ) -> Result<bool, OutOfMemory> {
     let text = Units::from_utf8(alloc, text)?;
-    Ok(match page.lines().get(at) {
-        Some(line) => line.kind == kind && line.text == text,
+    Ok(match page.lines().last() {
+        Some(line) => page.lines().len() == count && line.kind == kind && line.text == text,
         None => false,
     })
 }
 
-fn holds(page: &First, x: &str, cell: Cell, alloc: Global) -> Result<bool, OutOfMemory> {
-    Ok(page.cell(&Units::from_utf8(alloc, x)?) == Some(cell))
+fn holds(alloc: Global, page: &First, x: &str, n: i64) -> Result<bool, OutOfMemory> {
+    Ok(page.cell(&Units::from_utf8(alloc, x)?) == Some(Cell::Num(whole(n))))
+}
+
+// `var n=FIRST; function f(){n=n+1;LAST} LAST`
+fn counter(alloc: Global, first: i64, last: Stmt, end: Stmt) -> Result<First, OutOfMemory>
+    requires last { stmt_height last ≤ 9 }
+    requires end { stmt_height end ≤ 9 }
+{
+    let body = two(alloc, add(alloc, "n", 1)?, last)?;
+    let f = function(alloc, "f", body)?;
+    load(alloc, &script(alloc, var(alloc, "n", first)?, f, end)?)
 }
 
 #[test]
 fn counts_the_calls_of_a_function(rt: HostRuntime) -> Result<(), Fail> {
     let alloc = rt.alloc();
-    let body = vec![in alloc; add(alloc, "n", 1)?, log(alloc, name(alloc, "n")?)?]?;
-    let script = vec![in alloc;
-        var(alloc, "n", Some(number(0)))?,
-        function(alloc, "f", body)?,
-    ]?;
-    let mut page = page(alloc, script)?;
-    assert_eq!(rt; page.lines().len(), 0);
+    let mut page = counter(alloc, 4, log(alloc, "n")?, call(alloc, "f")?)?;
+    assert!(rt; ends_with(alloc, &page, 1, LineKind::Log, "5")?);
     page.act(&event(alloc, "f")?)?;
-    page.act(&event(alloc, "f")?)?;
-    assert!(rt; has_line(&page, 0, LineKind::Log, "1", alloc)?);
-    assert!(rt; has_line(&page, 1, LineKind::Log, "2", alloc)?);
-    assert!(rt; holds(&page, "n", Cell::Num(whole(2)), alloc)?);
-    assert_eq!(rt; page.lines().len(), 2);
-    Ok(())
-}
-
-#[test]
-fn throws_where_a_sum_is_out_of_range(rt: HostRuntime) -> Result<(), Fail> {
-    let alloc = rt.alloc();
-    let body = vec![in alloc; add(alloc, "n", 1)?, assign(alloc, "m", number(7))?]?;
-    let script = vec![in alloc;
-        function(alloc, "f", body)?,
-        var(alloc, "n", Some(number(LARGEST)))?,
-        var(alloc, "m", None)?,
-    ]?;
-    let mut page = page(alloc, script)?;
-    page.act(&event(alloc, "f")?)?;
-    assert!(rt;
-        has_line(
-            &page,
-            0,
-            LineKind::Uncaught,
-            "RangeError: number out of range",
-            alloc
-        )?
-    );
-    assert!(rt; holds(&page, "n", Cell::Num(whole(LARGEST)), alloc)?);
-    assert!(rt; holds(&page, "m", Cell::Undefined, alloc)?);
-    Ok(())
-}
-
-#[test]
-fn what_is_no_number_adds_to_nan(rt: HostRuntime) -> Result<(), Fail> {
-    let alloc = rt.alloc();
-    let nan_less_one = joined(alloc, BinaryOp::Sub, name(alloc, "NaN")?, number(1))?;
-    let undefined_and_one = joined(alloc, BinaryOp::Add, name(alloc, "undefined")?, number(1))?;
-    let one_and_f = joined(alloc, BinaryOp::Add, number(1), name(alloc, "f")?)?;
-    let two_less_five = joined(alloc, BinaryOp::Sub, number(2), number(5))?;
-    let script = vec![in alloc;
-        function(alloc, "f", Vec::new(alloc))?,
-        log(alloc, nan_less_one)?,
-        log(alloc, undefined_and_one)?,
-        log(alloc, one_and_f)?,
-        log(alloc, two_less_five)?,
-        log(alloc, name(alloc, "f")?)?,
-        log(alloc, name(alloc, "undefined")?)?,
-    ]?;
-    let page = page(alloc, script)?;
-    let texts = ["NaN", "NaN", "NaN", "-3", "[object Function]", "undefined"];
-    for (at, text) in texts.iter().enumerate() {
-        assert!(rt; has_line(&page, at, LineKind::Log, text, alloc)?, "{at}");
-    }
-    assert_eq!(rt; page.lines().len(), 6);
-    Ok(())
-}
-
-#[test]
-fn tells_why_a_name_is_not_called(rt: HostRuntime) -> Result<(), Fail> {
-    let alloc = rt.alloc();
-    let script = vec![in alloc; var(alloc, "n", None)?]?;
-    let mut page = page(alloc, script)?;
-    page.act(&event(alloc, "n")?)?;
-    page.act(&event(alloc, "g")?)?;
-    assert!(rt;
-        has_line(
-            &page,
-            0,
-            LineKind::Uncaught,
-            "TypeError: not a function",
-            alloc
-        )?
-    );
-    assert!(rt;
-        has_line(
-            &page,
-            1,
-            LineKind::Uncaught,
-            "ReferenceError: g is not defined",
-            alloc
-        )?
-    );
+    assert!(rt; ends_with(alloc, &page, 2, LineKind::Log, "6")?);
+    assert!(rt; holds(alloc, &page, "n", 6)?);
     Ok(())
 }
 
 #[test]
 fn a_thousand_functions_are_active_at_most(rt: HostRuntime) -> Result<(), Fail> {
     let alloc = rt.alloc();
-    let body = vec![in alloc; add(alloc, "n", 1)?, call(alloc, "f")?, add(alloc, "n", 1)?]?;
-    let script = vec![in alloc;
-        var(alloc, "n", Some(number(0)))?,
-        function(alloc, "f", body)?,
-    ]?;
-    let mut page = page(alloc, script)?;
+    let mut page = counter(alloc, 0, call(alloc, "f")?, log(alloc, "undefined")?)?;
     page.act(&event(alloc, "f")?)?;
-    assert!(rt; has_line(&page, 0, LineKind::Uncaught, "RangeError: too deep", alloc)?);
-    assert!(rt; holds(&page, "n", Cell::Num(whole(1000)), alloc)?);
+    assert!(rt; ends_with(alloc, &page, 2, LineKind::Uncaught, "RangeError: too deep")?);
+    assert!(rt; holds(alloc, &page, "n", 1000)?);
     Ok(())
 }
 
 #[test]
-fn goes_on_behind_a_call_that_ends(rt: HostRuntime) -> Result<(), Fail> {
+fn a_sum_out_of_range_throws(rt: HostRuntime) -> Result<(), Fail> {
     let alloc = rt.alloc();
-    let inner = vec![in alloc; log(alloc, number(1))?]?;
-    let outer = vec![in alloc;
-        call(alloc, "f")?,
-        log(alloc, number(2))?,
-        call(alloc, "f")?,
-    ]?;
-    let script = vec![in alloc;
-        call(alloc, "g")?,
-        function(alloc, "f", inner)?,
-        function(alloc, "g", outer)?,
-        log(alloc, number(3))?,
-    ]?;
-    let page = page(alloc, script)?;
-    for (at, text) in ["1", "2", "1", "3"].iter().enumerate() {
-        assert!(rt; has_line(&page, at, LineKind::Log, text, alloc)?, "{at}");
-    }
-    assert_eq!(rt; page.lines().len(), 4);
-    Ok(())
-}
-
-#[test]
-fn what_was_done_before_an_exception_stays(rt: HostRuntime) -> Result<(), Fail> {
-    let alloc = rt.alloc();
-    let script = vec![in alloc;
-        var(alloc, "n", Some(number(5)))?,
-        log(alloc, name(alloc, "n")?)?,
-        add(alloc, "m", 1)?,
-        log(alloc, number(8))?,
-        var(alloc, "k", Some(number(6)))?,
-    ]?;
-    let page = page(alloc, script)?;
-    assert!(rt; has_line(&page, 0, LineKind::Log, "5", alloc)?);
+    let mut page = counter(alloc, Whole::LARGEST, log(alloc, "n")?, log(alloc, "f")?)?;
+    assert!(rt; ends_with(alloc, &page, 1, LineKind::Log, "[object Function]")?);
+    page.act(&event(alloc, "f")?)?;
     assert!(rt;
-        has_line(
+        ends_with(
+            alloc,
+            &page,
+            2,
+            LineKind::Uncaught,
+            "RangeError: number out of range"
+        )?
+    );
+    assert!(rt; holds(alloc, &page, "n", Whole::LARGEST)?);
+    Ok(())
+}
+
+#[test]
+fn tells_why_a_name_is_not_called(rt: HostRuntime) -> Result<(), Fail> {
+    let alloc = rt.alloc();
+    let mut page = counter(alloc, 1, log(alloc, "n")?, add(alloc, "m", 1)?)?;
+    assert!(rt;
+        ends_with(
+            alloc,
             &page,
             1,
             LineKind::Uncaught,
-            "ReferenceError: m is not defined",
-            alloc
+            "ReferenceError: m is not defined"
         )?
     );
-    assert_eq!(rt; page.lines().len(), 2);
-    assert!(rt; holds(&page, "k", Cell::Undefined, alloc)?);
+    assert!(rt; holds(alloc, &page, "n", 1)?);
+    page.act(&event(alloc, "n")?)?;
+    assert!(rt;
+        ends_with(
+            alloc,
+            &page,
+            2,
+            LineKind::Uncaught,
+            "TypeError: not a function"
+        )?
+    );
+    page.act(&event(alloc, "g")?)?;
+    assert!(rt;
+        ends_with(
+            alloc,
+            &page,
+            3,
+            LineKind::Uncaught,
+            "ReferenceError: g is not defined"
+        )?
+    );
     Ok(())
 }
 
 #[test]
 fn stops_where_no_step_is_left(rt: HostRuntime) -> Result<(), Fail> {
     let alloc = rt.alloc();
-    let g = vec![in alloc; add(alloc, "n", 1)?]?;
-    let f = vec![in alloc; call(alloc, "g")?, call(alloc, "g")?, call(alloc, "g")?]?;
-    let script = vec![in alloc;
-        var(alloc, "n", Some(number(0)))?,
-        function(alloc, "f", f)?,
-        function(alloc, "g", g)?,
-    ]?;
-    let mut page = page(alloc, script)?;
+    let mut page = counter(alloc, 0, call(alloc, "f")?, log(alloc, "NaN")?)?;
     page.call_within(&Units::from_utf8(alloc, "f")?, 3)?;
-    assert!(rt; holds(&page, "n", Cell::Num(whole(2)), alloc)?);
-    assert!(rt; has_line(&page, 0, LineKind::Stopped, "", alloc)?);
-    page.call_within(&Units::from_utf8(alloc, "f")?, 4)?;
-    assert!(rt; holds(&page, "n", Cell::Num(whole(5)), alloc)?);
-    assert_eq!(rt; page.lines().len(), 1);
+    assert!(rt; ends_with(alloc, &page, 2, LineKind::Stopped, "")?);
+    assert!(rt; holds(alloc, &page, "n", 3)?);
+    Ok(())
+}
+
+fn shows(alloc: Global, cell: Cell, text: &str) -> Result<bool, OutOfMemory> {
+    Ok(text_of(alloc, cell)? == Units::from_utf8(alloc, text)?)
+}
+
+#[test]
+fn numbers_are_exact_or_nan(rt: HostRuntime) -> Result<(), Fail> {
+    let alloc = rt.alloc();
+    let nan = Whole::nan();
+    assert_eq!(rt; whole_add(whole(Whole::LARGEST), whole(1)), None);
+    assert_eq!(rt; whole_sub(whole(-Whole::LARGEST), whole(1)), None);
+    assert_eq!(rt; whole_sub(nan, whole(1)), Some(nan));
+    assert_eq!(rt; whole_add(whole(1), nan), Some(nan));
+    assert_eq!(rt; whole_sub(whole(2), whole(5)), Some(whole(-3)));
+    assert!(rt; shows(alloc, Cell::Num(whole(-3)), "-3")?);
+    assert!(rt; shows(alloc, Cell::Num(nan), "NaN")?);
+    assert!(rt; shows(alloc, Cell::Undefined, "undefined")?);
+    Ok(())
+}
+
+// `"use strict";`
+fn directive_alone(alloc: Global) -> Result<Script, OutOfMemory>
+    ensures { IfOk result (λ script. script ≡ with_directive no_stmts) }
+{
+    let directive = Expr {
+        node: ExprNode::Text(Units::from_utf8(alloc, "use strict")?),
+    };
+    Ok(Script {
+        body: vec![in alloc;
+            Stmt {
+                node: StmtNode::Expr(directive)
+            },
+        ]?,
+    })
+}
+
+#[test]
+#[tactic(auto, using(crate::proofs::Smallest::smallest_is_first))]
+fn loads_the_smallest_script(rt: HostRuntime) -> Result<(), Fail> {
+    let page = load_first(rt.alloc(), &directive_alone(rt.alloc())?)?;
+    assert_eq!(rt; page.lines().len(), 0);
+    assert_eq!(rt; page.names().len(), 0);
     Ok(())
 }
