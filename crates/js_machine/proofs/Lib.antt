@@ -1,8 +1,15 @@
 pub mod Entering
 pub mod Evaluation
+pub mod Frames
+pub mod Keeps
+pub mod KeptRuns
 pub mod Limits
 pub mod Lines
 pub mod Names
+pub mod SavedLoading
+pub mod SavedNames
+pub mod SavedPages
+pub mod SavedShape
 pub mod Sizes
 pub mod Smallest
 pub mod Stacks

@@ -11,5 +11,6 @@ pub mod first;
 pub mod globals;
 pub mod machine;
 pub mod numbers;
+pub mod saving;
 #[cfg(test)]
 mod tests;
