@@ -120,7 +120,7 @@ term_is_sum e h = absurd h
 
 found_plain : (es : Names) (x : List ℕ) (v : Cell) → ArePlain es → held_by es x ≡ Some v → IsPlain v
 found_plain [] x v h e = cc
-found_plain (e ∷ es) x v h g = by_case (bytes_eq e.0 x) g (found_plain es x v h.1)
+found_plain (e ∷ es) x v h g = by_case (bytes_eq x e.0) g (found_plain es x v h.1)
   where
     by_case : (b : Bool) → (if b then Some e.1 else held_by es x) ≡ Some v → (held_by es x ≡ Some v → IsPlain v) → IsPlain v
     by_case true p more = let same : e.1 ≡ v = cc in rw (← same) h.0
@@ -128,7 +128,7 @@ found_plain (e ∷ es) x v h g = by_case (bytes_eq e.0 x) g (found_plain es x v 
 
 with_plain : (es : Names) (x : List ℕ) (v : Cell) → ArePlain es → IsPlain v → ArePlain (with_name es x v)
 with_plain [] x v h p = tt
-with_plain (e ∷ es) x v h p = by_case (bytes_eq e.0 x) (with_plain es x v h.1 p)
+with_plain (e ∷ es) x v h p = by_case (bytes_eq x e.0) (with_plain es x v h.1 p)
   where
     by_case : (b : Bool) → ArePlain (with_name es x v) → ArePlain (if b then (e.0, v) ∷ es else e ∷ with_name es x v)
     by_case true more = (p, h.1)

@@ -1,5 +1,5 @@
 -- Names in lists, and stores of names in two parts.
-use Rattle.std.proofs.Common.{◌≡◌, ℕ, ◌+◌, Bool, true, false, not, ◌||◌, List, [], ◌∷◌, ◌++◌, map, Option, Some, None, if◌then◌else◌, bytes_eq, refl, ap, ◌∙◌}
+use Rattle.std.proofs.Common.{◌≡◌, ℕ, ◌+◌, Bool, true, false, not, ◌||◌, List, [], ◌∷◌, ◌++◌, map, Option, Some, None, if◌then◌else◌, bytes_eq, refl, ap, sym, ◌∙◌}
 use Rattle.std.specs.List.{list_all}
 use Rattle.std.proofs.lemmas.Bool.{and_parts, or_parts, not-true}
 use Rattle.std.proofs.lemmas.Cmp.{nat_list_eq_equiv}
@@ -43,13 +43,13 @@ found_in_cond false v o h = (refl, h)
 pub held_after : (fs es : Names) (x : List ℕ) → held_by fs x ≡ None → held_by (fs ++ es) x ≡ held_by es x
 held_after [] es x h = refl
 held_after (f ∷ fs) es x h =
-    let both = found_in_cond (bytes_eq f.0 x) f.1 (held_by fs x) h in
+    let both = found_in_cond (bytes_eq x f.0) f.1 (held_by fs x) h in
     rw both.0 (held_after fs es x both.1)
 
 pub with_after : (fs es : Names) (x : List ℕ) (v : Cell) → held_by fs x ≡ None → with_name (fs ++ es) x v ≡ fs ++ with_name es x v
 with_after [] es x v h = refl
 with_after (f ∷ fs) es x v h =
-    let both = found_in_cond (bytes_eq f.0 x) f.1 (held_by fs x) h in
+    let both = found_in_cond (bytes_eq x f.0) f.1 (held_by fs x) h in
     rw both.0 (ap (λ r. f ∷ r) (with_after fs es x v both.1))
 
 keys_cond : (b : Bool) (e : List ℕ × Cell) (es : Names) (v : Cell) (more : Names) → keys more ≡ keys es → keys (if b then (e.0, v) ∷ es else e ∷ more) ≡ e.0 ∷ keys es
@@ -59,13 +59,10 @@ keys_cond false e es v more h = ap (λ r. e.0 ∷ r) h
 -- an assignment keeps the names
 pub keys-with_name : (es : Names) (x : List ℕ) (v : Cell) → keys (with_name es x v) ≡ keys es
 keys-with_name [] x v = refl
-keys-with_name (e ∷ es) x v = keys_cond (bytes_eq e.0 x) e es v (with_name es x v) (keys-with_name es x v)
+keys-with_name (e ∷ es) x v = keys_cond (bytes_eq x e.0) e es v (with_name es x v) (keys-with_name es x v)
 
 bytes_eq_self : (x : List ℕ) → bytes_eq x x ≡ true
 bytes_eq_self x = nat_list_eq_equiv.refl x
-
-bytes_eq_sym : (x y : List ℕ) → bytes_eq x y ≡ bytes_eq y x
-bytes_eq_sym x y = nat_list_eq_equiv.symm x y
 
 pub with_head : (es : Names) (x : List ℕ) (u v : Cell) → with_name ((x, u) ∷ es) x v ≡ (x, v) ∷ es
 with_head es x u v = rw (bytes_eq_self x) refl
@@ -157,7 +154,7 @@ Fresh front (e ∷ es) = (held_by front e.0 ≡ None) × Fresh (front ++ e ∷ [
 
 -- what is neither held by these nor this one is held by neither
 held_one_more : (front : Names) (e : List ℕ × Cell) (y : List ℕ) → held_by front y ≡ None → bytes_eq y e.0 ≡ false → held_by (front ++ e ∷ []) y ≡ None
-held_one_more front e y h g = held_after front (e ∷ []) y h ∙ rw (bytes_eq_sym e.0 y ∙ g) refl
+held_one_more front e y h g = held_after front (e ∷ []) y h ∙ rw g refl
 
 pub fresh : (all seen : List (List ℕ)) (front es : Names) → ((y : List ℕ) → is_one_of all y ≡ true → is_one_of seen y ≡ false → held_by front y ≡ None) → Among all (keys es) → Apart seen (keys es) → Fresh front es
 fresh all seen front [] h a p = tt
@@ -168,12 +165,12 @@ fresh all seen front (e ∷ es) h a p = (
 
 -- ---- the names of functions
 
-other_name : (vars : List (List ℕ)) (x f : List ℕ) (v : Cell) (o : Option Cell) → is_one_of vars x ≡ true → not (is_one_of vars f) ≡ true → o ≡ None → (if bytes_eq f x then Some v else o) ≡ None
-other_name vars x f v o h g p = by_case (bytes_eq f x) refl
+other_name : (vars : List (List ℕ)) (x f : List ℕ) (v : Cell) (o : Option Cell) → is_one_of vars x ≡ true → not (is_one_of vars f) ≡ true → o ≡ None → (if bytes_eq x f then Some v else o) ≡ None
+other_name vars x f v o h g p = by_case (bytes_eq x f) refl
   where
-    by_case : (b : Bool) → bytes_eq f x ≡ b → (if b then Some v else o) ≡ None
+    by_case : (b : Bool) → bytes_eq x f ≡ b → (if b then Some v else o) ≡ None
     by_case true e =
-        let there : is_one_of vars f ≡ true = ap (is_one_of vars) ((bytes_eq-Decides f x).0 e) ∙ h in
+        let there : is_one_of vars f ≡ true = ap (is_one_of vars) (sym ((bytes_eq-Decides x f).0 e)) ∙ h in
         let none : is_one_of vars f ≡ false = not-true _ g in
         cc (there, none)
     by_case false e = p
