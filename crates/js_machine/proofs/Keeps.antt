@@ -1,6 +1,8 @@
 -- What every act of a script keeps: the functions, the names with their order, and that variables hold numbers in range
 -- or undefined.
 use Rattle.std.proofs.Common.{◌≡◌, ℕ, ℤ, zero, suc, pos, ◌+ℤ◌, ◌-ℤ◌, Bool, true, false, ◌||◌, IsTrue, List, [], ◌∷◌, ◌++◌, Option, Some, None, if◌then◌else◌, codes, bytes_eq, slice_get, refl, ap, sym, ◌∙◌}
+use Rattle.std.specs.Map.{keys_of}
+use Rattle.std.proofs.lemmas.Map.{keys-set_value}
 use Rattle.std.proofs.lemmas.Bool.{and_parts, le-leb}
 use Rattle.js_core.specs.declared.operators.BinaryOp.TheVariants.{Add, Sub}
 use Rattle.js_core.specs.declared.line.LineKind.{LineKind}
@@ -17,7 +19,7 @@ use Rattle.js_machine.specs.Act.{Store, Outcome, Ended, Thrown, Abandoned, Act, 
 use Rattle.js_machine.specs.Numbers.{whole_by, to_number, text_of}
 use Rattle.js_machine.specs.Globals.{held_by, with_name}
 use Rattle.js_machine.specs.Meaning.{or_raise, read_global, write_name, put_line, console_log, operate, eval, exec, exec_all, callee, body_of, apply, call_name}
-use Rattle.js_machine.proofs.SavedNames.{Names, keys, held_after, with_after, keys-with_name}
+use Rattle.js_machine.proofs.SavedNames.{Names, held_after, with_after}
 
 -- a number in range, or NaN
 abbrev pub IsPlainNumber : Option ℤ → Type 0
@@ -38,7 +40,7 @@ ArePlain (e ∷ es) = IsPlain e.1 × ArePlain es
 pub record Keeps (fs : Names) (cs : List tree.Code) (vars : List (List ℕ)) (s : Store) : Type 0 where
   pub held : Names
   pub names : s.names ≡ fs ++ held
-  pub known : keys held ≡ vars
+  pub known : keys_of held ≡ vars
   pub plain : ArePlain held
   pub codes : s.codes ≡ cs
 
@@ -152,7 +154,7 @@ module _ (fs : Names) (cs : List tree.Code) (vars declared : List (List ℕ)) (f
   name_kept x v s d p k = record {
     held = with_name k.held x v;
     names = ap (λ es. with_name es x v) k.names ∙ with_after fs k.held x v (free x d);
-    known = keys-with_name k.held x v ∙ k.known;
+    known = keys-set_value (bytes_eq x) k.held v ∙ k.known;
     plain = with_plain k.held x v k.plain p;
     codes = k.codes;
   }

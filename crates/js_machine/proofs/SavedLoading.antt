@@ -1,6 +1,7 @@
 -- Loading what is saved gives the page.
 use Rattle.std.proofs.Common.{◌≡◌, ℕ, ℤ, suc, pos, negsuc, ◌-ℤ◌, true, List, [], ◌∷◌, ◌++◌, map, Option, Some, None, refl, ap, sym, ◌∙◌, subst, append-nil, append_assoc, arith}
 use Rattle.std.proofs.lemmas.Int.{ints}
+use Rattle.std.specs.Map.{keys_of}
 use Rattle.js_core.specs.Whole.{is_whole, whole_of}
 use Rattle.js_core.specs.declared.throw.Throw.TheVariants.{OutOfRange}
 use Rattle.js_core.specs.Tree as tree
@@ -12,7 +13,7 @@ use Rattle.js_machine.specs.Globals.{held_by}
 use Rattle.js_machine.specs.Meaning.{or_raise, eval, exec_all, write_name, call_name}
 use Rattle.js_machine.specs.Run.{step_limit, depth_limit, settled, codes_of, function_names, first_ones, entered, load_of}
 use Rattle.js_machine.specs.Saved.{saved_number, saved_variable, saved_variables, saved_functions, saved_script, without_lines}
-use Rattle.js_machine.proofs.SavedNames.{Names, keys, blank, map_keys, with_after, with_head, Apart, apart_first_ones, first_ones_again, Among, among_self, among_first, Fresh, fresh, no_function}
+use Rattle.js_machine.proofs.SavedNames.{Names, blank, map_keys, with_after, with_head, Apart, apart_first_ones, first_ones_again, Among, among_self, among_first, Fresh, fresh, no_function}
 use Rattle.js_machine.proofs.Keeps.{IsPlainNumber, IsPlain, ArePlain, Keeps}
 use Rattle.js_machine.proofs.KeptRuns.{FirstItems}
 use Rattle.js_machine.proofs.SavedShape.{saved_items_are, variables_saved, no_variables, codes_after, codes_saved}
@@ -58,14 +59,14 @@ functions_run calls [] s n = refl
 functions_run calls (c ∷ cs) s n = functions_run calls cs s n
 
 -- such a script is entered with its functions and its variables, each undefined
-enters : (cs : List tree.Code) (es : Names) → ArePlain es → first_ones [] (keys es) ≡ keys es → entered (with_directive (saved_variables es (saved_functions cs))) ≡ page (function_names 0 cs ++ blank es) cs
+enters : (cs : List tree.Code) (es : Names) → ArePlain es → first_ones [] (keys_of es) ≡ keys_of es → entered (with_directive (saved_variables es (saved_functions cs))) ≡ page (function_names 0 cs ++ blank es) cs
 enters cs es plain distinct =
     let functions : codes_of (saved_variables es (saved_functions cs)) ≡ cs = codes_after es (saved_functions cs) ∙ codes_saved cs in
-    let declares : variables_of (saved_variables es (saved_functions cs)) ≡ keys es = variables_saved es (saved_functions cs) plain ∙ ap (λ r. keys es ++ r) (no_variables cs) ∙ append-nil (keys es) in
+    let declares : variables_of (saved_variables es (saved_functions cs)) ≡ keys_of es = variables_saved es (saved_functions cs) plain ∙ ap (λ r. keys_of es ++ r) (no_variables cs) ∙ append-nil (keys_of es) in
     let variables : map (λ x. (x, Undefined)) (first_ones [] (variables_of (saved_variables es (saved_functions cs)))) ≡ blank es = ap (λ xs. map (λ x. (x, Undefined)) (first_ones [] xs)) declares ∙ ap (map (λ x. (x, Undefined))) distinct ∙ map_keys es in
     λ i. page (function_names 0 (functions i) ++ variables i) (functions i)
 
-loads_as : (cs : List tree.Code) (es : Names) → ArePlain es → first_ones [] (keys es) ≡ keys es → Fresh (function_names 0 cs) es → load_of (with_directive (saved_variables es (saved_functions cs))) ≡ page (function_names 0 cs ++ es) cs
+loads_as : (cs : List tree.Code) (es : Names) → ArePlain es → first_ones [] (keys_of es) ≡ keys_of es → Fresh (function_names 0 cs) es → load_of (with_directive (saved_variables es (saved_functions cs))) ≡ page (function_names 0 cs ++ es) cs
 loads_as cs es plain distinct new =
     let calls = call_name depth_limit in
     ap (λ s. settled ((exec_all calls (saved_variables es (saved_functions cs))).run s step_limit)) (enters cs es plain distinct)
@@ -77,9 +78,9 @@ pub saved_loads : (items : tree.Stmts) → FirstItems items → (s : Store) → 
 saved_loads items first s k =
     let cs = codes_of items in
     let vars = variables_of items in
-    let distinct : first_ones [] (keys k.held) ≡ keys k.held = ap (first_ones []) k.known ∙ first_ones_again vars ∙ sym k.known in
-    let among : Among vars (keys k.held) = subst (Among vars) (sym k.known) (among_first [] vars vars (among_self vars)) in
-    let apart : Apart [] (keys k.held) = subst (Apart []) (sym k.known) (apart_first_ones vars) in
+    let distinct : first_ones [] (keys_of k.held) ≡ keys_of k.held = ap (first_ones []) k.known ∙ first_ones_again vars ∙ sym k.known in
+    let among : Among vars (keys_of k.held) = subst (Among vars) (sym k.known) (among_first [] vars vars (among_self vars)) in
+    let apart : Apart [] (keys_of k.held) = subst (Apart []) (sym k.known) (apart_first_ones vars) in
     let new : Fresh (function_names 0 cs) k.held = fresh vars [] (function_names 0 cs) k.held (λ y b q. no_function vars y 0 items b first.apart) among apart in
     let same : page (function_names 0 cs ++ k.held) cs ≡ without_lines s = λ i. page (sym k.names i) (sym k.codes i) in
     ap (λ i. load_of (with_directive i)) (saved_items_are cs (first_ones [] vars) s k) ∙ loads_as cs k.held k.plain distinct new ∙ same

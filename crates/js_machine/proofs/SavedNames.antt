@@ -1,6 +1,7 @@
 -- Names in lists, and stores of names in two parts.
 use Rattle.std.proofs.Common.{◌≡◌, ℕ, ◌+◌, Bool, true, false, not, ◌||◌, List, [], ◌∷◌, ◌++◌, map, Option, Some, None, if◌then◌else◌, bytes_eq, refl, ap, sym, ◌∙◌}
 use Rattle.std.specs.List.{list_all}
+use Rattle.std.specs.Map.{keys_of}
 use Rattle.std.proofs.lemmas.Bool.{and_parts, or_parts, not-true}
 use Rattle.std.proofs.lemmas.Cmp.{nat_list_eq_equiv}
 use Rattle.std.proofs.lemmas.Slice.Eq.{bytes_eq-Decides}
@@ -16,21 +17,16 @@ use Rattle.js_machine.specs.Run.{codes_of, function_names, first_ones}
 abbrev pub Names : Type 0
 Names = List (List ℕ × Cell)
 
--- the names alone
-abbrev pub keys : Names → List (List ℕ)
-keys [] = []
-keys (e ∷ es) = e.0 ∷ keys es
-
 -- the names, each undefined
 abbrev pub blank : Names → Names
 blank [] = []
 blank (e ∷ es) = (e.0, Undefined) ∷ blank es
 
-pub map_keys : (es : Names) → map (λ x. (x, Undefined)) (keys es) ≡ blank es
+pub map_keys : (es : Names) → map (λ x. (x, Undefined)) (keys_of es) ≡ blank es
 map_keys [] = refl
 map_keys (e ∷ es) = ap (λ r. (e.0, Undefined) ∷ r) (map_keys es)
 
-pub keys_map : (xs : List (List ℕ)) → keys (map (λ x. (x, Undefined)) xs) ≡ xs
+pub keys_map : (xs : List (List ℕ)) → keys_of (map (λ x. (x, Undefined)) xs) ≡ xs
 keys_map [] = refl
 keys_map (x ∷ xs) = ap (λ r. x ∷ r) (keys_map xs)
 
@@ -51,15 +47,6 @@ with_after [] es x v h = refl
 with_after (f ∷ fs) es x v h =
     let both = found_in_cond (bytes_eq x f.0) f.1 (held_by fs x) h in
     rw both.0 (ap (λ r. f ∷ r) (with_after fs es x v both.1))
-
-keys_cond : (b : Bool) (e : List ℕ × Cell) (es : Names) (v : Cell) (more : Names) → keys more ≡ keys es → keys (if b then (e.0, v) ∷ es else e ∷ more) ≡ e.0 ∷ keys es
-keys_cond true e es v more h = refl
-keys_cond false e es v more h = ap (λ r. e.0 ∷ r) h
-
--- an assignment keeps the names
-pub keys-with_name : (es : Names) (x : List ℕ) (v : Cell) → keys (with_name es x v) ≡ keys es
-keys-with_name [] x v = refl
-keys-with_name (e ∷ es) x v = keys_cond (bytes_eq x e.0) e es v (with_name es x v) (keys-with_name es x v)
 
 bytes_eq_self : (x : List ℕ) → bytes_eq x x ≡ true
 bytes_eq_self x = nat_list_eq_equiv.refl x
@@ -156,7 +143,7 @@ Fresh front (e ∷ es) = (held_by front e.0 ≡ None) × Fresh (front ++ e ∷ [
 held_one_more : (front : Names) (e : List ℕ × Cell) (y : List ℕ) → held_by front y ≡ None → bytes_eq y e.0 ≡ false → held_by (front ++ e ∷ []) y ≡ None
 held_one_more front e y h g = held_after front (e ∷ []) y h ∙ rw g refl
 
-pub fresh : (all seen : List (List ℕ)) (front es : Names) → ((y : List ℕ) → is_one_of all y ≡ true → is_one_of seen y ≡ false → held_by front y ≡ None) → Among all (keys es) → Apart seen (keys es) → Fresh front es
+pub fresh : (all seen : List (List ℕ)) (front es : Names) → ((y : List ℕ) → is_one_of all y ≡ true → is_one_of seen y ≡ false → held_by front y ≡ None) → Among all (keys_of es) → Apart seen (keys_of es) → Fresh front es
 fresh all seen front [] h a p = tt
 fresh all seen front (e ∷ es) h a p = (
   h e.0 a.0 p.0,

@@ -2,6 +2,9 @@
 use Rattle.std.proofs.Common.{◌≡◌, ℕ, ℤ, suc, pos, negsuc, ◌+◌, ◌≤◌, max, Bool, true, false, not, ◌&&◌, ◌||◌, IsTrue, List, [], ◌∷◌, ◌++◌, Option, Some, None, if◌then◌else◌, refl, ap, sym, ◌∙◌, subst, append-nil, arith}
 use Rattle.std.specs.List.{list_all}
 use Rattle.std.proofs.lemmas.Bool.{and_parts, and_from, leb-true}
+use Rattle.std.specs.Map.{keys_of}
+use Rattle.std.proofs.Common.{le_trans}
+use Rattle.std.proofs.Math.Nat.{max-le, le-max_left, le-max_right}
 use Rattle.js_core.specs.Height.{expr_height, stmt_height, stmts_height}
 use Rattle.js_core.specs.Whole.{largest}
 use Rattle.js_core.specs.Tree as tree
@@ -13,7 +16,7 @@ use Rattle.js_machine.specs.declared.cell.Cell.TheVariants.{Undefined, Num, Func
 use Rattle.js_machine.specs.Act.{Store}
 use Rattle.js_machine.specs.Run.{codes_of, function_names, first_ones}
 use Rattle.js_machine.specs.Saved.{saved_number, saved_variable, saved_variables, saved_functions, saved_items, saved_script}
-use Rattle.js_machine.proofs.SavedNames.{Names, keys, one_of-first_ones}
+use Rattle.js_machine.proofs.SavedNames.{Names, one_of-first_ones}
 use Rattle.js_machine.proofs.Keeps.{IsPlainNumber, IsPlain, ArePlain, Keeps}
 use Rattle.js_machine.proofs.KeptRuns.{FirstItems}
 
@@ -29,11 +32,11 @@ saved_items_are cs vars s k = ap (λ es. saved_variables es (saved_functions s.c
 
 -- ---- what they declare
 
-pub variables_saved : (es : Names) (rest : tree.Stmts) → ArePlain es → variables_of (saved_variables es rest) ≡ keys es ++ variables_of rest
+pub variables_saved : (es : Names) (rest : tree.Stmts) → ArePlain es → variables_of (saved_variables es rest) ≡ keys_of es ++ variables_of rest
 variables_saved [] rest h = refl
 variables_saved (e ∷ es) rest h = by_case e.1 h.0 (variables_saved es rest h.1)
   where
-    by_case : (v : Cell) → IsPlain v → variables_of (saved_variables es rest) ≡ keys es ++ variables_of rest → variables_of (saved_variable e.0 v (saved_variables es rest)) ≡ e.0 ∷ (keys es ++ variables_of rest)
+    by_case : (v : Cell) → IsPlain v → variables_of (saved_variables es rest) ≡ keys_of es ++ variables_of rest → variables_of (saved_variable e.0 v (saved_variables es rest)) ≡ e.0 ∷ (keys_of es ++ variables_of rest)
     by_case Undefined p g = ap (λ r. e.0 ∷ r) g
     by_case (Num n) p g = ap (λ r. e.0 ∷ r) g
     by_case (Function k) p g = absurd p
@@ -96,7 +99,7 @@ number_is_sum None h = refl
 number_is_sum (Some (pos n)) h = leb-true n largest h
 number_is_sum (Some (negsuc n)) h = (omega arith, leb-true (suc n) largest h)
 
-variables_shaped : (es : Names) (rest : tree.Stmts) → ArePlain es → AreNames (keys es) → AreItems rest → AreItems (saved_variables es rest)
+variables_shaped : (es : Names) (rest : tree.Stmts) → ArePlain es → AreNames (keys_of es) → AreItems rest → AreItems (saved_variables es rest)
 variables_shaped [] rest h n g = g
 variables_shaped (e ∷ es) rest h n g = by_case e.1 h.0 (variables_shaped es rest h.1 n.1 g)
   where
@@ -172,9 +175,6 @@ number_low None = omega arith
 number_low (Some (pos n)) = omega arith
 number_low (Some (negsuc n)) = omega arith
 
-max_within : (a b n : ℕ) → a ≤ n → b ≤ n → max a b ≤ n
-max_within a b n h g = omega arith
-
 variables_low : (es : Names) (rest : tree.Stmts) (n : ℕ) → 4 ≤ n → stmts_height rest ≤ n → stmts_height (saved_variables es rest) ≤ n
 variables_low [] rest n h g = g
 variables_low (e ∷ es) rest n h g = by_case e.1 (variables_low es rest n h g)
@@ -183,15 +183,15 @@ variables_low (e ∷ es) rest n h g = by_case e.1 (variables_low es rest n h g)
     one_low a p = omega arith
 
     by_case : (v : Cell) → stmts_height (saved_variables es rest) ≤ n → stmts_height (saved_variable e.0 v (saved_variables es rest)) ≤ n
-    by_case Undefined q = max_within 2 (stmts_height (saved_variables es rest)) n (omega arith) q
-    by_case (Num k) q = max_within _ (stmts_height (saved_variables es rest)) n (one_low (expr_height (saved_number k)) (number_low k)) q
+    by_case Undefined q = max-le {a = 2} (omega arith) q
+    by_case (Num k) q = max-le (one_low (expr_height (saved_number k)) (number_low k)) q
     by_case (Function k) q = q
 
 right_within : (a b n : ℕ) → max a b ≤ n → b ≤ n
-right_within a b n h = omega arith
+right_within a b n h = le_trans (le-max_right a b) h
 
 max_keeps : (a b c n : ℕ) → max a b ≤ n → (b ≤ n → c ≤ n) → max a c ≤ n
-max_keeps a b c n h g = max_within a c n (omega arith) (g (omega arith))
+max_keeps a b c n h g = max-le (le_trans (le-max_left a b) h) (g (le_trans (le-max_right a b) h))
 
 functions_low : (ss : tree.Stmts) (n : ℕ) → stmts_height ss ≤ n → stmts_height (saved_functions (codes_of ss)) ≤ n
 functions_low no_stmts n h = h
@@ -200,12 +200,12 @@ functions_low (then_stmt s ss) n h = functions_low ss n (right_within (stmt_heig
 
 -- ---- the script
 
-shaped_items : (items : tree.Stmts) → FirstItems items → (es : Names) → ArePlain es → keys es ≡ first_ones [] (variables_of items) → IsFirst (with_directive (saved_variables es (saved_functions (codes_of items))))
+shaped_items : (items : tree.Stmts) → FirstItems items → (es : Names) → ArePlain es → keys_of es ≡ first_ones [] (variables_of items) → IsFirst (with_directive (saved_variables es (saved_functions (codes_of items))))
 shaped_items items first es plain known =
     let functions = saved_functions (codes_of items) in
     let saved = saved_variables es functions in
     let vars = first_ones [] (variables_of items) in
-    let declares : variables_of saved ≡ vars = variables_saved es functions plain ∙ ap (λ r. keys es ++ r) (no_variables (codes_of items)) ∙ append-nil (keys es) ∙ known in
+    let declares : variables_of saved ≡ vars = variables_saved es functions plain ∙ ap (λ r. keys_of es ++ r) (no_variables (codes_of items)) ∙ append-nil (keys_of es) ∙ known in
     let calls : functions_of saved ≡ functions_of items = functions_after es functions ∙ functions_saved items in
     record {
       strict = refl;
@@ -214,7 +214,7 @@ shaped_items items first es plain known =
           (variables_declared vars es functions (functions_declared vars items (same_items vars (variables_of items) (one_of-first_ones (variables_of items)) items ∙ first.declared)))
           first.distinct
           (same_apart vars (variables_of items) (one_of-first_ones (variables_of items)) (functions_of items) ∙ first.apart);
-      low = max_within 2 (stmts_height saved) height_limit (omega arith) (variables_low es functions height_limit (omega arith) (functions_low items height_limit (right_within 2 (stmts_height items) height_limit first.low)));
+      low = max-le {a = 2} (omega arith) (variables_low es functions height_limit (omega arith) (functions_low items height_limit (right_within 2 (stmts_height items) height_limit first.low)));
     }
 
 -- a page with kept functions, names and plain variables is saved as a first script
