@@ -2,3 +2,5 @@
 #![tactic(auto)]
 
 pub mod fault;
+mod letters;
+pub mod name_form;

@@ -1,0 +1,314 @@
+//! The names of variables and functions.
+
+ghost use Rattle.std.specs.Prelude.{◌≡◌, bytes_eq};
+ghost use Rattle.std.specs.Char.{is_ascii_alphanumeric};
+ghost use Rattle.std.specs.List.{list_all, list_any};
+ghost use Rattle.js_parser.specs.Names as spec;
+ghost use Rattle.js_core.specs.GlobalNames.{global_names};
+
+use crate::letters::{is_letter, is_letter_or_digit};
+use js_core::units::Units;
+
+/// The reserved words of ECMA-262 5.1 section 7.6.1, those of strict code too.
+const RESERVED_WORDS: [&[u8]; 45] = [
+    b"break",
+    b"case",
+    b"catch",
+    b"class",
+    b"const",
+    b"continue",
+    b"debugger",
+    b"default",
+    b"delete",
+    b"do",
+    b"else",
+    b"enum",
+    b"export",
+    b"extends",
+    b"false",
+    b"finally",
+    b"for",
+    b"function",
+    b"if",
+    b"implements",
+    b"import",
+    b"in",
+    b"instanceof",
+    b"interface",
+    b"let",
+    b"new",
+    b"null",
+    b"package",
+    b"private",
+    b"protected",
+    b"public",
+    b"return",
+    b"static",
+    b"super",
+    b"switch",
+    b"this",
+    b"throw",
+    b"true",
+    b"try",
+    b"typeof",
+    b"var",
+    b"void",
+    b"while",
+    b"with",
+    b"yield",
+];
+
+/// The names of the global object's built-in properties.
+const GLOBAL_NAMES: [&[u8]; 27] = [
+    b"window",
+    b"document",
+    b"console",
+    b"alert",
+    b"setTimeout",
+    b"setInterval",
+    b"setIntervalFrom",
+    b"clearTimeout",
+    b"clearInterval",
+    b"Object",
+    b"Function",
+    b"Array",
+    b"String",
+    b"Number",
+    b"Boolean",
+    b"Math",
+    b"Error",
+    b"TypeError",
+    b"RangeError",
+    b"ReferenceError",
+    b"Node",
+    b"Event",
+    b"isNaN",
+    b"isFinite",
+    b"parseInt",
+    b"undefined",
+    b"NaN",
+];
+
+/// Names that strict code may not declare.
+const RESTRICTED_NAMES: [&[u8]; 2] = [b"eval", b"arguments"];
+
+/// Names of built-in properties that stand for a value.
+const VALUE_NAMES: [&[u8]; 2] = [b"NaN", b"undefined"];
+
+/// Whether the units are these ASCII codes.
+fn spells(units: &[u16], word: &[u8]) -> bool
+    ensures { result ≡ bytes_eq units.now word.now }
+{
+    match (units, word) {
+        ([], []) => true,
+        ([unit, units @ ..], [code, word @ ..]) => *unit == u16::from(*code) && spells(units, word),
+        _ => false,
+    }
+}
+
+fn is_plain_word(units: &[u16]) -> bool
+    ensures { result ≡ spec.is_plain_word units.now }
+{
+    match units {
+        [] => false,
+        [first, rest @ ..] => is_letter(*first) && are_letters_or_digits(rest),
+    }
+}
+
+fn are_letters_or_digits(units: &[u16]) -> bool
+    ensures { result ≡ list_all is_ascii_alphanumeric units.now }
+{
+    units.iter().all(|unit| is_letter_or_digit(*unit))
+}
+
+fn is_among(units: &[u16], words: &[&[u8]]) -> bool
+    ensures { result ≡ list_any (λ word. bytes_eq units.now word.now) words.now }
+{
+    words.iter().any(|word| spells(units, word))
+}
+
+fn is_reserved(units: &[u16]) -> bool
+    ensures { result ≡ spec.is_one_of spec.reserved_words units.now }
+{
+    is_among(units, &RESERVED_WORDS)
+}
+
+fn is_global(units: &[u16]) -> bool
+    ensures { result ≡ spec.is_one_of global_names units.now }
+{
+    is_among(units, &GLOBAL_NAMES)
+}
+
+/// Whether the text is a name that a script may declare: an ASCII letter and then ASCII letters and digits
+/// (ECMA-262 5.1 section 7.6), but no reserved word, no built-in name, and neither `eval` nor `arguments`.
+pub fn is_name(text: &Units) -> bool
+    ensures { result ≡ spec.is_name text.now }
+{
+    let units = text.as_slice();
+    is_plain_word(units)
+        && !is_reserved(units)
+        && !is_global(units)
+        && !is_among(units, &RESTRICTED_NAMES)
+}
+
+/// Whether the text is a built-in name that stands for a value.
+pub fn is_value_name(text: &Units) -> bool
+    ensures { result ≡ spec.is_value_name text.now }
+{
+    is_among(text.as_slice(), &VALUE_NAMES)
+}
+
+#[cfg(test)]
+mod tests {
+    use super::*;
+    use std::process::Abort;
+    use std::test::Fail;
+
+    fn answers(rt: &(impl Abort + AllocGlobal), texts: &[&str], name: bool) -> Result<(), Fail> {
+        for text in texts {
+            let units = Units::from_utf8(rt.alloc(), *text)?;
+            assert_eq!(rt; is_name(&units), name, "{text}");
+        }
+        Ok(())
+    }
+
+    #[test]
+    fn tells_names_from_other_texts(rt: HostRuntime) -> Result<(), Fail> {
+        let names = [
+            "a",
+            "Z",
+            "a1",
+            "n",
+            "count2Ten",
+            "Var",
+            "VAR",
+            "breaks",
+            "brea",
+            "evals",
+            "argument",
+            "windows",
+            "nan",
+            "let1",
+        ];
+        answers(&rt, &names, true)?;
+        let reserved = [
+            "break",
+            "case",
+            "catch",
+            "class",
+            "const",
+            "continue",
+            "debugger",
+            "default",
+            "delete",
+            "do",
+            "else",
+            "enum",
+            "export",
+            "extends",
+            "false",
+            "finally",
+            "for",
+            "function",
+            "if",
+            "implements",
+            "import",
+            "in",
+            "instanceof",
+            "interface",
+            "let",
+            "new",
+            "null",
+            "package",
+            "private",
+            "protected",
+            "public",
+            "return",
+            "static",
+            "super",
+            "switch",
+            "this",
+            "throw",
+            "true",
+            "try",
+            "typeof",
+            "var",
+            "void",
+            "while",
+            "with",
+            "yield",
+        ];
+        answers(&rt, &reserved, false)?;
+        let built_in = [
+            "window",
+            "document",
+            "console",
+            "alert",
+            "setTimeout",
+            "setInterval",
+            "setIntervalFrom",
+            "clearTimeout",
+            "clearInterval",
+            "Object",
+            "Function",
+            "Array",
+            "String",
+            "Number",
+            "Boolean",
+            "Math",
+            "Error",
+            "TypeError",
+            "RangeError",
+            "ReferenceError",
+            "Node",
+            "Event",
+            "isNaN",
+            "isFinite",
+            "parseInt",
+            "undefined",
+            "NaN",
+        ];
+        answers(&rt, &built_in, false)?;
+        let others = [
+            "",
+            "eval",
+            "arguments",
+            "1a",
+            "1",
+            "a_b",
+            "_",
+            "$",
+            "a$",
+            "a b",
+            " a",
+            "a ",
+            "ä",
+            "aä",
+            "ａ",
+            "a-b",
+            "@",
+            "[",
+            "`",
+            "{",
+            "a/",
+            "a:",
+        ];
+        answers(&rt, &others, false)
+    }
+
+    #[test]
+    fn knows_the_names_of_values(rt: HostRuntime) -> Result<(), Fail> {
+        for (text, is_value) in [
+            ("NaN", true),
+            ("undefined", true),
+            ("Nan", false),
+            ("", false),
+            ("window", false),
+            ("a", false),
+        ] {
+            let units = Units::from_utf8(rt.alloc(), text)?;
+            assert_eq!(rt; is_value_name(&units), is_value, "{text}");
+        }
+        Ok(())
+    }
+}
