@@ -4,3 +4,4 @@
 pub mod fault;
 mod letters;
 pub mod name_form;
+pub mod words;
