@@ -1,5 +1,6 @@
 pub mod First
 pub mod Items
 pub mod Names
+pub mod Reading
 pub mod Spelling
 pub mod Words

@@ -26,11 +26,11 @@ is_plain_word [] = false
 is_plain_word (u ∷ us) = is_ascii_alphabetic u && list_all is_ascii_alphanumeric us
 
 -- a plain word that is no reserved word, no built-in global name, and neither `eval` nor `arguments`
-abbrev pub is_name : List ℕ → Bool
+unfoldable pub is_name : List ℕ → Bool
 is_name x =
     is_plain_word x && not (is_one_of reserved_words x) && not (is_one_of global_names x)
     && not (is_one_of (codes "eval" ∷ codes "arguments" ∷ []) x)
 
 -- a built-in name that stands for a value
-abbrev pub is_value_name : List ℕ → Bool
+unfoldable pub is_value_name : List ℕ → Bool
 is_value_name x = is_one_of (codes "NaN" ∷ codes "undefined" ∷ []) x

@@ -1,6 +1,6 @@
 //! Letters and digits among 16-bit units.
 
-ghost use Rattle.std.specs.Prelude.{◌≡◌};
+ghost use Rattle.std.specs.Prelude.{◌≡◌, bytes_eq};
 ghost use Rattle.std.specs.Char.{is_ascii_alphabetic, is_ascii_alphanumeric};
 
 /// Whether the unit is an ASCII letter.
@@ -15,4 +15,15 @@ pub fn is_letter_or_digit(unit: u16) -> bool
     ensures { result ≡ is_ascii_alphanumeric unit }
 {
     unit < 128 && (unit as u8).is_ascii_alphanumeric()
+}
+
+/// Whether the units are these ASCII codes.
+pub fn spells(units: &[u16], word: &[u8]) -> bool
+    ensures { result ≡ bytes_eq units.now word.now }
+{
+    match (units, word) {
+        ([], []) => true,
+        ([unit, units @ ..], [code, word @ ..]) => *unit == u16::from(*code) && spells(units, word),
+        _ => false,
+    }
 }

@@ -1,6 +1,7 @@
 //! The reading of scripts.
 #![tactic(auto)]
 
+mod cursor;
 pub mod fault;
 mod letters;
 pub mod name_form;

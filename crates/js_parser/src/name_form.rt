@@ -6,7 +6,7 @@ ghost use Rattle.std.specs.List.{list_all, list_any};
 ghost use Rattle.js_parser.specs.Names as spec;
 ghost use Rattle.js_core.specs.GlobalNames.{global_names};
 
-use crate::letters::{is_letter, is_letter_or_digit};
+use crate::letters::{is_letter, is_letter_or_digit, spells};
 use js_core::units::Units;
 
 /// The reserved words of ECMA-262 5.1 section 7.6.1, those of strict code too.
@@ -95,17 +95,6 @@ const RESTRICTED_NAMES: [&[u8]; 2] = [b"eval", b"arguments"];
 /// Names of built-in properties that stand for a value.
 const VALUE_NAMES: [&[u8]; 2] = [b"NaN", b"undefined"];
 
-/// Whether the units are these ASCII codes.
-fn spells(units: &[u16], word: &[u8]) -> bool
-    ensures { result ≡ bytes_eq units.now word.now }
-{
-    match (units, word) {
-        ([], []) => true,
-        ([unit, units @ ..], [code, word @ ..]) => *unit == u16::from(*code) && spells(units, word),
-        _ => false,
-    }
-}
-
 fn is_plain_word(units: &[u16]) -> bool
     ensures { result ≡ spec.is_plain_word units.now }
 {
@@ -141,6 +130,7 @@ fn is_global(units: &[u16]) -> bool
 
 /// Whether the text is a name that a script may declare: an ASCII letter and then ASCII letters and digits
 /// (ECMA-262 5.1 section 7.6), but no reserved word, no built-in name, and neither `eval` nor `arguments`.
+#[tactic(auto, unfolding(crate::specs::Names::is_name))]
 pub fn is_name(text: &Units) -> bool
     ensures { result ≡ spec.is_name text.now }
 {
@@ -152,6 +142,7 @@ pub fn is_name(text: &Units) -> bool
 }
 
 /// Whether the text is a built-in name that stands for a value.
+#[tactic(auto, unfolding(crate::specs::Names::is_value_name))]
 pub fn is_value_name(text: &Units) -> bool
     ensures { result ≡ spec.is_value_name text.now }
 {

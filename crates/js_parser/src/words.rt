@@ -62,5 +62,7 @@ fn word_len(text: &[u16]) -> usize
     ensures read { result ≡ prefix_len is_ascii_alphanumeric text.now }
     ensures within { result ≤ length text.now }
 {
-    text.iter().take_while(|unit| is_letter_or_digit(**unit)).count()
+    text.iter()
+        .take_while(|unit| is_letter_or_digit(**unit))
+        .count()
 }
