@@ -1,10 +1,10 @@
 -- How the tokens of a script are read, from the left, with one token of lookahead.
-use Rattle.std.specs.Prelude.{◌≡◌, ◌≢◌, ℕ, zero, suc, pos, Bool, true, false, not, ◌&&◌, ◌||◌, ◌==◌, nat_le, if◌then◌else◌, List, [], ◌∷◌, ◌++◌, length, Option, Some, None, Result, Ok, Err, codes}
+use Rattle.std.specs.Prelude.{◌≡◌, ◌≢◌, ℕ, ℤ, zero, suc, pos, Bool, true, false, not, ◌&&◌, ◌||◌, ◌==◌, nat_le, if◌then◌else◌, List, [], ◌∷◌, ◌++◌, length, Option, Some, None, Result, Ok, Err, codes}
 use Rattle.std.specs.Char.{is_ascii_digit}
-use Rattle.std.specs.Str.{bytes_eq, all_ascii_digits}
+use Rattle.std.specs.Str.{bytes_eq}
+use Rattle.std.specs.List.{list_all}
 use Rattle.std.specs.Str.Parse.{digits_value}
-use Rattle.std.specs.Option.{option_map}
-use Rattle.js_core.specs.Whole.{largest}
+use Rattle.js_core.specs.Whole.{whole_of}
 use Rattle.js_core.specs.Tree as tree
 use Rattle.js_core.specs.Tree.{name, num, text, member, call, binary, assign, no_exprs, then_expr, no_expr, one_expr, code, var, function, expr, no_declarators, then_declarator, stmts_of}
 use Rattle.js_core.specs.declared.operators.BinaryOp.{BinaryOp}
@@ -88,15 +88,19 @@ declared_name (t ∷ ts) = if is_name t then Some (t, ts) else None
 unfoldable pub is_numeral : List ℕ → Bool
 is_numeral [] = false
 is_numeral (c ∷ []) = is_ascii_digit c
-is_numeral (c ∷ d ∷ cs) = all_ascii_digits (c ∷ d ∷ cs) && not (c == 48)
+is_numeral (c ∷ d ∷ cs) = list_all is_ascii_digit (c ∷ d ∷ cs) && not (c == 48)
+
+-- the number that the digits write, where it is one of the language
+abbrev pub value_of : List ℕ → Option (Option ℤ)
+value_of ds = whole_of (pos (digits_value 10 ds))
 
 -- the number that the token writes
-unfoldable pub number_of : List ℕ → Option ℕ
-number_of t = if is_numeral t then (if nat_le (digits_value 10 t) largest then Some (digits_value 10 t) else None) else None
+unfoldable pub number_of : List ℕ → Option (Option ℤ)
+number_of t = if is_numeral t then value_of t else None
 
-abbrev pub num_of : Option ℕ → Option tree.Expr
+abbrev pub num_of : Option (Option ℤ) → Option tree.Expr
 num_of None = None
-num_of (Some n) = Some (num (Some (pos n)))
+num_of (Some n) = Some (num n)
 
 unfoldable pub term_of : List ℕ → Option tree.Expr
 term_of t = if is_value_name t then Some (name t) else (if is_name t then Some (name t) else num_of (number_of t))

@@ -1,7 +1,7 @@
-//! Letters and digits among 16-bit units.
+//! ASCII letters and digits among 16-bit units.
 
 ghost use Rattle.std.specs.Prelude.{◌≡◌, bytes_eq};
-ghost use Rattle.std.specs.Char.{is_ascii_alphabetic, is_ascii_alphanumeric};
+ghost use Rattle.std.specs.Char.{is_ascii_alphabetic, is_ascii_alphanumeric, is_ascii_digit};
 
 /// Whether the unit is an ASCII letter.
 pub fn is_letter(unit: u16) -> bool
@@ -15,6 +15,13 @@ pub fn is_letter_or_digit(unit: u16) -> bool
     ensures { result ≡ is_ascii_alphanumeric unit }
 {
     unit < 128 && (unit as u8).is_ascii_alphanumeric()
+}
+
+/// Whether the unit is an ASCII digit.
+pub fn is_digit(unit: u16) -> bool
+    ensures { result ≡ is_ascii_digit unit }
+{
+    unit < 128 && (unit as u8).is_ascii_digit()
 }
 
 /// Whether the units are these ASCII codes.

@@ -5,4 +5,5 @@ mod cursor;
 pub mod fault;
 mod letters;
 pub mod name_form;
+mod numerals;
 pub mod words;
