@@ -115,13 +115,9 @@ term (t ∷ ts) = before (term_of t) ts
 
 -- ---- sums
 
-abbrev pub operator_of : List ℕ → Option BinaryOp
-operator_of t = if bytes_eq t (codes "+") then Some Add else (if bytes_eq t (codes "-") then Some Sub else None)
-
 -- the operator that comes next
 unfoldable pub operator : Tokens → Option BinaryOp
-operator [] = None
-operator (t ∷ ts) = operator_of t
+operator i = if sees (codes "+") i then Some Add else (if sees (codes "-") i then Some Sub else None)
 
 -- no sum has more operators
 unfoldable pub most_operators : ℕ

@@ -6,4 +6,5 @@ pub mod fault;
 mod letters;
 pub mod name_form;
 mod numerals;
+mod sums;
 pub mod words;
