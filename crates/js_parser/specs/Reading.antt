@@ -3,6 +3,8 @@ use Rattle.std.specs.Prelude.{◌≡◌, ◌≢◌, ℕ, ℤ, zero, suc, pos, Bo
 use Rattle.std.specs.Char.{is_ascii_digit}
 use Rattle.std.specs.Str.{bytes_eq}
 use Rattle.std.specs.List.{list_all}
+use Rattle.std.specs.declared.vec.Vec.{Vec}
+use Rattle.std.specs.declared.alloc.Global.{Global}
 use Rattle.std.specs.Str.Parse.{digits_value}
 use Rattle.js_core.specs.Whole.{whole_of}
 use Rattle.js_core.specs.Tree as tree
@@ -54,10 +56,10 @@ abbrev pub Makes : {A : Type 0} → A → Result A ParseFault → Type 0
 Makes a (Ok b) = b ≡ a
 Makes a (Err e) = e ≡ OutOfMemory
 
--- the value that a function leaves in its argument
-abbrev pub with : {A : Type 0} → A → Result (Unit {0}) ParseFault → Result A ParseFault
-with a (Ok u) = Ok a
-with a (Err e) = Err e
+-- what a function ensures that reads statements
+abbrev pub ReadsAll : Outcome (List tree.Stmt) → Result (Vec tree.Stmt Global) ParseFault → Tokens → Type 0
+ReadsAll outcome (Ok found) new = outcome ≡ Some (found.items, new)
+ReadsAll outcome (Err e) new = e ≢ OutOfMemory → outcome ≡ None
 
 -- ---- tokens
 

@@ -1,7 +1,11 @@
 //! ASCII letters and digits among 16-bit units.
 
-ghost use Rattle.std.specs.Prelude.{◌≡◌, bytes_eq};
+ghost use Rattle.std.specs.Prelude.{◌≡◌, bytes_eq, IfOk};
 ghost use Rattle.std.specs.Char.{is_ascii_alphabetic, is_ascii_alphanumeric, is_ascii_digit};
+
+use js_core::memory::OutOfMemory;
+use js_core::units::Units;
+use std::alloc::Global;
 
 /// Whether the unit is an ASCII letter.
 pub fn is_letter(unit: u16) -> bool
@@ -33,4 +37,15 @@ pub fn spells(units: &[u16], word: &[u8]) -> bool
         ([unit, units @ ..], [code, word @ ..]) => *unit == u16::from(*code) && spells(units, word),
         _ => false,
     }
+}
+
+/// The text with these ASCII codes.
+pub fn ascii_text(alloc: Global, text: &[u8]) -> Result<Units, OutOfMemory>
+    ensures { IfOk result (λ units. units ≡ text.now) }
+{
+    let mut units = Vec::new(alloc);
+    for code in text {
+        units.push(u16::from(*code))?;
+    }
+    Units::of(alloc, units.as_slice())
 }

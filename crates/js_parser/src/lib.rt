@@ -6,5 +6,6 @@ pub mod fault;
 mod letters;
 pub mod name_form;
 mod numerals;
+mod statements;
 mod sums;
 pub mod words;
