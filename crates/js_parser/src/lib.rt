@@ -3,6 +3,7 @@
 
 mod cursor;
 pub mod fault;
+mod items;
 mod letters;
 pub mod name_form;
 mod numerals;
