@@ -55,30 +55,30 @@ functions_of (then_stmt (function (code (Some f) formals body)) ss) = f ∷ func
 functions_of (then_stmt s ss) = functions_of ss
 
 -- each name in an expression has a value of its own or is one of the variables
-abbrev pub expr_is_declared : List (List ℕ) → tree.Expr → Bool
-expr_is_declared vars (name x) = is_value_name x || is_one_of vars x
-expr_is_declared vars (binary op a b) = expr_is_declared vars a && expr_is_declared vars b
-expr_is_declared vars e = true
+abbrev pub expr_is_declared : (List ℕ → Bool) → tree.Expr → Bool
+expr_is_declared is_variable (name x) = is_value_name x || is_variable x
+expr_is_declared is_variable (binary op a b) = expr_is_declared is_variable a && expr_is_declared is_variable b
+expr_is_declared is_variable e = true
 
 -- each name that is assigned or read is one of the variables
-abbrev pub stmt_is_declared : List (List ℕ) → tree.Stmt → Bool
-stmt_is_declared vars (expr (assign op (name x) e)) = is_one_of vars x && expr_is_declared vars e
-stmt_is_declared vars (expr (call f (then_expr e es))) = expr_is_declared vars e
-stmt_is_declared vars (var (then_declarator x (one_expr e) ds)) = expr_is_declared vars e
-stmt_is_declared vars s = true
+abbrev pub stmt_is_declared : (List ℕ → Bool) → tree.Stmt → Bool
+stmt_is_declared is_variable (expr (assign op (name x) e)) = is_variable x && expr_is_declared is_variable e
+stmt_is_declared is_variable (expr (call f (then_expr e es))) = expr_is_declared is_variable e
+stmt_is_declared is_variable (var (then_declarator x (one_expr e) ds)) = expr_is_declared is_variable e
+stmt_is_declared is_variable s = true
 
-abbrev pub stmts_are_declared : List (List ℕ) → tree.Stmts → Bool
-stmts_are_declared vars no_stmts = true
-stmts_are_declared vars (then_stmt s ss) = stmt_is_declared vars s && stmts_are_declared vars ss
+abbrev pub stmts_are_declared : (List ℕ → Bool) → tree.Stmts → Bool
+stmts_are_declared is_variable no_stmts = true
+stmts_are_declared is_variable (then_stmt s ss) = stmt_is_declared is_variable s && stmts_are_declared is_variable ss
 
 -- the same of an item, in whose body too
-abbrev pub item_is_declared : List (List ℕ) → tree.Stmt → Bool
-item_is_declared vars (function (code f formals body)) = stmts_are_declared vars body
-item_is_declared vars s = stmt_is_declared vars s
+abbrev pub item_is_declared : (List ℕ → Bool) → tree.Stmt → Bool
+item_is_declared is_variable (function (code f formals body)) = stmts_are_declared is_variable body
+item_is_declared is_variable s = stmt_is_declared is_variable s
 
-abbrev pub items_are_declared : List (List ℕ) → tree.Stmts → Bool
-items_are_declared vars no_stmts = true
-items_are_declared vars (then_stmt s ss) = item_is_declared vars s && items_are_declared vars ss
+abbrev pub items_are_declared : (List ℕ → Bool) → tree.Stmts → Bool
+items_are_declared is_variable no_stmts = true
+items_are_declared is_variable (then_stmt s ss) = item_is_declared is_variable s && items_are_declared is_variable ss
 
 -- no text stands twice
 abbrev pub are_distinct : List (List ℕ) → Bool
@@ -88,7 +88,7 @@ are_distinct (x ∷ xs) = not (is_one_of xs x) && are_distinct xs
 -- each name in use is declared; a name is a variable or a function, and a function is declared once
 abbrev pub is_well_declared : tree.Stmts → Bool
 is_well_declared items =
-    items_are_declared (variables_of items) items && are_distinct (functions_of items)
+    items_are_declared (is_one_of (variables_of items)) items && are_distinct (functions_of items)
     && list_all (λ f. not (is_one_of (variables_of items) f)) (functions_of items)
 
 -- no script that is read is higher

@@ -1,5 +1,6 @@
 pub mod First
 pub mod Items
+pub mod Kinds
 pub mod Names
 pub mod Reading
 pub mod Spelling

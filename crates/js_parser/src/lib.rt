@@ -6,6 +6,7 @@ pub mod fault;
 mod items;
 mod letters;
 pub mod name_form;
+mod name_table;
 mod numerals;
 mod statements;
 mod sums;

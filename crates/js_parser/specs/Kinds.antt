@@ -1,0 +1,36 @@
+-- What the names of a script are declared as.
+use Rattle.std.specs.Prelude.{ℕ, Bool, true, false, not, ◌&&◌, if◌then◌else◌, List, [], ◌∷◌, Option, Some, None}
+use Rattle.std.specs.List.{list_all}
+use Rattle.js_core.specs.Tree as tree
+use Rattle.js_core.specs.Tree.{code, var, function, then_declarator}
+use Rattle.js_parser.specs.declared.name_table.NameKind.{NameKind}
+use Rattle.js_parser.specs.declared.name_table.NameKind.TheVariants.{Variable, Function}
+use Rattle.js_parser.specs.Names.{is_one_of}
+use Rattle.js_parser.specs.Items.{variables_of, functions_of, are_distinct}
+
+-- the name that an item declares
+abbrev pub declaration_of : tree.Stmt → Option (List ℕ × NameKind)
+declaration_of (var (then_declarator x e ds)) = Some (x, Variable)
+declaration_of (function (code (Some f) formals body)) = Some (f, Function)
+declaration_of s = None
+
+-- what the items declare the name as
+abbrev pub kind_in : tree.Stmts → List ℕ → Option NameKind
+kind_in items x =
+    if is_one_of (variables_of items) x then Some Variable
+    else (if is_one_of (functions_of items) x then Some Function else None)
+
+abbrev pub is_variable_kind : Option NameKind → Bool
+is_variable_kind (Some Variable) = true
+is_variable_kind kind = false
+
+-- what is declared as the first may be declared as the second, too
+abbrev pub may_become : Option NameKind → NameKind → Bool
+may_become None kind = true
+may_become (Some Variable) Variable = true
+may_become (Some kind) other = false
+
+-- a name is a variable or a function, and a function is declared once
+abbrev pub are_apart : tree.Stmts → Bool
+are_apart items =
+    are_distinct (functions_of items) && list_all (λ f. not (is_one_of (variables_of items) f)) (functions_of items)
