@@ -2,3 +2,5 @@ pub mod Scans
 pub mod Digits
 pub mod Turns
 pub mod Heights
+pub mod Apart
+pub mod Declared

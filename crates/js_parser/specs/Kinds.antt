@@ -1,6 +1,8 @@
 -- What the names of a script are declared as.
 use Rattle.std.specs.Prelude.{ℕ, Bool, true, false, not, ◌&&◌, if◌then◌else◌, List, [], ◌∷◌, Option, Some, None}
+use Rattle.std.specs.Str.{bytes_eq}
 use Rattle.std.specs.List.{list_all}
+use Rattle.indexmap.specs.IndexMap.{IndexMap, get}
 use Rattle.js_core.specs.Tree as tree
 use Rattle.js_core.specs.Tree.{code, var, function, then_declarator}
 use Rattle.js_parser.specs.declared.name_table.NameKind.{NameKind}
@@ -34,3 +36,7 @@ may_become (Some kind) other = false
 abbrev pub are_apart : tree.Stmts → Bool
 are_apart items =
     are_distinct (functions_of items) && list_all (λ f. not (is_one_of (variables_of items) f)) (functions_of items)
+
+-- whether the table has the name as a variable
+abbrev pub has_variable : {S : Type 0} → IndexMap (List ℕ) NameKind S → List ℕ → Bool
+has_variable names x = is_variable_kind (get bytes_eq names x)

@@ -7,6 +7,7 @@ mod items;
 mod letters;
 pub mod name_form;
 mod name_table;
+mod name_use;
 mod numerals;
 mod statements;
 mod sums;
