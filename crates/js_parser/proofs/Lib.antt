@@ -1,4 +1,7 @@
 pub mod Scans
+pub mod Holds
+pub mod Terms
+pub mod Additions
 pub mod Digits
 pub mod Turns
 pub mod Heights

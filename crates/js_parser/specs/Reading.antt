@@ -13,7 +13,10 @@ use Rattle.js_core.specs.declared.operators.BinaryOp.{BinaryOp}
 use Rattle.js_core.specs.declared.operators.BinaryOp.TheVariants.{Add, Sub}
 use Rattle.js_parser.specs.declared.fault.ParseFault.{ParseFault}
 use Rattle.js_parser.specs.declared.fault.ParseFault.TheVariants.{OutOfMemory}
+use Rattle.js_core.specs.Height.{stmts_height}
 use Rattle.js_parser.specs.Names.{is_name, is_value_name}
+use Rattle.js_parser.specs.Words.{tokens_of}
+use Rattle.js_parser.specs.Items.{is_well_declared, height_limit, with_directive}
 
 abbrev pub Tokens : Type 0
 Tokens = List (List ℕ)
@@ -222,3 +225,32 @@ has_more (t ∷ ts) = true
 -- all the tokens
 unfoldable pub items : Parser (List tree.Stmt)
 items = λ i. repeat has_more (one_more item) (length i) [] i
+
+-- ---- a text
+
+-- what stands behind the first text in the second
+abbrev pub behind : List ℕ → List ℕ → Option (List ℕ)
+behind [] us = Some us
+behind (c ∷ cs) [] = None
+behind (c ∷ cs) (u ∷ us) = if u == c then behind cs us else None
+
+-- the script of these items
+unfoldable pub checked : List tree.Stmt → Option tree.Stmts
+checked found =
+    if is_well_declared (stmts_of found)
+    then (if nat_le (stmts_height (with_directive (stmts_of found))) height_limit then Some (with_directive (stmts_of found)) else None)
+    else None
+
+abbrev pub finished : Outcome (List tree.Stmt) → Option tree.Stmts
+finished None = None
+finished (Some p) = if has_more p.1 then None else checked p.0
+
+abbrev pub script_behind : Option (List ℕ) → Option tree.Stmts
+script_behind None = None
+script_behind (Some rest) = finished (items (tokens_of rest))
+
+unfoldable pub directive : List ℕ
+directive = codes "\"use strict\";"
+
+unfoldable pub script_of : List ℕ → Option tree.Stmts
+script_of units = script_behind (behind directive units)

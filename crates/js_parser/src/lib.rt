@@ -3,6 +3,7 @@
 
 mod cursor;
 pub mod fault;
+pub mod first;
 mod items;
 mod letters;
 pub mod name_form;
