@@ -63,11 +63,11 @@ grows_holds next start i a more h None e = given h
 grows_holds next start i a more h (Some op) e =
     let k = next_operator i op e in
     then_holds _ (term_holds (tail i)) (λ b z t.
-        let spelled : start ≡ expr_tokens (binary op a b) ++ z =
-            h.1 ∙ ap (λ y. expr_tokens a ++ y) (k.1 ∙ ap (λ y. sign op ∷ y) t.1)
-            ∙ sym (append_assoc (expr_tokens a) (sign op ∷ expr_tokens b) z)
-            ∙ ap (λ y. y ++ z) (sym (spelling_of a b k.0)) in
-        more (binary op a b) z (sum_of a b k.0 h.0 t.0, spelled))
+    let spelled : start ≡ expr_tokens (binary op a b) ++ z =
+    h.1 ∙ ap (λ y. expr_tokens a ++ y) (k.1 ∙ ap (λ y. sign op ∷ y) t.1)
+    ∙ sym (append_assoc (expr_tokens a) (sign op ∷ expr_tokens b) z)
+    ∙ ap (λ y. y ++ z) (sym (spelling_of a b k.0)) in
+    more (binary op a b) z (sum_of a b k.0 h.0 t.0, spelled))
 
 sum_from_holds : (n : ℕ) (start i : Tokens) (a : tree.Expr) → SumFrom start a i → Holds (SumFrom start) (sum_from n a i)
 sum_from_holds zero start i a h = ends_holds start i a h (operator i)

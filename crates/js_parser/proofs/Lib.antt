@@ -2,6 +2,8 @@ pub mod Scans
 pub mod Holds
 pub mod Terms
 pub mod Additions
+pub mod Lists
+pub mod Phrases
 pub mod Digits
 pub mod Turns
 pub mod Heights

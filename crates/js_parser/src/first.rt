@@ -108,5 +108,4 @@ fn with_directive(alloc: Global, items: Vec<Stmt>) -> Result<Script, ParseFault>
 /// No two scripts have the same text.
 pub fn one_reading()
     ensures { (units : List ℕ) (s t : tree.Stmts) → FirstText units s → FirstText units t → s ≡ t }
-{
-}
+{}
