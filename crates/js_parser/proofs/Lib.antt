@@ -4,6 +4,8 @@ pub mod Terms
 pub mod Additions
 pub mod Lists
 pub mod Phrases
+pub mod Readings
+pub mod Scripts
 pub mod Digits
 pub mod Turns
 pub mod Heights

@@ -6,12 +6,11 @@ use Rattle.js_core.specs.Tree.{no_stmts, then_stmt, stmts_of}
 use Rattle.js_parser.specs.Reading.{Tokens, Outcome, Parser, and_then, repeat, one_more}
 use Rattle.js_parser.proofs.Holds.{Holds, given, nothing, then_holds, either_holds}
 
-pub list_of : tree.Stmts → List tree.Stmt
+abbrev pub list_of : tree.Stmts → List tree.Stmt
 list_of no_stmts = []
 list_of (then_stmt s ss) = s ∷ list_of ss
 
 pub stmts_of-list_of : (ss : tree.Stmts) → stmts_of (list_of ss) ≡ ss
-unfolding list_of
 stmts_of-list_of no_stmts = refl
 stmts_of-list_of (then_stmt s ss) = ap (then_stmt s) (stmts_of-list_of ss)
 

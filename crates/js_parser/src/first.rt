@@ -24,6 +24,15 @@ use std::alloc::Global;
 /// No script that is read is higher.
 const HEIGHT_LIMIT: u64 = 440;
 
+/// The script of a text: `"use strict";`, and then items with spaces and line feeds between their tokens. `NotScript`
+/// where the text has no such reading. The time is linear in the text.
+pub fn first(alloc: Global, text: &Units) -> Result<Script, ParseFault>
+    ensures read { IfOk result (λ script. FirstText text.now script) }
+    ensures refused { IsErrOf result ParseFault.NotScript → (script : tree.Stmts) → FirstText text.now script → ⊥ }
+{
+    read_script(alloc, text.as_slice())
+}
+
 #[tactic(auto, unfolding(crate::specs::Reading::script_of, crate::specs::Reading::directive))]
 fn read_script(alloc: Global, text: &[u16]) -> Result<Script, ParseFault>
     ensures { Gives (spec.script_of text.now) result }
@@ -38,10 +47,12 @@ fn read_script(alloc: Global, text: &[u16]) -> Result<Script, ParseFault>
 fn behind<'a>(text: &'a [u16], start: &[u8]) -> Option<&'a [u16]>
     ensures { option_copied result ≡ spec.behind start.now text.now }
 {
-    match (text, start) {
-        (_, []) => Some(text),
-        ([], [_, ..]) => None,
-        ([unit, text @ ..], [code, start @ ..]) => {
+    let [code, start @ ..] = start else {
+        return Some(text);
+    };
+    match text {
+        [] => None,
+        [unit, text @ ..] => {
             if *unit == u16::from(*code) {
                 behind(text, start)
             } else {

@@ -1,5 +1,5 @@
-use Rattle.js_parser.proofs.Phrases.{items_hold}
+use Rattle.js_parser.proofs.Scripts.{only_one}
 use Rattle.js_parser.proofs.first.one_reading.Goals as goal
 
 pub returns : goal.returns
-returns c = ?
+returns c = only_one
