@@ -120,3 +120,215 @@ fn with_directive(alloc: Global, items: Vec<Stmt>) -> Result<Script, ParseFault>
 pub fn one_reading()
     ensures { (units : List ℕ) (s t : tree.Stmts) → FirstText units s → FirstText units t → s ≡ t }
 {}
+
+#[cfg(test)]
+mod tests {
+    use super::*;
+    use js_core::operators::BinaryOp;
+    use std::process::Abort;
+    use std::test::Fail;
+
+    fn reads(rt: &(impl Abort + AllocGlobal), text: &str, is_read: bool) -> Result<(), Fail> {
+        let units = Units::from_utf8(rt.alloc(), text)?;
+        match first(rt.alloc(), &units) {
+            Ok(_) => assert!(rt; is_read, "{text}"),
+            Err(fault) => {
+                assert!(rt; !is_read, "{text}");
+                assert_eq!(rt; fault, ParseFault::NotScript);
+            }
+        }
+        Ok(())
+    }
+
+    fn read_all(
+        rt: &(impl Abort + AllocGlobal),
+        items: &[&str],
+        are_read: bool,
+    ) -> Result<(), Fail> {
+        for item in items {
+            let text = format!(in rt.alloc(); "\"use strict\";{item}")?;
+            reads(rt, text.as_str(), are_read)?;
+        }
+        Ok(())
+    }
+
+    #[test]
+    fn reads_scripts(rt: HostRuntime) -> Result<(), Fail> {
+        let items = [
+            "",
+            " \n ",
+            "var n=0;function t(){n=n+1;console.log(n);}",
+            "var \n n \n= \n 0 ; \n function t \n ( ) { n = n\n+ 1 ; console . \n log ( n ) \n ; } \n",
+            "var x;",
+            "var x;var x;x=1;",
+            "x=1;var x;",
+            "function f(){x=x;}var x;",
+            "function f(){}function g(){}",
+            "var x=NaN;x=undefined;console.log(NaN-undefined);",
+            "var a1=0;var A1b2=a1;a1=A1b2-a1+10;",
+            "var x=9007199254740991;",
+            "var x=0+0-0;",
+            "var x=x;",
+            "console.log(0);",
+            "var varn=0;varn=1;",
+        ];
+        read_all(&rt, &items, true)
+    }
+
+    #[test]
+    fn refuses_other_texts(rt: HostRuntime) -> Result<(), Fail> {
+        let texts = [
+            "",
+            "var n=0;",
+            "'use strict';",
+            "\"use strict\"",
+            "\"use strict\" ;",
+            " \"use strict\";",
+            "\"Use strict\";",
+            "\"use  strict\";",
+        ];
+        for text in texts {
+            reads(&rt, text, false)?;
+        }
+        let items = [
+            "var c=0;while(c){}",
+            "function f(){}f();",
+            "var x=00;",
+            "var x=01;",
+            "var x=9007199254740992;",
+            "var x=18446744073709551616;",
+            "var x=99999999999999999999999999;",
+            "var x=0x1;",
+            "var x=1a;",
+            "var 1a=0;",
+            "var x=y;",
+            "x=1;",
+            "console.log(x);",
+            "function f(){x=1;}",
+            "function f(){console.log(x);}",
+            "var f;function f(){}",
+            "function f(){}var f;",
+            "function f(){}function g(){}function f(){}",
+            "function f(){}var x=f;",
+            "function f(){}f=1;",
+        ];
+        read_all(&rt, &items, false)?;
+        let items = [
+            "var if=0;",
+            "var yield;",
+            "function new(){}",
+            "var window;",
+            "var NaN;",
+            "function console(){}",
+            "var eval;",
+            "var arguments;",
+            "var var;",
+            "varn=0;",
+            "var x\t;",
+            "var x\r;",
+            "var \u{e4};",
+            "var x=0;x=\u{663};",
+            "function f(){function g(){}}",
+            "function f(){var x;}",
+            "function f(a){}",
+            "var a=0;a=a+;",
+            "var a=0;a=-a;",
+            "var a=0;var b=0;a=a+-b;",
+            "var a=0;a=a++a;",
+            "var a=(1);",
+            "var a=1*1;",
+            "var a=1",
+            "var a=1;a",
+            "var a=1;;",
+            "var a=1;}",
+            "var a,b;",
+            "var a=1;a+=1;",
+            "var a=1;a==1;",
+            "console.log();",
+            "console.log(1,2);",
+            "console.warn(1);",
+            "console=1;",
+            "function f(){",
+            "function f(){};",
+            "/**/",
+        ];
+        read_all(&rt, &items, false)
+    }
+
+    fn reads_terms(
+        rt: &(impl Abort + AllocGlobal),
+        start: &str,
+        terms: usize,
+        end: &str,
+        is_read: bool,
+    ) -> Result<(), Fail> {
+        let mut text = format!(in rt.alloc(); "\"use strict\";{start}1")?;
+        for _ in 1..terms {
+            text.push_str("+1")?;
+        }
+        text.push_str(end)?;
+        reads(rt, text.as_str(), is_read)
+    }
+
+    // the sum is as high as it has terms, and a statement is 2 higher
+    #[test]
+    fn reads_sums_up_to_the_limit(rt: HostRuntime) -> Result<(), Fail> {
+        for (terms, is_read) in [
+            (1, true),
+            (438, true),
+            (439, false),
+            (440, false),
+            (441, false),
+            (500, false),
+            (2000, false),
+        ] {
+            reads_terms(&rt, "var x=", terms, ";", is_read)?;
+            reads_terms(&rt, "console.log(", terms, ");", is_read)?;
+        }
+        // a function is 3 higher than its body
+        for (terms, is_read) in [(435, true), (436, false)] {
+            reads_terms(&rt, "var x;function f(){x=", terms, ";}", is_read)?;
+        }
+        Ok(())
+    }
+
+    /// Whether the expression is the number.
+    fn is_number(expr: &Expr, number: i64) -> bool {
+        match &expr.node {
+            ExprNode::Num(whole) => whole.get() == Some(number),
+            _ => false,
+        }
+    }
+
+    // `1-2+3` is `(1-2)+3`
+    #[test]
+    fn groups_sums_to_the_left(rt: HostRuntime) -> Result<(), Fail> {
+        let text = Units::from_utf8(rt.alloc(), "\"use strict\";console.log(1-2+3);")?;
+        let script = first(rt.alloc(), &text)?;
+        let mut is_grouped = false;
+        if let [
+            _,
+            Stmt {
+                node: StmtNode::Expr(
+                    Expr {
+                        node: ExprNode::Call(_, arguments),
+                    },
+                ),
+            },
+        ] = script.body.as_slice()
+        {
+            if let [
+                Expr {
+                    node: ExprNode::Binary(BinaryOp::Add, left, right),
+                },
+            ] = arguments.as_slice()
+            {
+                if let ExprNode::Binary(BinaryOp::Sub, one, two) = &left.node {
+                    is_grouped = is_number(one, 1) && is_number(two, 2) && is_number(right, 3);
+                }
+            }
+        }
+        assert!(rt; is_grouped);
+        Ok(())
+    }
+}
