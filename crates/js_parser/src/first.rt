@@ -292,11 +292,41 @@ mod tests {
         Ok(())
     }
 
-    /// Whether the expression is the number.
+    /// Whether the expression is a sum or difference of a part and the number.
+    fn adds(expr: &Expr, op: BinaryOp, number: i64) -> bool {
+        match &expr.node {
+            ExprNode::Binary(found, _, right) => *found == op && is_number(right, number),
+            _ => false,
+        }
+    }
+
     fn is_number(expr: &Expr, number: i64) -> bool {
         match &expr.node {
             ExprNode::Num(whole) => whole.get() == Some(number),
             _ => false,
+        }
+    }
+
+    /// The left part of a sum or difference.
+    fn left_of(expr: &Expr) -> Option<&Expr> {
+        match &expr.node {
+            ExprNode::Binary(_, left, _) => Some(left),
+            _ => None,
+        }
+    }
+
+    /// What a log line prints.
+    fn printed(stmt: &Stmt) -> Option<&Expr> {
+        match &stmt.node {
+            StmtNode::Expr(expr) => first_argument(expr),
+            _ => None,
+        }
+    }
+
+    fn first_argument(expr: &Expr) -> Option<&Expr> {
+        match &expr.node {
+            ExprNode::Call(_, arguments) => arguments.as_slice().first(),
+            _ => None,
         }
     }
 
@@ -305,30 +335,13 @@ mod tests {
     fn groups_sums_to_the_left(rt: HostRuntime) -> Result<(), Fail> {
         let text = Units::from_utf8(rt.alloc(), "\"use strict\";console.log(1-2+3);")?;
         let script = first(rt.alloc(), &text)?;
-        let mut is_grouped = false;
-        if let [
-            _,
-            Stmt {
-                node: StmtNode::Expr(
-                    Expr {
-                        node: ExprNode::Call(_, arguments),
-                    },
-                ),
-            },
-        ] = script.body.as_slice()
-        {
-            if let [
-                Expr {
-                    node: ExprNode::Binary(BinaryOp::Add, left, right),
-                },
-            ] = arguments.as_slice()
-            {
-                if let ExprNode::Binary(BinaryOp::Sub, one, two) = &left.node {
-                    is_grouped = is_number(one, 1) && is_number(two, 2) && is_number(right, 3);
-                }
-            }
-        }
-        assert!(rt; is_grouped);
+        assert_eq!(rt; script.body.len(), 2);
+        let sum = printed(&script.body[1]).ok_or("no log line")?;
+        assert!(rt; adds(sum, BinaryOp::Add, 3));
+        let difference = left_of(sum).ok_or("no sum")?;
+        assert!(rt; adds(difference, BinaryOp::Sub, 2));
+        let one = left_of(difference).ok_or("no difference")?;
+        assert!(rt; is_number(one, 1));
         Ok(())
     }
 }
