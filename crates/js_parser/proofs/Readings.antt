@@ -5,6 +5,7 @@ use Rattle.std.proofs.lemmas.Slice.Eq.{bytes_eq-Decides}
 use Rattle.js_core.specs.Tree as tree
 use Rattle.js_core.specs.Tree.{name, num, text, member, call, binary, assign, no_exprs, then_expr, no_expr, one_expr, code, var, function, expr, no_stmts, then_stmt, no_declarators, then_declarator, stmts_of}
 use Rattle.js_core.specs.Height.{expr_height, stmt_height, stmts_height}
+use Rattle.js_core.specs.GlobalNames.{global_names}
 use Rattle.js_parser.specs.Names.{is_name}
 use Rattle.js_parser.specs.Items.{IsSum, IsStatement, AreStatements, IsItem, AreItems}
 use Rattle.js_parser.specs.Spelling.{expr_tokens, stmt_tokens, stmts_tokens, item_tokens, items_tokens}
@@ -43,7 +44,7 @@ other : (x k : List ℕ) → is_name x ≡ true → is_name k ≡ false → byte
 other x k n o = other_by x k n o (bytes_eq x k) refl
 
 console_is : is_name (codes "console") ≡ false
-unfolding is_name
+unfolding is_name global_names
 console_is = refl
 
 var_is : is_name (codes "var") ≡ false

@@ -6,7 +6,6 @@ ghost use Rattle.js_parser.specs.Reading as spec;
 ghost use Rattle.js_parser.specs.Reading.{Reads};
 
 use crate::fault::ParseFault;
-use crate::letters::spells;
 use crate::name_form::is_name;
 use js_core::units::Units;
 use std::marker::Model;
@@ -72,7 +71,7 @@ impl<'a> Cursor<'a> {
     {
         match self.tokens {
             [] => false,
-            [next, ..] => spells(next.as_slice(), token),
+            [next, ..] => next.spells(token),
         }
     }
 

@@ -1,6 +1,6 @@
 //! ASCII letters and digits among 16-bit units.
 
-ghost use Rattle.std.specs.Prelude.{◌≡◌, bytes_eq, IfOk};
+ghost use Rattle.std.specs.Prelude.{◌≡◌, IfOk};
 ghost use Rattle.std.specs.Char.{is_ascii_alphabetic, is_ascii_alphanumeric, is_ascii_digit};
 
 use js_core::memory::OutOfMemory;
@@ -26,17 +26,6 @@ pub fn is_digit(unit: u16) -> bool
     ensures { result ≡ is_ascii_digit unit }
 {
     unit < 128 && (unit as u8).is_ascii_digit()
-}
-
-/// Whether the units are these ASCII codes.
-pub fn spells(units: &[u16], word: &[u8]) -> bool
-    ensures { result ≡ bytes_eq units.now word.now }
-{
-    match (units, word) {
-        ([], []) => true,
-        ([unit, units @ ..], [code, word @ ..]) => *unit == u16::from(*code) && spells(units, word),
-        _ => false,
-    }
 }
 
 /// The text with these ASCII codes.

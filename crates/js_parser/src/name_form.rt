@@ -1,12 +1,12 @@
 //! The names of variables and functions.
 
-ghost use Rattle.std.specs.Prelude.{◌≡◌, bytes_eq};
+ghost use Rattle.std.specs.Prelude.{◌≡◌};
 ghost use Rattle.std.specs.Char.{is_ascii_alphanumeric};
-ghost use Rattle.std.specs.List.{list_all, list_any};
+ghost use Rattle.std.specs.List.{list_all};
 ghost use Rattle.js_parser.specs.Names as spec;
-ghost use Rattle.js_core.specs.GlobalNames.{global_names};
 
-use crate::letters::{is_letter, is_letter_or_digit, spells};
+use crate::letters::{is_letter, is_letter_or_digit};
+use js_core::global_names::is_global_name;
 use js_core::units::Units;
 
 /// The reserved words of ECMA-262 5.1 section 7.6.1, those of strict code too.
@@ -58,37 +58,6 @@ const RESERVED_WORDS: [&[u8]; 45] = [
     b"yield",
 ];
 
-/// The names of the global object's built-in properties.
-const GLOBAL_NAMES: [&[u8]; 27] = [
-    b"window",
-    b"document",
-    b"console",
-    b"alert",
-    b"setTimeout",
-    b"setInterval",
-    b"setIntervalFrom",
-    b"clearTimeout",
-    b"clearInterval",
-    b"Object",
-    b"Function",
-    b"Array",
-    b"String",
-    b"Number",
-    b"Boolean",
-    b"Math",
-    b"Error",
-    b"TypeError",
-    b"RangeError",
-    b"ReferenceError",
-    b"Node",
-    b"Event",
-    b"isNaN",
-    b"isFinite",
-    b"parseInt",
-    b"undefined",
-    b"NaN",
-];
-
 /// Names that strict code may not declare.
 const RESTRICTED_NAMES: [&[u8]; 2] = [b"eval", b"arguments"];
 
@@ -110,24 +79,6 @@ fn are_letters_or_digits(units: &[u16]) -> bool
     units.iter().all(|unit| is_letter_or_digit(*unit))
 }
 
-fn is_among(units: &[u16], words: &[&[u8]]) -> bool
-    ensures { result ≡ list_any (λ word. bytes_eq units.now word.now) words.now }
-{
-    words.iter().any(|word| spells(units, word))
-}
-
-fn is_reserved(units: &[u16]) -> bool
-    ensures { result ≡ spec.is_one_of spec.reserved_words units.now }
-{
-    is_among(units, &RESERVED_WORDS)
-}
-
-fn is_global(units: &[u16]) -> bool
-    ensures { result ≡ spec.is_one_of global_names units.now }
-{
-    is_among(units, &GLOBAL_NAMES)
-}
-
 /// Whether the text is a name that a script may declare: an ASCII letter and then ASCII letters and digits
 /// (ECMA-262 5.1 section 7.6), but no reserved word, no built-in name, and neither `eval` nor `arguments`.
 #[tactic(auto, unfolding(crate::specs::Names::is_name))]
@@ -136,9 +87,9 @@ pub fn is_name(text: &Units) -> bool
 {
     let units = text.as_slice();
     is_plain_word(units)
-        && !is_reserved(units)
-        && !is_global(units)
-        && !is_among(units, &RESTRICTED_NAMES)
+        && !text.is_among(&RESERVED_WORDS)
+        && !is_global_name(text)
+        && !text.is_among(&RESTRICTED_NAMES)
 }
 
 /// Whether the text is a built-in name that stands for a value.
@@ -146,7 +97,7 @@ pub fn is_name(text: &Units) -> bool
 pub fn is_value_name(text: &Units) -> bool
     ensures { result ≡ spec.is_value_name text.now }
 {
-    is_among(text.as_slice(), &VALUE_NAMES)
+    text.is_among(&VALUE_NAMES)
 }
 
 #[cfg(test)]
