@@ -2,4 +2,6 @@ pub mod Between
 pub mod Found
 pub mod Heads
 pub mod ItemsSoFar
+pub mod Moves
 pub mod OneMember
+pub mod SavedItems
