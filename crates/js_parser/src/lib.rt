@@ -1,15 +1,16 @@
-//! The reading of scripts.
+//! The reading and the printing of scripts.
 #![tactic(auto)]
 
 mod cursor;
-pub mod fault;
-pub mod first;
 mod items;
 mod letters;
-pub mod name_form;
 mod name_table;
 mod name_use;
 mod numerals;
 mod statements;
 mod sums;
+pub mod fault;
+pub mod first;
+pub mod name_form;
+pub mod printing;
 pub mod words;
