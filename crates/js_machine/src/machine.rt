@@ -93,8 +93,8 @@ pub fn run_call(
     }
 }
 
-#[tactic(auto, using(crate::proofs::Steps::assign_follows, crate::proofs::Steps::log_follows, crate::proofs::Steps::call_follows, crate::proofs::Steps::nothing_follows))]
 /// Does the statement, up to the entry of the function that it calls.
+#[tactic(auto, using(crate::proofs::Steps::assign_follows, crate::proofs::Steps::log_follows, crate::proofs::Steps::call_follows, crate::proofs::Steps::nothing_follows))]
 fn step<'a>(
     codes: &'a Codes,
     globals: &mut Globals,
@@ -160,8 +160,8 @@ pub fn call<'a>(
     }
 }
 
-#[tactic(auto, using(crate::proofs::Sizes::body_is_paid))]
 /// Enters a function, which takes a step, and one of the levels of depth.
+#[tactic(auto, using(crate::proofs::Sizes::body_is_paid))]
 fn enter<'a>(codes: &'a Codes, at: u64, meter: &mut Meter) -> Next<'a>
     ensures follows { Enters codes.now at meter.old result meter.new }
     ensures levels { Levels meter.old result meter.new }

@@ -20,6 +20,11 @@ use std::alloc::Global;
 use std::rc::Rc;
 use std::test::Fail;
 
+// The text, of which no contract says anything.
+fn text(alloc: Global, text: &str) -> Result<Units, OutOfMemory> {
+    Units::from_utf8(alloc, text)
+}
+
 fn whole(n: i64) -> Whole {
     match Whole::new(n) {
         Some(whole) => whole,
@@ -35,11 +40,11 @@ fn number(n: i64) -> Expr
     }
 }
 
-fn name(alloc: Global, text: &str) -> Result<Expr, OutOfMemory>
+fn name(alloc: Global, x: &str) -> Result<Expr, OutOfMemory>
     ensures { IfOk result (λ e. expr_height e ≡ 1) }
 {
     Ok(Expr {
-        node: ExprNode::Name(Units::from_utf8(alloc, text)?),
+        node: ExprNode::Name(text(alloc, x)?),
     })
 }
 
@@ -78,7 +83,7 @@ fn log(alloc: Global, x: &str) -> Result<Stmt, OutOfMemory>
 {
     let console = Box::new(alloc, name(alloc, "console")?)?;
     let callee = Expr {
-        node: ExprNode::Member(console, Units::from_utf8(alloc, "log")?),
+        node: ExprNode::Member(console, text(alloc, "log")?),
     };
     let args = vec![in alloc; name(alloc, x)?]?;
     Ok(statement(ExprNode::Call(Box::new(alloc, callee)?, args)))
@@ -97,7 +102,7 @@ fn var(alloc: Global, x: &str, n: i64) -> Result<Stmt, OutOfMemory>
     ensures { IfOk result (λ s. stmt_height s ≤ 9) }
 {
     let declarator = Declarator {
-        name: Units::from_utf8(alloc, x)?,
+        name: text(alloc, x)?,
         value: Some(number(n)),
     };
     Ok(Stmt {
@@ -111,7 +116,7 @@ fn function(alloc: Global, x: &str, body: Vec<Stmt>) -> Result<Stmt, OutOfMemory
     ensures { IfOk result (λ s. stmt_height s ≤ 12) }
 {
     let code = Code {
-        name: Some(Units::from_utf8(alloc, x)?),
+        name: Some(text(alloc, x)?),
         formals: Vec::new(alloc),
         body,
     };
@@ -138,30 +143,26 @@ fn script(alloc: Global, a: Stmt, b: Stmt, c: Stmt) -> Result<Script, OutOfMemor
     })
 }
 
-fn event(alloc: Global, x: &str) -> Result<Event, OutOfMemory> {
-    Ok(Event::Call(Units::from_utf8(alloc, x)?))
-}
-
-// Whether the last line of the page, which has so many, is this one.
+// Whether the last line of the page, which has so many, is this one, and `n` holds the number.
 fn ends_with(
     alloc: Global,
     page: &First,
     count: usize,
     kind: LineKind,
-    text: &str,
+    words: &str,
+    n: i64,
 ) -> Result<bool, OutOfMemory> {
-    let text = Units::from_utf8(alloc, text)?;
+    let words = text(alloc, words)?;
+    let holds = page.cell(&text(alloc, "n")?) == Some(Cell::Num(whole(n)));
     Ok(match page.lines().last() {
-        Some(line) => page.lines().len() == count && line.kind == kind && line.text == text,
+        Some(line) => {
+            holds && page.lines().len() == count && line.kind == kind && line.text == words
+        }
         None => false,
     })
 }
 
-fn holds(alloc: Global, page: &First, x: &str, n: i64) -> Result<bool, OutOfMemory> {
-    Ok(page.cell(&Units::from_utf8(alloc, x)?) == Some(Cell::Num(whole(n))))
-}
-
-// `var n=FIRST; function f(){n=n+1;LAST} LAST`
+// `var n=FIRST; function f(){n=n+1;LAST} END`
 fn counter(alloc: Global, first: i64, last: Stmt, end: Stmt) -> Result<First, OutOfMemory>
     requires last { stmt_height last ≤ 9 }
     requires end { stmt_height end ≤ 9 }
@@ -171,78 +172,69 @@ fn counter(alloc: Global, first: i64, last: Stmt, end: Stmt) -> Result<First, Ou
     load(alloc, &script(alloc, var(alloc, "n", first)?, f, end)?)
 }
 
-#[test]
-fn counts_the_calls_of_a_function(rt: HostRuntime) -> Result<(), Fail> {
-    let alloc = rt.alloc();
-    let mut page = counter(alloc, 4, log(alloc, "n")?, call(alloc, "f")?)?;
-    assert!(rt; ends_with(alloc, &page, 1, LineKind::Log, "5")?);
-    page.act(&event(alloc, "f")?)?;
-    assert!(rt; ends_with(alloc, &page, 2, LineKind::Log, "6")?);
-    assert!(rt; holds(alloc, &page, "n", 6)?);
-    Ok(())
+// `function f(){n=n+1;console.log(n);} f();`
+fn logging(alloc: Global, first: i64) -> Result<First, OutOfMemory> {
+    counter(alloc, first, log(alloc, "n")?, call(alloc, "f")?)
+}
+
+// `function f(){n=n+1;f();} console.log(f);`
+fn deep(alloc: Global) -> Result<First, OutOfMemory> {
+    counter(alloc, 0, call(alloc, "f")?, log(alloc, "f")?)
+}
+
+// `function f(){n=n+1;console.log(n);} m=m+1;`
+fn wrong(alloc: Global) -> Result<First, OutOfMemory> {
+    counter(alloc, 0, log(alloc, "n")?, add(alloc, "m", 1)?)
+}
+
+fn act(alloc: Global, page: &mut First, x: &str) -> Result<(), OutOfMemory> {
+    page.act(&Event::Call(text(alloc, x)?))
+}
+
+fn act_within(alloc: Global, page: &mut First, x: &str, steps: u64) -> Result<(), OutOfMemory> {
+    page.call_within(&text(alloc, x)?, steps)
 }
 
 #[test]
-fn a_thousand_functions_are_active_at_most(rt: HostRuntime) -> Result<(), Fail> {
-    let alloc = rt.alloc();
-    let mut page = counter(alloc, 0, call(alloc, "f")?, log(alloc, "undefined")?)?;
-    page.act(&event(alloc, "f")?)?;
-    assert!(rt; ends_with(alloc, &page, 2, LineKind::Uncaught, "RangeError: too deep")?);
-    assert!(rt; holds(alloc, &page, "n", 1000)?);
+fn counts_the_calls_of_a_function(rt: HostRuntime) -> Result<(), Fail> {
+    let mut page = logging(rt.alloc(), 4)?;
+    assert!(rt; ends_with(rt.alloc(), &page, 1, LineKind::Log, "5", 5)?);
+    act(rt.alloc(), &mut page, "f")?;
+    assert!(rt; ends_with(rt.alloc(), &page, 2, LineKind::Log, "6", 6)?);
     Ok(())
 }
 
 #[test]
 fn a_sum_out_of_range_throws(rt: HostRuntime) -> Result<(), Fail> {
-    let alloc = rt.alloc();
-    let mut page = counter(alloc, Whole::LARGEST, log(alloc, "n")?, log(alloc, "f")?)?;
-    assert!(rt; ends_with(alloc, &page, 1, LineKind::Log, "[object Function]")?);
-    page.act(&event(alloc, "f")?)?;
+    let mut page = logging(rt.alloc(), Whole::LARGEST - 1)?;
+    act(rt.alloc(), &mut page, "f")?;
+    let line = "RangeError: number out of range";
     assert!(rt;
         ends_with(
-            alloc,
+            rt.alloc(),
             &page,
             2,
             LineKind::Uncaught,
-            "RangeError: number out of range"
+            line,
+            Whole::LARGEST
         )?
     );
-    assert!(rt; holds(alloc, &page, "n", Whole::LARGEST)?);
     Ok(())
 }
 
 #[test]
-fn tells_why_a_name_is_not_called(rt: HostRuntime) -> Result<(), Fail> {
-    let alloc = rt.alloc();
-    let mut page = counter(alloc, 1, log(alloc, "n")?, add(alloc, "m", 1)?)?;
+fn a_thousand_functions_are_active_at_most(rt: HostRuntime) -> Result<(), Fail> {
+    let mut page = deep(rt.alloc())?;
+    assert!(rt; ends_with(rt.alloc(), &page, 1, LineKind::Log, "[object Function]", 0)?);
+    act(rt.alloc(), &mut page, "f")?;
     assert!(rt;
         ends_with(
-            alloc,
-            &page,
-            1,
-            LineKind::Uncaught,
-            "ReferenceError: m is not defined"
-        )?
-    );
-    assert!(rt; holds(alloc, &page, "n", 1)?);
-    page.act(&event(alloc, "n")?)?;
-    assert!(rt;
-        ends_with(
-            alloc,
+            rt.alloc(),
             &page,
             2,
             LineKind::Uncaught,
-            "TypeError: not a function"
-        )?
-    );
-    page.act(&event(alloc, "g")?)?;
-    assert!(rt;
-        ends_with(
-            alloc,
-            &page,
-            3,
-            LineKind::Uncaught,
-            "ReferenceError: g is not defined"
+            "RangeError: too deep",
+            1000
         )?
     );
     Ok(())
@@ -250,30 +242,41 @@ fn tells_why_a_name_is_not_called(rt: HostRuntime) -> Result<(), Fail> {
 
 #[test]
 fn stops_where_no_step_is_left(rt: HostRuntime) -> Result<(), Fail> {
-    let alloc = rt.alloc();
-    let mut page = counter(alloc, 0, call(alloc, "f")?, log(alloc, "NaN")?)?;
-    page.call_within(&Units::from_utf8(alloc, "f")?, 3)?;
-    assert!(rt; ends_with(alloc, &page, 2, LineKind::Stopped, "")?);
-    assert!(rt; holds(alloc, &page, "n", 3)?);
+    let mut page = deep(rt.alloc())?;
+    act_within(rt.alloc(), &mut page, "f", 3)?;
+    assert!(rt; ends_with(rt.alloc(), &page, 2, LineKind::Stopped, "", 3)?);
     Ok(())
 }
 
-fn shows(alloc: Global, cell: Cell, text: &str) -> Result<bool, OutOfMemory> {
-    Ok(text_of(alloc, cell)? == Units::from_utf8(alloc, text)?)
+#[test]
+fn tells_why_a_name_is_not_called(rt: HostRuntime) -> Result<(), Fail> {
+    let mut page = wrong(rt.alloc())?;
+    let line = "ReferenceError: m is not defined";
+    assert!(rt; ends_with(rt.alloc(), &page, 1, LineKind::Uncaught, line, 0)?);
+    act(rt.alloc(), &mut page, "n")?;
+    let line = "TypeError: not a function";
+    assert!(rt; ends_with(rt.alloc(), &page, 2, LineKind::Uncaught, line, 0)?);
+    Ok(())
+}
+
+fn shows(alloc: Global, cell: Cell, words: &str) -> Result<bool, OutOfMemory> {
+    Ok(text_of(alloc, cell)? == text(alloc, words)?)
 }
 
 #[test]
-fn numbers_are_exact_or_nan(rt: HostRuntime) -> Result<(), Fail> {
-    let alloc = rt.alloc();
-    let nan = Whole::nan();
+fn numbers_are_exact_or_nan(rt: HostRuntime) {
     assert_eq!(rt; whole_add(whole(Whole::LARGEST), whole(1)), None);
     assert_eq!(rt; whole_sub(whole(-Whole::LARGEST), whole(1)), None);
-    assert_eq!(rt; whole_sub(nan, whole(1)), Some(nan));
-    assert_eq!(rt; whole_add(whole(1), nan), Some(nan));
+    assert_eq!(rt; whole_sub(Whole::nan(), whole(1)), Some(Whole::nan()));
+    assert_eq!(rt; whole_add(whole(1), Whole::nan()), Some(Whole::nan()));
     assert_eq!(rt; whole_sub(whole(2), whole(5)), Some(whole(-3)));
-    assert!(rt; shows(alloc, Cell::Num(whole(-3)), "-3")?);
-    assert!(rt; shows(alloc, Cell::Num(nan), "NaN")?);
-    assert!(rt; shows(alloc, Cell::Undefined, "undefined")?);
+}
+
+#[test]
+fn shows_what_names_hold(rt: HostRuntime) -> Result<(), Fail> {
+    assert!(rt; shows(rt.alloc(), Cell::Num(whole(-3)), "-3")?);
+    assert!(rt; shows(rt.alloc(), Cell::Num(Whole::nan()), "NaN")?);
+    assert!(rt; shows(rt.alloc(), Cell::Undefined, "undefined")?);
     Ok(())
 }
 
@@ -282,7 +285,7 @@ fn directive_alone(alloc: Global) -> Result<Script, OutOfMemory>
     ensures { IfOk result (λ script. script ≡ with_directive no_stmts) }
 {
     let directive = Expr {
-        node: ExprNode::Text(Units::from_utf8(alloc, "use strict")?),
+        node: ExprNode::Text(Units::of(alloc, &b"use strict".map(u16::from))?),
     };
     Ok(Script {
         body: vec![in alloc;
@@ -293,10 +296,14 @@ fn directive_alone(alloc: Global) -> Result<Script, OutOfMemory>
     })
 }
 
-#[test]
 #[tactic(auto, using(crate::proofs::Smallest::smallest_is_first))]
+fn smallest(alloc: Global) -> Result<First, OutOfMemory> {
+    load_first(alloc, &directive_alone(alloc)?)
+}
+
+#[test]
 fn loads_the_smallest_script(rt: HostRuntime) -> Result<(), Fail> {
-    let page = load_first(rt.alloc(), &directive_alone(rt.alloc())?)?;
+    let page = smallest(rt.alloc())?;
     assert_eq!(rt; page.lines().len(), 0);
     assert_eq!(rt; page.names().len(), 0);
     Ok(())
