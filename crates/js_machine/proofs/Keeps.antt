@@ -206,6 +206,7 @@ module _ (fs : Names) (cs : List tree.Code) (vars declared : List (List ℕ)) (f
       let both = and_parts (is_one_of declared x) (expr_is_declared declared e) d in
       safe_bind K IsPlain Any (eval e) (write_name x) (eval_safe e h.1 both.1) (λ v p. write_safe x v both.0 p)
   statement_safe calls g (expr (call (member (name c) m) (then_expr e no_exprs))) h d = safe_bind K IsPlain Any (eval e) console_log (eval_safe e h.2 d) (λ v p. log_safe v)
+  statement_safe calls g (expr (call (name f) no_exprs)) h d = g f
   statement_safe calls g s h d = absurd h
 
   pub statements_safe : (calls : Calls) → ((f : List ℕ) → Safe K Any (calls f)) → (ss : tree.Stmts) → AreStatements ss → stmts_are_declared declared ss ≡ true → Safe K Any (exec_all calls ss)
