@@ -34,6 +34,7 @@ plain_word [] e = absurd (cc)
 plain_word (u ∷ us) e = (letter u (and_left _ _ e), and_right _ _ e)
 
 pub name_is_word : (x : List ℕ) → IsTrue (is_name x) → IsWord x
+unfolding is_name
 name_is_word x h = plain_word x (and_left _ _ (and_left _ _ (and_left _ _ h)))
 
 value_name : (x : List ℕ) (b : Bool) → bytes_eq x (codes "NaN") ≡ b → (b || (bytes_eq x (codes "undefined") || false)) ≡ true → IsWord x
@@ -45,6 +46,7 @@ value_name x false e h = other (bytes_eq x (codes "undefined")) refl h
     other false e h = absurd (cc)
 
 pub read_name_is_word : (x : List ℕ) → IsTerm (name x) → IsWord x
+unfolding is_value_name
 read_name_is_word x h = by_case (is_value_name x) refl h
   where
     by_case : (b : Bool) → is_value_name x ≡ b → (b || is_name x) ≡ true → IsWord x
