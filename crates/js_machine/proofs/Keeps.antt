@@ -11,7 +11,7 @@ use Rattle.js_core.specs.declared.throw.Throw.TheVariants.{NotDefined, NotFuncti
 use Rattle.js_core.specs.Whole.{largest, is_whole}
 use Rattle.js_core.specs.Tree as tree
 use Rattle.js_core.specs.Tree.{name, num, member, call, binary, assign, no_exprs, then_expr, no_expr, one_expr, code, var, function, expr, no_stmts, then_stmt, no_declarators, then_declarator}
-use Rattle.js_parser.specs.Names.{is_one_of}
+use Rattle.js_parser.specs.Names.{is_value_name}
 use Rattle.js_parser.specs.Items.{IsTerm, IsSum, IsStatement, AreStatements, expr_is_declared, stmt_is_declared, stmts_are_declared}
 use Rattle.js_machine.specs.declared.cell.Cell.{Cell}
 use Rattle.js_machine.specs.declared.cell.Cell.TheVariants.{Undefined, Num, Function}
@@ -139,18 +139,18 @@ with_plain (e ∷ es) x v h p = by_case (bytes_eq x e.0) (with_plain es x v h.1 
 -- ---- scripts over these functions and variables
 
 -- a body that a call may run
-pub record IsBody (declared : List (List ℕ)) (body : tree.Stmts) : Type 0 where
+pub record IsBody (declared : List ℕ → Bool) (body : tree.Stmts) : Type 0 where
   pub shaped : AreStatements body
   pub declared_all : stmts_are_declared declared body ≡ true
 
-module _ (fs : Names) (cs : List tree.Code) (vars declared : List (List ℕ)) (free : (x : List ℕ) → is_one_of declared x ≡ true → held_by fs x ≡ None) (bodies : (k : ℕ) → IsBody declared (body_of (slice_get cs k))) where
+module _ (fs : Names) (cs : List tree.Code) (vars : List (List ℕ)) (declared : List ℕ → Bool) (free : (x : List ℕ) → declared x ≡ true → held_by fs x ≡ None) (bodies : (k : ℕ) → IsBody declared (body_of (slice_get cs k))) where
   abbrev K : Store → Type 0
   K s = Keeps fs cs vars s
 
   pub line_kept : (kind : LineKind) (words : List ℕ) (s : Store) → K s → K (put_line kind words s)
   line_kept kind words s k = record { held = k.held; names = k.names; known = k.known; plain = k.plain; codes = k.codes }
 
-  name_kept : (x : List ℕ) (v : Cell) (s : Store) → is_one_of declared x ≡ true → IsPlain v → K s → K (record { names = with_name s.names x v; codes = s.codes; lines = s.lines })
+  name_kept : (x : List ℕ) (v : Cell) (s : Store) → declared x ≡ true → IsPlain v → K s → K (record { names = with_name s.names x v; codes = s.codes; lines = s.lines })
   name_kept x v s d p k = record {
     held = with_name k.held x v;
     names = ap (λ es. with_name es x v) k.names ∙ with_after fs k.held x v (free x d);
@@ -159,7 +159,7 @@ module _ (fs : Names) (cs : List tree.Code) (vars declared : List (List ℕ)) (f
     codes = k.codes;
   }
 
-  pub write_safe : (x : List ℕ) (v : Cell) → is_one_of declared x ≡ true → IsPlain v → Safe K Any (write_name x v)
+  pub write_safe : (x : List ℕ) (v : Cell) → declared x ≡ true → IsPlain v → Safe K Any (write_name x v)
   write_safe x v d p = safe_change K _ (λ s k. name_kept x v s d p k)
 
   log_safe : (v : Cell) → Safe K Any (console_log v)
@@ -169,13 +169,13 @@ module _ (fs : Names) (cs : List tree.Code) (vars declared : List (List ℕ)) (f
   abbrev FoundPlain : Option Cell → Type 0
   FoundPlain o = (v : Cell) → o ≡ Some v → IsPlain v
 
-  global_safe : (x : List ℕ) → is_one_of declared x ≡ true → Safe K IsPlain (read_global x)
+  global_safe : (x : List ℕ) → declared x ≡ true → Safe K IsPlain (read_global x)
   global_safe x d =
       safe_bind K FoundPlain IsPlain (ask (λ s. held_by s.names x)) (or_raise (NotDefined x))
       (safe_ask K FoundPlain _ (λ s k v e. found_plain k.held x v k.plain (sym (held_after fs k.held x (free x d)) ∙ ap (λ es. held_by es x) (sym k.names) ∙ e)))
       (λ o h. or_raise_safe K IsPlain (NotDefined x) o h)
 
-  name_safe : (x : List ℕ) (p q : Bool) → ((p || (q || false)) || is_one_of declared x) ≡ true → Safe K IsPlain (if p then ret (Num None) else (if q then ret Undefined else read_global x))
+  name_safe : (x : List ℕ) (p q : Bool) → ((p || (q || false)) || declared x) ≡ true → Safe K IsPlain (if p then ret (Num None) else (if q then ret Undefined else read_global x))
   name_safe x true q d = safe_ret K IsPlain (Num None) tt
   name_safe x false true d = safe_ret K IsPlain Undefined tt
   name_safe x false false d = global_safe x d
@@ -188,6 +188,7 @@ module _ (fs : Names) (cs : List tree.Code) (vars declared : List (List ℕ)) (f
       safe_ret K IsPlain (Num n) r
 
   pub eval_safe : (e : tree.Expr) → IsSum e → expr_is_declared declared e ≡ true → Safe K IsPlain (eval e)
+  unfolding is_value_name
   eval_safe (name x) h d = name_safe x (bytes_eq x (codes "NaN")) (bytes_eq x (codes "undefined")) d
   eval_safe (num (Some (pos n))) h d = safe_ret K IsPlain (Num (Some (pos n))) (le-leb n largest h)
   eval_safe (binary Add a b) h d =
@@ -203,7 +204,7 @@ module _ (fs : Names) (cs : List tree.Code) (vars declared : List (List ℕ)) (f
 
   pub statement_safe : (calls : Calls) → ((f : List ℕ) → Safe K Any (calls f)) → (s : tree.Stmt) → IsStatement s → stmt_is_declared declared s ≡ true → Safe K Any (exec calls s)
   statement_safe calls g (expr (assign None (name x) e)) h d =
-      let both = and_parts (is_one_of declared x) (expr_is_declared declared e) d in
+      let both = and_parts (declared x) (expr_is_declared declared e) d in
       safe_bind K IsPlain Any (eval e) (write_name x) (eval_safe e h.1 both.1) (λ v p. write_safe x v both.0 p)
   statement_safe calls g (expr (call (member (name c) m) (then_expr e no_exprs))) h d = safe_bind K IsPlain Any (eval e) console_log (eval_safe e h.2 d) (λ v p. log_safe v)
   statement_safe calls g (expr (call (name f) no_exprs)) h d = g f

@@ -95,6 +95,7 @@ first_named seen (x ∷ xs) h = by_case (is_one_of seen x) (first_named seen xs 
     by_case false p q = (h.0, q)
 
 number_is_sum : (n : Option ℤ) → IsPlainNumber n → IsSum (saved_number n)
+unfolding is_value_name
 number_is_sum None h = refl
 number_is_sum (Some (pos n)) h = leb-true n largest h
 number_is_sum (Some (negsuc n)) h = (omega arith, leb-true (suc n) largest h)
@@ -115,57 +116,29 @@ functions_shaped (then_stmt s ss) h = functions_shaped ss h.1
 
 -- ---- each name in use is declared
 
-number_declared : (vars : List (List ℕ)) (n : Option ℤ) → expr_is_declared vars (saved_number n) ≡ true
-number_declared vars None = refl
-number_declared vars (Some (pos n)) = refl
-number_declared vars (Some (negsuc n)) = refl
+number_declared : (is_variable : List ℕ → Bool) (n : Option ℤ) → expr_is_declared is_variable (saved_number n) ≡ true
+unfolding is_value_name
+number_declared is_variable None = refl
+number_declared is_variable (Some (pos n)) = refl
+number_declared is_variable (Some (negsuc n)) = refl
 
-variables_declared : (vars : List (List ℕ)) (es : Names) (rest : tree.Stmts) → items_are_declared vars rest ≡ true → items_are_declared vars (saved_variables es rest) ≡ true
-variables_declared vars [] rest h = h
-variables_declared vars (e ∷ es) rest h = by_case e.1 (variables_declared vars es rest h)
+variables_declared : (is_variable : List ℕ → Bool) (es : Names) (rest : tree.Stmts) → items_are_declared is_variable rest ≡ true → items_are_declared is_variable (saved_variables es rest) ≡ true
+variables_declared is_variable [] rest h = h
+variables_declared is_variable (e ∷ es) rest h = by_case e.1 (variables_declared is_variable es rest h)
   where
-    by_case : (v : Cell) → items_are_declared vars (saved_variables es rest) ≡ true → items_are_declared vars (saved_variable e.0 v (saved_variables es rest)) ≡ true
+    by_case : (v : Cell) → items_are_declared is_variable (saved_variables es rest) ≡ true → items_are_declared is_variable (saved_variable e.0 v (saved_variables es rest)) ≡ true
     by_case Undefined g = g
-    by_case (Num n) g = and_from (expr_is_declared vars (saved_number n)) _ (number_declared vars n) g
+    by_case (Num n) g = and_from (expr_is_declared is_variable (saved_number n)) _ (number_declared is_variable n) g
     by_case (Function k) g = g
 
-functions_declared : (vars : List (List ℕ)) (ss : tree.Stmts) → items_are_declared vars ss ≡ true → items_are_declared vars (saved_functions (codes_of ss)) ≡ true
-functions_declared vars no_stmts h = refl
-functions_declared vars (then_stmt (function c) ss) h =
-    let both = and_parts (item_is_declared vars (function c)) (items_are_declared vars ss) h in
-    and_from (item_is_declared vars (function c)) _ both.0 (functions_declared vars ss both.1)
-functions_declared vars (then_stmt s ss) h = functions_declared vars ss (and_parts (item_is_declared vars s) (items_are_declared vars ss) h).1
+functions_declared : (is_variable : List ℕ → Bool) (ss : tree.Stmts) → items_are_declared is_variable ss ≡ true → items_are_declared is_variable (saved_functions (codes_of ss)) ≡ true
+functions_declared is_variable no_stmts h = refl
+functions_declared is_variable (then_stmt (function c) ss) h =
+    let both = and_parts (item_is_declared is_variable (function c)) (items_are_declared is_variable ss) h in
+    and_from (item_is_declared is_variable (function c)) _ both.0 (functions_declared is_variable ss both.1)
+functions_declared is_variable (then_stmt s ss) h = functions_declared is_variable ss (and_parts (item_is_declared is_variable s) (items_are_declared is_variable ss) h).1
 
--- the same names declare the same
-module _ (vars more : List (List ℕ)) (same : (y : List ℕ) → is_one_of vars y ≡ is_one_of more y) where
-  same_expr : (e : tree.Expr) → expr_is_declared vars e ≡ expr_is_declared more e
-  same_expr (name x) = ap (λ b. is_value_name x || b) (same x)
-  same_expr (binary op a b) = λ i. same_expr a i && same_expr b i
-  same_expr e = refl
-
-  same_stmt : (s : tree.Stmt) → stmt_is_declared vars s ≡ stmt_is_declared more s
-  same_stmt (expr (assign op (name x) e)) = λ i. same x i && same_expr e i
-  same_stmt (expr (call f (then_expr e es))) = same_expr e
-  same_stmt (var (then_declarator x (one_expr e) ds)) = same_expr e
-  same_stmt s = refl
-
-  same_stmts : (ss : tree.Stmts) → stmts_are_declared vars ss ≡ stmts_are_declared more ss
-  same_stmts no_stmts = refl
-  same_stmts (then_stmt s ss) = λ i. same_stmt s i && same_stmts ss i
-
-  same_item : (s : tree.Stmt) → item_is_declared vars s ≡ item_is_declared more s
-  same_item (function (code f formals body)) = same_stmts body
-  same_item s = same_stmt s
-
-  pub same_items : (ss : tree.Stmts) → items_are_declared vars ss ≡ items_are_declared more ss
-  same_items no_stmts = refl
-  same_items (then_stmt s ss) = λ i. same_item s i && same_items ss i
-
-  pub same_apart : (names : List (List ℕ)) → list_all (λ f. not (is_one_of vars f)) names ≡ list_all (λ f. not (is_one_of more f)) names
-  same_apart [] = refl
-  same_apart (f ∷ names) = λ i. not (same f i) && same_apart names i
-
-well : (vars names : List (List ℕ)) (ss : tree.Stmts) → variables_of ss ≡ vars → functions_of ss ≡ names → items_are_declared vars ss ≡ true → are_distinct names ≡ true → list_all (λ f. not (is_one_of vars f)) names ≡ true → is_well_declared ss ≡ true
+well : (vars names : List (List ℕ)) (ss : tree.Stmts) → variables_of ss ≡ vars → functions_of ss ≡ names → items_are_declared (is_one_of vars) ss ≡ true → are_distinct names ≡ true → list_all (λ f. not (is_one_of vars f)) names ≡ true → is_well_declared ss ≡ true
 well vars names ss p q a b c = rw (p, q) (and_from _ _ (and_from _ _ a b) c)
 
 -- ---- their height
@@ -205,15 +178,16 @@ shaped_items items first es plain known =
     let functions = saved_functions (codes_of items) in
     let saved = saved_variables es functions in
     let vars = first_ones [] (variables_of items) in
+    let same : is_one_of vars ≡ is_one_of (variables_of items) = λ i y. one_of-first_ones (variables_of items) y i in
     let declares : variables_of saved ≡ vars = variables_saved es functions plain ∙ ap (λ r. keys_of es ++ r) (no_variables (codes_of items)) ∙ append-nil (keys_of es) ∙ known in
     let calls : functions_of saved ≡ functions_of items = functions_after es functions ∙ functions_saved items in
     record {
       strict = refl;
       shaped = variables_shaped es functions plain (subst AreNames (sym known) (first_named [] (variables_of items) (variables_named items first.shaped))) (functions_shaped items first.shaped);
       declared = well vars (functions_of items) saved declares calls
-          (variables_declared vars es functions (functions_declared vars items (same_items vars (variables_of items) (one_of-first_ones (variables_of items)) items ∙ first.declared)))
+          (variables_declared (is_one_of vars) es functions (functions_declared (is_one_of vars) items (ap (λ t. items_are_declared t items) same ∙ first.declared)))
           first.distinct
-          (same_apart vars (variables_of items) (one_of-first_ones (variables_of items)) (functions_of items) ∙ first.apart);
+          (ap (λ t. list_all (λ f. not (t f)) (functions_of items)) same ∙ first.apart);
       low = max-le {a = 2} (omega arith) (variables_low es functions height_limit (omega arith) (functions_low items height_limit (right_within 2 (stmts_height items) height_limit first.low)));
     }
 
