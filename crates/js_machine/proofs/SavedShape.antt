@@ -1,5 +1,5 @@
 -- What is saved of a first page is a first script.
-use Rattle.std.proofs.Common.{◌≡◌, ℕ, ℤ, suc, pos, negsuc, ◌+◌, ◌≤◌, max, Bool, true, false, not, ◌&&◌, ◌||◌, IsTrue, List, [], ◌∷◌, ◌++◌, Option, Some, None, if◌then◌else◌, refl, ap, sym, ◌∙◌, subst, append-nil, arith}
+use Rattle.std.proofs.Common.{◌≡◌, ℕ, ℤ, suc, pos, negsuc, ◌+◌, ◌≤◌, max, Bool, true, false, not, IsTrue, List, [], ◌∷◌, ◌++◌, Option, Some, None, if◌then◌else◌, refl, ap, sym, ◌∙◌, subst, append-nil, arith}
 use Rattle.std.specs.List.{list_all}
 use Rattle.std.proofs.lemmas.Bool.{and_parts, and_from, leb-true}
 use Rattle.std.specs.Map.{keys_of}
@@ -10,7 +10,7 @@ use Rattle.js_core.specs.Whole.{largest}
 use Rattle.js_core.specs.Tree as tree
 use Rattle.js_core.specs.Tree.{name, num, binary, member, call, assign, no_exprs, then_expr, no_expr, one_expr, code, var, function, expr, no_stmts, then_stmt, no_declarators, then_declarator}
 use Rattle.js_parser.specs.Names.{is_one_of, is_name, is_value_name}
-use Rattle.js_parser.specs.Items.{IsFirst, IsSum, AreItems, variables_of, functions_of, expr_is_declared, stmt_is_declared, stmts_are_declared, item_is_declared, items_are_declared, are_distinct, is_well_declared, with_directive, height_limit}
+use Rattle.js_parser.specs.Items.{IsFirst, IsSum, AreItems, variables_of, functions_of, expr_is_declared, item_is_declared, items_are_declared, are_distinct, is_well_declared, with_directive, height_limit}
 use Rattle.js_machine.specs.declared.cell.Cell.{Cell}
 use Rattle.js_machine.specs.declared.cell.Cell.TheVariants.{Undefined, Num, Function}
 use Rattle.js_machine.specs.Act.{Store}
