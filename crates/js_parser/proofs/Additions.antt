@@ -8,7 +8,7 @@ use Rattle.js_core.specs.declared.operators.BinaryOp.{BinaryOp}
 use Rattle.js_core.specs.declared.operators.BinaryOp.TheVariants.{Add, Sub}
 use Rattle.js_parser.specs.Items.{IsTerm, IsSum}
 use Rattle.js_parser.specs.Spelling.{expr_tokens}
-use Rattle.js_parser.specs.Reading.{Tokens, Outcome, Parser, and_then, tail, sees, term, operator, most_operators, ends_sum, grows_sum, sum_from, sum}
+use Rattle.js_parser.specs.Reading.{Tokens, Parser, and_then, tail, sees, term, operator, most_operators, ends_sum, grows_sum, sum_from, sum}
 use Rattle.js_parser.proofs.Holds.{Holds, given, nothing, then_holds, seen}
 use Rattle.js_parser.proofs.Terms.{term_holds, term_reads, term_height}
 

@@ -1,5 +1,5 @@
 -- One more declaration in front of items.
-use Rattle.std.proofs.Common.{◌≡◌, ℕ, zero, suc, Bool, true, false, List, [], ◌∷◌, drop, length, get_or, ◌+◌, ◌-◌, ◌<◌, ◌≤◌, arith, drop-cons, Option, Some, None, refl, sym, ap, ◌∙◌, subst, cond, bytes_eq}
+use Rattle.std.proofs.Common.{◌≡◌, ℕ, zero, suc, Bool, true, false, List, [], ◌∷◌, drop, length, get_or, ◌-◌, ◌<◌, ◌≤◌, arith, drop-cons, Option, Some, None, refl, sym, ap, ◌∙◌, subst, bytes_eq}
 use Rattle.std.proofs.Math.Seq.{drop-nil}
 use Rattle.std.specs.Prelude.{not, ◌&&◌, ◌||◌, if◌then◌else◌}
 use Rattle.std.specs.List.{list_all}

@@ -1,5 +1,5 @@
 -- What is read has a property.
-use Rattle.std.proofs.Common.{◌≡◌, Bool, true, false, List, ℕ, [], ◌∷◌, Option, Some, None, refl, subst, ap, ◌∙◌, bytes_eq}
+use Rattle.std.proofs.Common.{◌≡◌, Bool, true, false, List, ℕ, [], ◌∷◌, Some, None, refl, subst, ap}
 use Rattle.std.specs.Prelude.{if◌then◌else◌}
 use Rattle.js_parser.specs.Names.{is_name}
 use Rattle.js_parser.specs.Reading.{Tokens, Outcome, Parser, and_then, tail, sees, expect, declared_name}

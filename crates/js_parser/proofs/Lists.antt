@@ -1,10 +1,10 @@
 -- Lists of statements, read one by one.
-use Rattle.std.proofs.Common.{◌≡◌, ℕ, zero, suc, ◌+◌, ◌≤◌, Bool, true, false, List, [], ◌∷◌, ◌++◌, length, Option, Some, None, refl, sym, ap, ◌∙◌, append_assoc, append-nil, length-append, arith}
+use Rattle.std.proofs.Common.{◌≡◌, ℕ, zero, suc, ◌≤◌, Bool, true, false, List, [], ◌∷◌, ◌++◌, length, Some, refl, sym, ap, ◌∙◌, append_assoc, append-nil, length-append, arith}
 use Rattle.std.specs.Prelude.{if◌then◌else◌}
 use Rattle.js_core.specs.Tree as tree
 use Rattle.js_core.specs.Tree.{no_stmts, then_stmt, stmts_of}
-use Rattle.js_parser.specs.Reading.{Tokens, Outcome, Parser, and_then, repeat, one_more}
-use Rattle.js_parser.proofs.Holds.{Holds, given, nothing, then_holds, either_holds}
+use Rattle.js_parser.specs.Reading.{Tokens, Parser, and_then, repeat, one_more}
+use Rattle.js_parser.proofs.Holds.{Holds, given, then_holds, either_holds}
 
 abbrev pub list_of : tree.Stmts → List tree.Stmt
 list_of no_stmts = []

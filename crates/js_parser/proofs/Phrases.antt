@@ -1,12 +1,12 @@
 -- What is read as a statement or an item is spelled by what was read.
-use Rattle.std.proofs.Common.{◌≡◌, ℕ, Bool, true, false, List, [], ◌∷◌, ◌++◌, length, Option, Some, None, refl, sym, subst, ap, ◌∙◌, append_assoc, codes}
+use Rattle.std.proofs.Common.{◌≡◌, ℕ, true, List, [], ◌∷◌, ◌++◌, length, refl, sym, ap, ◌∙◌, append_assoc, codes}
 use Rattle.js_core.specs.Tree as tree
 use Rattle.js_core.specs.Tree.{name, num, text, member, call, binary, assign, no_exprs, then_expr, no_expr, one_expr, code, var, function, expr, no_stmts, then_stmt, no_declarators, then_declarator, stmts_of}
 use Rattle.js_parser.specs.Names.{is_name}
-use Rattle.js_parser.specs.Items.{IsSum, IsStatement, AreStatements, IsItem, AreItems}
+use Rattle.js_parser.specs.Items.{IsStatement, AreStatements, IsItem, AreItems}
 use Rattle.js_parser.specs.Spelling.{expr_tokens, stmt_tokens, stmts_tokens, item_tokens, items_tokens}
-use Rattle.js_parser.specs.Reading.{Tokens, Outcome, Parser, and_then, tail, sees, sum, assignment, log, logged, statement, in_body, body, variable, procedure, item, has_more, items}
-use Rattle.js_parser.proofs.Holds.{Holds, given, nothing, then_holds, held, either_holds, seen, expect_holds, name_holds}
+use Rattle.js_parser.specs.Reading.{Tokens, tail, sees, assignment, log, statement, in_body, body, variable, procedure, item, has_more, items}
+use Rattle.js_parser.proofs.Holds.{Holds, given, then_holds, held, either_holds, seen, expect_holds, name_holds}
 use Rattle.js_parser.proofs.Additions.{sum_holds}
 use Rattle.js_parser.proofs.Lists.{Each, spelled, repeat_holds}
 

@@ -1,10 +1,10 @@
 -- A text's tokens, scanned from the left.
-use Rattle.std.proofs.Common.{◌≡◌, ℕ, suc, ◌+◌, ◌≤◌, Bool, true, false, List, [], ◌∷◌, take, drop, length, refl, sym, ap, ◌∙◌, cond, arith}
+use Rattle.std.proofs.Common.{◌≡◌, ℕ, suc, ◌+◌, Bool, true, false, List, [], ◌∷◌, take, drop, length, refl, sym, ap, ◌∙◌, arith}
 use Rattle.std.specs.Prelude.{max}
 use Rattle.std.specs.List.{prefix_len}
 use Rattle.std.specs.Char.{is_ascii_alphanumeric}
 use Rattle.std.proofs.lemmas.Bool.Decides.{nat_tests}
-use Rattle.js_parser.specs.Words.{is_blank, begins_with_word_unit, longer, with_unit, tokens_of}
+use Rattle.js_parser.specs.Words.{is_blank, longer, with_unit, tokens_of}
 
 no_blank : (u : ℕ) → is_ascii_alphanumeric u ≡ true → is_blank u ≡ false
 no_blank u e = grind (arith, nat_tests)

@@ -1,5 +1,5 @@
 -- The script that is read of a text is the one that the text is read as.
-use Rattle.std.proofs.Common.{◌≡◌, ◌≢◌, ℕ, ◌≤◌, Bool, true, false, List, [], ◌∷◌, ◌++◌, Option, Some, None, Result, Ok, Err, refl, sym, subst, ap, ◌∙◌, append-nil, codes, arith}
+use Rattle.std.proofs.Common.{◌≡◌, ◌≢◌, ℕ, ◌≤◌, Bool, true, false, List, [], ◌∷◌, ◌++◌, Option, Some, None, Result, Ok, Err, refl, sym, subst, ap, ◌∙◌, append-nil, arith}
 use Rattle.std.specs.Prelude.{◌==◌, nat_le, if◌then◌else◌, IfOk, IsErrOf}
 use Rattle.std.proofs.lemmas.Bool.Decides.{nat_tests}
 use Rattle.js_core.specs.Tree as tree
@@ -9,7 +9,7 @@ use Rattle.js_parser.specs.Words.{tokens_of}
 use Rattle.js_parser.specs.Items.{AreItems, is_well_declared, height_limit, items_of, with_directive, IsFirst}
 use Rattle.js_parser.specs.Spelling.{items_tokens}
 use Rattle.js_parser.specs.First.{FirstText}
-use Rattle.js_parser.specs.Reading.{Tokens, Outcome, Gives, items, has_more, behind, checked, finished, script_behind, directive, script_of}
+use Rattle.js_parser.specs.Reading.{Outcome, Gives, items, behind, checked, finished, script_behind, directive, script_of}
 use Rattle.js_parser.specs.declared.fault.ParseFault.{ParseFault}
 use Rattle.js_parser.specs.declared.fault.ParseFault.TheVariants.{NotScript, OutOfMemory}
 use Rattle.js_parser.proofs.Holds.{holds_of}

@@ -1,5 +1,5 @@
 -- A token that is read as a term spells it, and the other way round.
-use Rattle.std.proofs.Common.{◌≡◌, ℕ, ℤ, pos, zero, suc, true≢false, bytes_eq, codes, ◌+◌, ◌*◌, ◌<◌, ◌≤◌, Bool, true, false, List, [], ◌∷◌, ◌++◌, length, get_or, Option, Some, None, refl, sym, subst, ap, ◌∙◌, arith}
+use Rattle.std.proofs.Common.{◌≡◌, ℕ, ℤ, pos, zero, suc, true≢false, bytes_eq, codes, ◌<◌, ◌≤◌, Bool, true, false, List, [], ◌∷◌, ◌++◌, length, get_or, Option, Some, None, refl, sym, subst, ap, ◌∙◌, arith}
 use Rattle.std.specs.Prelude.{not, ◌&&◌, ◌||◌, ◌==◌, nat_le, if◌then◌else◌}
 use Rattle.std.specs.Char.{is_ascii_digit, is_ascii_alphabetic, is_ascii_alphanumeric}
 use Rattle.std.specs.List.{list_all}
@@ -14,7 +14,7 @@ use Rattle.js_core.specs.Height.{expr_height}
 use Rattle.js_parser.specs.Names.{is_name, is_value_name}
 use Rattle.js_parser.specs.Items.{IsTerm}
 use Rattle.js_parser.specs.Spelling.{expr_tokens}
-use Rattle.js_parser.specs.Reading.{Tokens, Outcome, is_numeral, value_of, number_of, num_of, term_of, before, term}
+use Rattle.js_parser.specs.Reading.{Tokens, is_numeral, value_of, number_of, num_of, term_of, before, term}
 use Rattle.js_parser.proofs.Digits.{AreDigits, own}
 use Rattle.js_parser.proofs.Apart.{bytes_same}
 use Rattle.js_parser.proofs.Holds.{Holds, given, nothing}

@@ -1,6 +1,6 @@
 -- The syntax trees of the pages that run so far: global variables, functions without formals, assignments of sums and
 -- `console.log` of a sum.
-use Rattle.std.specs.Prelude.{ℕ, pos, ◌≤◌, ◌≡◌, ◌+◌, Bool, true, false, not, ◌&&◌, ◌||◌, IsTrue, List, [], ◌∷◌, ◌++◌, Option, Some, None, codes}
+use Rattle.std.specs.Prelude.{ℕ, pos, ◌≤◌, ◌≡◌, Bool, true, not, ◌&&◌, ◌||◌, IsTrue, List, [], ◌∷◌, Some, None, codes}
 use Rattle.std.specs.List.{list_all}
 use Rattle.js_core.specs.Whole.{largest}
 use Rattle.js_core.specs.Height.{stmts_height}

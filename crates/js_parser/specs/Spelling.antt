@@ -1,5 +1,5 @@
 -- The tokens that spell an item, in order.
-use Rattle.std.specs.Prelude.{ℕ, pos, List, [], ◌∷◌, ◌++◌, Option, Some, None, codes}
+use Rattle.std.specs.Prelude.{ℕ, pos, List, [], ◌∷◌, ◌++◌, Some, None, codes}
 use Rattle.std.specs.Fmt.{decimal}
 use Rattle.js_core.specs.Tree as tree
 use Rattle.js_core.specs.Tree.{name, num, member, call, binary, assign, no_exprs, then_expr, no_expr, one_expr, code, var, function, expr, no_stmts, then_stmt, no_declarators, then_declarator}

@@ -1,4 +1,4 @@
-use Rattle.std.proofs.Common.{◌≡◌, ◌∙◌, sym, true, false, bytes_eq}
+use Rattle.std.proofs.Common.{◌∙◌, sym, true, false, bytes_eq}
 use Rattle.indexmap.specs.IndexMap.{get}
 use Rattle.js_parser.proofs.Declared.{by_table}
 use Rattle.js_parser.proofs.first.check_names.Goals as goal

@@ -1,4 +1,4 @@
-use Rattle.std.proofs.Common.{◌≡◌, subst}
+use Rattle.std.proofs.Common.{subst}
 use Rattle.js_parser.specs.Reading.{Gives, script_of}
 use Rattle.js_parser.proofs.Scripts.{reads_text, refuses_text}
 use Rattle.js_parser.proofs.first.first.Goals as goal

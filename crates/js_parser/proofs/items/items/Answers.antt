@@ -1,4 +1,4 @@
-use Rattle.std.proofs.Common.{◌≡◌, rules, arith}
+use Rattle.std.proofs.Common.{rules, arith}
 use Rattle.std.proofs.lemmas.Grind.{common_steps}
 use Rattle.js_parser.specs.Reading.{repeat, has_more, one_more, item, items}
 use Rattle.js_parser.proofs.Heights.{pushed_low}

@@ -1,7 +1,5 @@
-use Rattle.std.proofs.Common.{◌≡◌, ℕ, List, true, bytes_eq, drop, arith, rules, sym}
-use Rattle.js_core.specs.Tree.{stmts_of}
+use Rattle.std.proofs.Common.{bytes_eq, arith, rules, sym}
 use Rattle.indexmap.specs.IndexMap.{get}
-use Rattle.js_parser.specs.Kinds.{kind_in, are_apart}
 use Rattle.js_parser.proofs.Apart.{at_item, next_kinds, next_apart, not_apart}
 use Rattle.js_parser.proofs.name_table.names_of.Goals as goal
 

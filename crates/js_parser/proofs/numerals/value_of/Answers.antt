@@ -1,6 +1,4 @@
-use Rattle.std.proofs.Common.{◌≡◌, ◌∙◌, ℕ, ◌+◌, ◌*◌, ◌<◌, ◌≤◌, ap, sym, take, arith}
-use Rattle.std.specs.Str.Parse.{digits_value}
-use Rattle.js_core.specs.Whole.{largest}
+use Rattle.std.proofs.Common.{◌+◌, sym, arith}
 use Rattle.js_parser.proofs.Digits.{one_more, too_large}
 use Rattle.js_parser.proofs.numerals.value_of.Goals as goal
 

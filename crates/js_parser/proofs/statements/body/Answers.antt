@@ -1,4 +1,4 @@
-use Rattle.std.proofs.Common.{◌≡◌, rules, arith}
+use Rattle.std.proofs.Common.{rules, arith}
 use Rattle.std.proofs.lemmas.Grind.{common_steps}
 use Rattle.js_parser.specs.Reading.{repeat, in_body, one_more, statement, body}
 use Rattle.js_parser.proofs.Heights.{pushed_low}

@@ -1,7 +1,7 @@
-use Rattle.std.proofs.Common.{◌≡◌, rules, arith}
+use Rattle.std.proofs.Common.{rules, arith}
 use Rattle.std.proofs.lemmas.Grind.{common_steps}
 use Rattle.js_parser.specs.Reading.{sum_from}
-use Rattle.js_parser.proofs.Turns.{one_more, no_more}
+use Rattle.js_parser.proofs.Turns.{one_more}
 use Rattle.js_parser.proofs.sums.sum_from.Goals as goal
 
 pub loop-turn-preserved : goal.loop-turn-preserved

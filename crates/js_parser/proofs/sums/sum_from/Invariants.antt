@@ -1,4 +1,4 @@
-use Rattle.std.proofs.Common.{◌≡◌, ◌+◌, ◌-◌, ◌≤◌}
+use Rattle.std.proofs.Common.{◌≡◌, ◌+◌, ◌-◌}
 use Rattle.js_core.specs.Height.{expr_height}
 use Rattle.js_parser.specs.Reading.{sum_from}
 use Rattle.js_parser.proofs.sums.sum_from.Given as goal

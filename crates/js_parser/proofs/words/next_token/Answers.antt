@@ -1,7 +1,5 @@
-use Rattle.std.proofs.Common.{sym, ◌∙◌, ap, arith, rules, ◌≡◌, length, drop, true}
-use Rattle.std.specs.List.{prefix_len}
+use Rattle.std.proofs.Common.{arith, rules}
 use Rattle.std.proofs.lemmas.Bool.Decides.{nat_tests}
-use Rattle.js_parser.specs.Words.{is_blank, tokens_of}
 use Rattle.js_parser.proofs.Scans.{all_blank, next_token}
 use Rattle.js_parser.proofs.words.next_token.Goals as goal
 
