@@ -55,6 +55,7 @@ fn put_note<N: Sink>(notes: &mut N, status: Status) -> Result<(), PutFault>
 
 /// Puts the note of a status: one line, and nothing where the command ended well. A fault of the notes changes nothing
 /// else.
+#[tactic(auto, using(crate::proofs::Pieces::noted))]
 pub fn write_note<N: Sink>(notes: &mut N, status: Status)
     ensures { Noted (note_of status) (N.taken notes.old) (N.taken notes.new) (N.faults notes.old) (N.faults notes.new) }
 {

@@ -100,7 +100,7 @@ fn push_variables(
     names: Slice<'_, Units, Cell>,
     items: &mut Vec<Stmt>,
 ) -> Result<(), OutOfMemory>
-    ensures { OnOk result ((rest : tree.Stmts) → before items.new.items rest ≡ before items.old.items (spec.saved_variables names rest)) }
+    ensures { OnOk result ((rest : tree.Stmts) → before items.new.items rest ≡ before items.old.items (spec.saved_variables names.entry rest)) }
 {
     let mut at = 0;
     while let Some((name, cell)) = names.get_index(at) {

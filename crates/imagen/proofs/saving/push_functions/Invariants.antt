@@ -10,3 +10,6 @@ invariant-loop-rest l = record {
     low : stmts_height (saved_functions (map rc_value l.rest)) ≤ 1000;
     saved : before l.items.items (saved_functions (map rc_value l.rest)) ≡ before l.initial.items.items (saved_functions (map rc_value l.codes));
 }
+
+abbrev pub decreases-loop-rest : goal.decreases-loop-rest
+decreases-loop-rest l = length l.rest
