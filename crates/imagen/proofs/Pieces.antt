@@ -58,3 +58,12 @@ front_of_whole (Some old) None p h = absurd h
 pub noted : (r : Result (Unit {0}) PutFault) (note : List ℕ) (before now : Option (List ℕ)) (faults faults_now : ℕ) → OnOk r (Takes before now note) → OnErr r (TakesFront before now note) → CountsFaults Failed faults faults_now r → Noted note before now faults faults_now
 noted (Ok a) note before now faults faults_now ok err counts = record { front = front_of_whole before now note ok; whole = inr ok }
 noted (Err Failed) note before now faults faults_now ok err counts = record { front = err; whole = inl (counts.rose refl) }
+
+-- the second of two pieces was put
+pub second_fault : (r : Result (Unit {0}) PutFault) (before mid now : Option (List ℕ)) (p more : List ℕ) → Takes before mid p → OnErr r (TakesFront mid now more) → OnErr r (TakesFront before now (p ++ more))
+second_fault (Ok a) before mid now p more h g = tt
+second_fault (Err e) before mid now p more h g = front_after before mid now p more h g
+
+pub second_ok : (r : Result (Unit {0}) PutFault) (before mid now : Option (List ℕ)) (p more : List ℕ) → Takes before mid p → OnOk r (Takes mid now more) → OnOk r (Takes before now (p ++ more))
+second_ok (Ok a) before mid now p more h g = takes_both before mid now p more h g
+second_ok (Err e) before mid now p more h g = tt

@@ -1,14 +1,14 @@
 -- The items of a saved page, one after another.
 use Rattle.std.proofs.Common.{◌≡◌, ℕ, suc, ◌+◌, ◌≤◌, ◌<◌, List, [], ◌∷◌, ◌++◌, Option, Some, None, length, drop, refl, sym, ap, ◌∙◌, arith, max}
 use Rattle.std.specs.Prelude.{slice_get, codes, ◌⊎◌}
-use Rattle.std.proofs.Common.{inl, inr, add-one, get_or, drop-cons}
+use Rattle.std.proofs.Common.{inl, inr, add-one, get_or, drop-cons, map}
 use Rattle.std.proofs.Math.ListN.{drop_of_length-le}
 use Rattle.std.proofs.lemmas.Option.{slice_get_within, get_or_from_slice_get, slice_get_cases}
 use Rattle.std.specs.Str.{chars}
 use Rattle.js_core.specs.Text.{utf16_of}
 use Rattle.js_core.specs.Height.{stmt_height, stmts_height}
 use Rattle.js_core.specs.Tree as tree
-use Rattle.js_core.specs.Tree.{no_stmts, then_stmt, stmts_of}
+use Rattle.js_core.specs.Tree.{no_stmts, then_stmt, stmts_of, function}
 use Rattle.js_machine.specs.declared.cell.Cell.{Cell}
 use Rattle.js_machine.specs.declared.cell.Cell.TheVariants.{Undefined, Num, Function}
 use Rattle.js_machine.specs.Saved.{saved_variable, saved_variables, saved_functions}
@@ -39,6 +39,12 @@ no_more names at h = by_case (slice_get_cases names at).1
     by_case : ((x : List ℕ × Cell) × (at < length names) × (slice_get names at ≡ Some x) × (get_or names at x ≡ x)) ⊎ ((length names ≤ at) × (slice_get names at ≡ None)) → drop at names ≡ []
     by_case (inl w) = absurd (cc (w.2, h))
     by_case (inr w) = drop_of_length-le names w.0
+
+-- the function at a place, and those behind it
+pub next_function : {X : Type 0} (f : X → tree.Code) (xs : List X) (x : X) (i : ℕ) → i < length xs → x ≡ get_or xs i x → saved_functions (map f (drop i xs)) ≡ then_stmt (function (f x)) (saved_functions (map f (drop (i + 1) xs)))
+next_function f xs x i lt e =
+    let split : drop i xs ≡ x ∷ drop (i + 1) xs = rw (add-one, drop-cons xs i x lt) (ap (λ y. y ∷ drop (suc i) xs) (sym e)) in
+    ap (λ ys. saved_functions (map f ys)) split
 
 -- the functions behind the variables are no higher than all
 pub functions_low : (names : List (List ℕ × Cell)) (rest : tree.Stmts) → stmts_height rest ≤ stmts_height (saved_variables names rest)

@@ -1,5 +1,5 @@
 -- What `save` writes, and that it goes on as the page would.
-use Rattle.std.specs.Prelude.{ℕ, ◌≡◌, List, [], ◌∷◌, ◌++◌, Option, Some, None, codes}
+use Rattle.std.specs.Prelude.{ℕ, ◌≡◌, List, [], ◌∷◌, ◌++◌, codes}
 use Rattle.js_core.specs.Tree as tree
 use Rattle.js_core.specs.Tree.{then_stmt}
 use Rattle.js_machine.specs.declared.event.Event.{Event}
@@ -27,10 +27,6 @@ saved_page s = saved_head ++ items_text (saved_items s) ++ saved_tail
 abbrev pub before : List tree.Stmt → tree.Stmts → tree.Stmts
 before [] rest = rest
 before (s ∷ ss) rest = then_stmt s (before ss rest)
-
-abbrev pub before_maybe : Option tree.Stmt → tree.Stmts → tree.Stmts
-before_maybe None rest = rest
-before_maybe (Some s) rest = then_stmt s rest
 
 -- A moved page behaves as if it had never moved: the saved bytes are accepted as a form page, whose script loads
 -- without a line and puts out, under every list of later events, exactly the lines that the page puts out for them

@@ -9,6 +9,18 @@ use crate::status::{Refusal, Status};
 use itoa::Buffer;
 use page_io::sink::{PutFault, Sink};
 
+// Puts two pieces, the second one where the first was taken.
+fn put_two<N: Sink>(notes: &mut N, first: &[u8], second: &[u8]) -> Result<(), PutFault>
+    ensures ok { OnOk result (Takes (N.taken notes.old) (N.taken notes.new) (first.now ++ second.now)) }
+    ensures fault { OnErr result (TakesFront (N.taken notes.old) (N.taken notes.new) (first.now ++ second.now)) }
+    ensures counts { CountsFaults PutFault.Failed (N.faults notes.old) (N.faults notes.new) result }
+{
+    match notes.put(first) {
+        Ok(()) => notes.put(second),
+        Err(fault) => Err(fault),
+    }
+}
+
 // Puts three pieces, as long as none fails.
 fn put_three<N: Sink>(
     notes: &mut N,
@@ -20,9 +32,10 @@ fn put_three<N: Sink>(
     ensures fault { OnErr result (TakesFront (N.taken notes.old) (N.taken notes.new) (first.now ++ second.now ++ third.now)) }
     ensures counts { CountsFaults PutFault.Failed (N.faults notes.old) (N.faults notes.new) result }
 {
-    notes.put(first)?;
-    notes.put(second)?;
-    notes.put(third)
+    match put_two(notes, first, second) {
+        Ok(()) => notes.put(third),
+        Err(fault) => Err(fault),
+    }
 }
 
 // Puts the note of a status.
@@ -55,7 +68,6 @@ fn put_note<N: Sink>(notes: &mut N, status: Status) -> Result<(), PutFault>
 
 /// Puts the note of a status: one line, and nothing where the command ended well. A fault of the notes changes nothing
 /// else.
-#[tactic(auto, using(crate::proofs::Pieces::noted))]
 pub fn write_note<N: Sink>(notes: &mut N, status: Status)
     ensures { Noted (note_of status) (N.taken notes.old) (N.taken notes.new) (N.faults notes.old) (N.faults notes.new) }
 {

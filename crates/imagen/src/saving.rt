@@ -4,13 +4,13 @@ ghost use Rattle.std.specs.Prelude.{◌≡◌, ◌<◌, ◌≤◌, ◌++◌, IfO
 ghost use Rattle.std.specs.List.{All};
 ghost use Rattle.std.specs.Rc.{rc_value};
 ghost use Rattle.js_core.specs.Whole.{InRange};
-ghost use Rattle.js_core.specs.Height.{stmts_height};
+ghost use Rattle.js_core.specs.Height.{stmts_height, maybe_expr_height, expr_height};
 ghost use Rattle.js_core.specs.Tree as tree;
 ghost use Rattle.js_core.specs.Tree.{stmts_of};
 ghost use Rattle.js_parser.specs.Items.{IsFirst};
 ghost use Rattle.js_machine.specs.Run.{run_of};
 ghost use Rattle.js_machine.specs.Saved as spec;
-ghost use Rattle.imagen.specs.Saving.{saved_page, before, before_maybe};
+ghost use Rattle.imagen.specs.Saving.{saved_page, before};
 
 use crate::replay::run_page;
 use indexmap::map::Slice;
@@ -27,11 +27,13 @@ use std::alloc::Global;
 use std::rc::Rc;
 
 const SAVED_HEAD: &[u8] = b"<!--imagen 1--><html><script>\"use strict\";";
+
 const SAVED_TAIL: &[u8] = b"</script></html>";
 
 // The expression of a number.
 fn saved_number(alloc: Global, n: Whole) -> Result<Expr, OutOfMemory>
-    ensures { IfOk result (λ e. e ≡ spec.saved_number n) }
+    ensures is { IfOk result (λ e. e ≡ spec.saved_number n) }
+    ensures low { IfOk result (λ e. expr_height e ≤ 2) }
 {
     let Some(number) = n.get() else {
         return Ok(Expr {
@@ -75,23 +77,42 @@ fn literal(n: Whole) -> Expr
     }
 }
 
-// The declaration of a variable that holds this, or nothing for a function.
-fn saved_variable(alloc: Global, name: &Units, cell: Cell) -> Result<Option<Stmt>, OutOfMemory>
-    ensures { IfOk result (λ item. (rest : tree.Stmts) → before_maybe item rest ≡ spec.saved_variable name.now cell rest) }
+// The declaration of a variable with this value.
+fn declaration(alloc: Global, name: &Units, value: Option<Expr>) -> Result<Stmt, OutOfMemory>
+    requires { maybe_expr_height (tree.maybe_expr value) ≤ 900 }
+    ensures { IfOk result (λ item. item ≡ tree.var (tree.then_declarator name.now (tree.maybe_expr value) tree.no_declarators)) }
 {
-    let value = match cell {
-        Cell::Function(_) => return Ok(None),
-        Cell::Undefined => None,
-        Cell::Num(n) => Some(saved_number(alloc, n)?),
-    };
     let mut declarators = Vec::new(alloc);
     declarators.push(Declarator {
         name: name.clone()?,
         value,
     })?;
-    Ok(Some(Stmt {
+    Ok(Stmt {
         node: StmtNode::Var(declarators),
-    }))
+    })
+}
+
+// The declaration of a variable that holds this, after what is there; nothing for a function.
+fn push_variable(
+    alloc: Global,
+    name: &Units,
+    cell: Cell,
+    items: &mut Vec<Stmt>,
+) -> Result<(), OutOfMemory>
+    ensures { OnOk result ((rest : tree.Stmts) → before items.new.items rest ≡ before items.old.items (spec.saved_variable name.now cell rest)) }
+{
+    match cell {
+        Cell::Function(_) => Ok(()),
+        Cell::Undefined => {
+            items.push(declaration(alloc, name, None)?)?;
+            Ok(())
+        }
+        Cell::Num(n) => {
+            let value = saved_number(alloc, n)?;
+            items.push(declaration(alloc, name, Some(value))?)?;
+            Ok(())
+        }
+    }
 }
 
 // The declarations of the variables, in order, after what is there.
@@ -102,12 +123,11 @@ fn push_variables(
 ) -> Result<(), OutOfMemory>
     ensures { OnOk result ((rest : tree.Stmts) → before items.new.items rest ≡ before items.old.items (spec.saved_variables names.entry rest)) }
 {
-    let mut at = 0;
-    while let Some((name, cell)) = names.get_index(at) {
-        if let Some(item) = saved_variable(alloc, name, *cell)? {
-            items.push(item)?;
-        }
-        at += 1;
+    for at in 0..names.len() {
+        let Some((name, cell)) = names.get_index(at) else {
+            unreachable!();
+        };
+        push_variable(alloc, name, *cell, items)?;
     }
     Ok(())
 }
@@ -117,12 +137,11 @@ fn push_functions(codes: &[Rc<Code>], items: &mut Vec<Stmt>) -> Result<(), OutOf
     requires { stmts_height (spec.saved_functions (map rc_value codes.now)) ≤ 1000 }
     ensures { OnOk result (stmts_of items.new.items ≡ before items.old.items (spec.saved_functions (map rc_value codes.now))) }
 {
-    let mut rest = codes;
-    while let [code, after @ ..] = rest {
+    for code in codes {
+        let code = code.clone()?;
         items.push(Stmt {
-            node: StmtNode::Function(code.clone()?),
+            node: StmtNode::Function(code),
         })?;
-        rest = after;
     }
     Ok(())
 }
