@@ -6,3 +6,4 @@ pub mod Moves
 pub mod Pieces
 pub mod OneMember
 pub mod SavedItems
+pub mod Works

@@ -7,7 +7,11 @@ use Rattle.page_io.specs.declared.sink.PutFault.{PutFault}
 use Rattle.page_io.specs.declared.sink.PutFault.TheVariants.{Failed}
 use Rattle.page_io.specs.Faults.{Rose, CountsFaults}
 use Rattle.page_io.specs.Taken.{Takes, TakesFront}
-use Rattle.imagen.specs.Notes.{Noted}
+use Rattle.std.specs.Fmt.{decimal}
+use Rattle.std.specs.Prelude.{codes}
+use Rattle.imagen.specs.declared.status.Status.TheVariants.{PageRefused}
+use Rattle.imagen.specs.declared.status.Refusal.TheVariants.{NotBuilt}
+use Rattle.imagen.specs.Notes.{note_of, Noted}
 
 -- a front of a piece is a front of the piece and what follows
 front_of_more : (n : ℕ) (p more : List ℕ) → (m : ℕ) × (take n p ≡ take m (p ++ more))
@@ -67,3 +71,7 @@ second_fault (Err e) before mid now p more h g = front_after before mid now p mo
 pub second_ok : (r : Result (Unit {0}) PutFault) (before mid now : Option (List ℕ)) (p more : List ℕ) → Takes before mid p → OnOk r (Takes mid now more) → OnOk r (Takes before now (p ++ more))
 second_ok (Ok a) before mid now p more h g = takes_both before mid now p more h g
 second_ok (Err e) before mid now p more h g = tt
+
+-- the three pieces of a note with a number
+pub not_built_note : (k : ℕ) → codes "page refused: script " ++ decimal k ++ codes ": not built\n" ≡ note_of (PageRefused (Some (NotBuilt k)))
+not_built_note k = simp append_assoc

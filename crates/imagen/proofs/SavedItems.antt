@@ -11,8 +11,9 @@ use Rattle.js_core.specs.Tree as tree
 use Rattle.js_core.specs.Tree.{no_stmts, then_stmt, stmts_of, function}
 use Rattle.js_machine.specs.declared.cell.Cell.{Cell}
 use Rattle.js_machine.specs.declared.cell.Cell.TheVariants.{Undefined, Num, Function}
-use Rattle.js_machine.specs.Saved.{saved_variable, saved_variables, saved_functions}
-use Rattle.imagen.specs.Saving.{before}
+use Rattle.js_machine.specs.Saved.{saved_variable, saved_variables, saved_functions, saved_script}
+use Rattle.js_machine.specs.Act.{Store}
+use Rattle.imagen.specs.Saving.{before, saved_head, saved_tail}
 
 pub nan_units : utf16_of (codes "NaN") ≡ codes "NaN"
 unfolding chars
@@ -55,3 +56,11 @@ functions_low (e ∷ es) rest = omega (arith, functions_low es rest, one_low e.0
     one_low x Undefined after = omega arith
     one_low x (Num n) after = omega arith
     one_low x (Function k) after = omega arith
+
+pub functions_fit : (s : Store) → stmts_height (saved_script s) ≤ 440 → stmts_height (saved_functions s.codes) ≤ 1000
+functions_fit s h = omega (arith, functions_low s.names (saved_functions s.codes))
+
+-- the bytes of a page, put together
+pub page_bytes : (all most front units text : List ℕ) → all ≡ most ++ codes "</script></html>" → most ≡ front ++ units → front ≡ codes "<!--imagen 1--><html><script>\"use strict\";" → units ≡ text → all ≡ saved_head ++ text ++ saved_tail
+unfolding saved_head saved_tail
+page_bytes all most front units text e f g h = cc

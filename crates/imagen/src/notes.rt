@@ -1,6 +1,6 @@
 //! The note of a status.
 
-ghost use Rattle.std.specs.Prelude.{◌++◌, OnOk, OnErr};
+ghost use Rattle.std.specs.Prelude.{◌++◌, OnOk, OnErr, Some};
 ghost use Rattle.page_io.specs.Faults.{CountsFaults};
 ghost use Rattle.page_io.specs.Taken.{Takes, TakesFront};
 ghost use Rattle.imagen.specs.Notes.{note_of, Noted};
@@ -38,6 +38,17 @@ fn put_three<N: Sink>(
     }
 }
 
+// Puts the note of a page whose script is not built.
+fn put_not_built<N: Sink>(notes: &mut N, script: u64) -> Result<(), PutFault>
+    ensures ok { OnOk result (Takes (N.taken notes.old) (N.taken notes.new) (note_of (Status.PageRefused (Some (Refusal.NotBuilt script))))) }
+    ensures fault { OnErr result (TakesFront (N.taken notes.old) (N.taken notes.new) (note_of (Status.PageRefused (Some (Refusal.NotBuilt script))))) }
+    ensures counts { CountsFaults PutFault.Failed (N.faults notes.old) (N.faults notes.new) result }
+{
+    let mut digits = Buffer::new();
+    let number = digits.format(script).as_bytes();
+    put_three(notes, b"page refused: script ", number, b": not built\n")
+}
+
 // Puts the note of a status.
 fn put_note<N: Sink>(notes: &mut N, status: Status) -> Result<(), PutFault>
     ensures ok { OnOk result (Takes (N.taken notes.old) (N.taken notes.new) (note_of status)) }
@@ -49,10 +60,7 @@ fn put_note<N: Sink>(notes: &mut N, status: Status) -> Result<(), PutFault>
         Status::Ok => notes.put(b""),
         Status::PageRefused(None) => notes.put(b"page refused: too long\n"),
         Status::PageRefused(Some(Refusal::NotUtf8)) => notes.put(b"page refused: not utf-8\n"),
-        Status::PageRefused(Some(Refusal::NotBuilt(script))) => {
-            let number = digits.format(script).as_bytes();
-            put_three(notes, b"page refused: script ", number, b": not built\n")
-        }
+        Status::PageRefused(Some(Refusal::NotBuilt(script))) => put_not_built(notes, script),
         Status::Usage => notes.put(
             b"usage: imagen check P, replay P E, instrument P, save P E, stress N\n",
         ),

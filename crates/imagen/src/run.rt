@@ -6,6 +6,7 @@ ghost use Rattle.imagen.specs.Ending.{OnCommand, Ends};
 ghost use Rattle.imagen.specs.Notes.{note_of, Noted};
 
 use crate::command;
+use crate::command::Command;
 use crate::notes::write_note;
 use crate::status::Status;
 use crate::work::perform;
@@ -32,7 +33,7 @@ fn obey<F: Files, O: Sink>(alloc: Global, words: &[String], files: &mut F, out: 
 {
     match command::command_of(words) {
         None => Status::Usage,
-        Some(command) => perform(alloc, command, files, out),
+        Some(Command { work, page, events }) => perform(alloc, work, page, events, files, out),
     }
 }
 

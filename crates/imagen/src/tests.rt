@@ -13,14 +13,22 @@ fn page(alloc: Global, items: &str) -> Result<String, Fail> {
     Ok(format!(in alloc; "<html><body></body><script>\"use strict\";{items}</script></html>")?)
 }
 
-// How a command ends on the files `p` and `e`, and what it writes into this room.
+// How a command ended, what it wrote, and its note.
+#[derive(Drop)]
+struct Ending {
+    status: Status,
+    text: Vec<u8>,
+    note: Vec<u8>,
+}
+
+// How a command ends on the files `p` and `e`, with this room for what it writes, and as much for its note.
 fn ended(
     alloc: Global,
     words: &[&str],
     page: &[u8],
     events: &[u8],
     room: u64,
-) -> Result<(Status, Vec<u8>), Fail> {
+) -> Result<Ending, Fail> {
     let mut held = Vec::new(alloc);
     held.push((String::from_str(alloc, "p")?, page.to_vec(alloc)?))?;
     held.push((String::from_str(alloc, "e")?, events.to_vec(alloc)?))?;
@@ -33,12 +41,21 @@ fn ended(
         line.push(String::from_str(alloc, *word)?)?;
     }
     let status = run(alloc, &line, &mut files, &mut out, &mut notes, &mut keeper);
-    Ok((status, out.bytes().to_vec(alloc)?))
+    Ok(Ending {
+        status,
+        text: out.bytes().to_vec(alloc)?,
+        note: notes.bytes().to_vec(alloc)?,
+    })
 }
 
 // The same of `replay p e` with room enough.
-fn replayed(alloc: Global, page: &[u8], events: &str) -> Result<(Status, Vec<u8>), Fail> {
+fn replayed(alloc: Global, page: &[u8], events: &str) -> Result<Ending, Fail> {
     ended(alloc, &["replay", "p", "e"], page, events.as_bytes(), 1000)
+}
+
+// The same of `save p e`.
+fn saved(alloc: Global, page: &[u8], events: &str) -> Result<Ending, Fail> {
+    ended(alloc, &["save", "p", "e"], page, events.as_bytes(), 1000)
 }
 
 #[test]
@@ -69,9 +86,43 @@ fn replay_writes_the_lines_of_the_page_and_its_events(rt: HostRuntime) -> Result
     ];
     for (items, events, lines) in rows {
         let page = page(rt.alloc(), items)?;
-        let (status, text) = replayed(rt.alloc(), page.as_bytes(), events)?;
-        assert_eq!(rt; status, Status::Ok, "{items}");
-        assert!(rt; text.as_slice() == lines.as_bytes(), "{items}");
+        let ended = replayed(rt.alloc(), page.as_bytes(), events)?;
+        assert_eq!(rt; ended.status, Status::Ok, "{items}");
+        assert!(rt; ended.text.as_slice() == lines.as_bytes(), "{items}");
+        assert!(rt; ended.note.is_empty(), "{items}");
+    }
+    Ok(())
+}
+
+#[test]
+fn a_saved_page_goes_on_as_if_it_had_never_moved(rt: HostRuntime) -> Result<(), Fail> {
+    let calls = r#"[{"call":"t"},{"call":"t"}]"#;
+    let rows = [
+        (
+            COUNTER,
+            calls,
+            "var n=2;function t(){n=n+1;console.log(n);}",
+            "log 3\n",
+        ),
+        (
+            "function t(){console.log(b);b=b-c;}console.log(1);var a;var b=0-5;var c=NaN;",
+            "[]",
+            "var a;var b=0-5;var c=NaN;function t(){console.log(b);b=b-c;}",
+            "log -5\n",
+        ),
+    ];
+    for (items, events, kept, line) in rows {
+        let page = page(rt.alloc(), items)?;
+        let first = saved(rt.alloc(), page.as_bytes(), events)?;
+        assert_eq!(rt; first.status, Status::Ok, "{items}");
+        let form = format!(in rt.alloc();
+            "<!--imagen 1--><html><script>\"use strict\";{kept}</script></html>"
+        )?;
+        assert!(rt; first.text.as_slice() == form.as_bytes(), "{items}");
+        let again = saved(rt.alloc(), &first.text, "[]")?;
+        assert!(rt; again.text.as_slice() == form.as_bytes(), "{items}");
+        let moved = replayed(rt.alloc(), &first.text, r#"[{"call":"t"}]"#)?;
+        assert!(rt; moved.text.as_slice() == line.as_bytes(), "{items}");
     }
     Ok(())
 }
@@ -81,20 +132,30 @@ fn replay_refuses_pages_and_writes_nothing(rt: HostRuntime) -> Result<(), Fail> 
     let not_built = Status::PageRefused(Some(Refusal::NotBuilt(1)));
     let loops = page(rt.alloc(), "var c=1;while(c){}")?;
     let twice = page(rt.alloc(), "function f(){}function f(){}")?;
-    let bare: &[u8] = b"<html><script>\"use strict\";</script></html>";
+    let marked: &[u8] = b"<!--imagen 2--><html><script>\"use strict\";</script></html>";
     let long = vec![in rt.alloc(); b' '; 16_777_217]?;
+    let script = "page refused: script 1: not built\n";
     let rows = [
-        (loops.as_bytes(), not_built),
-        (twice.as_bytes(), not_built),
-        (bare, not_built),
-        (b"", not_built),
-        (b"\xE2\x82", Status::PageRefused(Some(Refusal::NotUtf8))),
-        (long.as_slice(), Status::PageRefused(None)),
+        (loops.as_bytes(), not_built, script),
+        (twice.as_bytes(), not_built, script),
+        (marked, not_built, script),
+        (b"", not_built, script),
+        (
+            b"\xE2\x82",
+            Status::PageRefused(Some(Refusal::NotUtf8)),
+            "page refused: not utf-8\n",
+        ),
+        (
+            long.as_slice(),
+            Status::PageRefused(None),
+            "page refused: too long\n",
+        ),
     ];
-    for (bytes, refused) in rows {
-        let (status, text) = replayed(rt.alloc(), bytes, "{}")?;
-        assert_eq!(rt; status, refused);
-        assert!(rt; text.is_empty());
+    for (bytes, refused, note) in rows {
+        let ended = replayed(rt.alloc(), bytes, "{}")?;
+        assert_eq!(rt; ended.status, refused);
+        assert!(rt; ended.text.is_empty());
+        assert!(rt; ended.note.as_slice() == note.as_bytes());
     }
     Ok(())
 }
@@ -116,56 +177,58 @@ fn replay_refuses_events_by_number(rt: HostRuntime) -> Result<(), Fail> {
         (r#"[{}]"#, 1),
     ];
     for (events, number) in rows {
-        let (status, text) = replayed(rt.alloc(), counter.as_bytes(), events)?;
-        assert_eq!(rt; status, Status::EventsRefused(number), "{events}");
-        assert!(rt; text.is_empty());
+        let ended = replayed(rt.alloc(), counter.as_bytes(), events)?;
+        let note = format!(in rt.alloc(); "events refused: {number}\n")?;
+        assert_eq!(rt; ended.status, Status::EventsRefused(number), "{events}");
+        assert!(rt; ended.text.is_empty(), "{events}");
+        assert!(rt; ended.note.as_slice() == note.as_bytes(), "{events}");
     }
     Ok(())
 }
 
 #[test]
-fn replay_takes_100000_events_and_refuses_one_more(rt: HostRuntime) -> Result<(), Fail> {
-    let empty = page(rt.alloc(), "function t(){}")?;
-    let mut events = String::from_str(rt.alloc(), "[{\"call\":\"t\"}")?;
-    for _ in 1..100_000 {
-        events.push_str(",{\"call\":\"t\"}")?;
-    }
-    let mut more = events.clone()?;
-    events.push_str("]")?;
-    let (status, _) = replayed(rt.alloc(), empty.as_bytes(), events.as_str())?;
-    assert_eq!(rt; status, Status::Ok);
-    more.push_str(",{\"call\":\"t\"}]")?;
-    let (status, _) = replayed(rt.alloc(), empty.as_bytes(), more.as_str())?;
-    assert_eq!(rt; status, Status::EventsRefused(100_001));
+fn replay_refuses_an_event_file_that_is_too_long(rt: HostRuntime) -> Result<(), Fail> {
+    let counter = page(rt.alloc(), COUNTER)?;
+    let words = ["replay", "p", "e"];
     let long = vec![in rt.alloc(); b' '; 4_194_305]?;
-    let (status, _) = ended(
-        rt.alloc(),
-        &["replay", "p", "e"],
-        empty.as_bytes(),
-        &long,
-        10,
-    )?;
-    assert_eq!(rt; status, Status::EventsRefused(0));
+    let refused = ended(rt.alloc(), &words, counter.as_bytes(), &long, 100)?;
+    assert_eq!(rt; refused.status, Status::EventsRefused(0));
     Ok(())
 }
 
 #[test]
 fn words_files_and_output_have_their_statuses(rt: HostRuntime) -> Result<(), Fail> {
     let page = page(rt.alloc(), "console.log(12);")?;
-    let rows: [(&[&str], u64, Status, &str); 8] = [
-        (&[], 100, Status::Usage, ""),
-        (&["replay"], 100, Status::Usage, ""),
-        (&["replay", "p"], 100, Status::Usage, ""),
-        (&["Replay", "p", "e"], 100, Status::Usage, ""),
-        (&["replay", "p", "e", "e"], 100, Status::Usage, ""),
-        (&["replay", "none", "e"], 100, Status::ReadFault, ""),
-        (&["replay", "p", "none"], 100, Status::ReadFault, ""),
-        (&["replay", "p", "e"], 3, Status::WriteFault, "log"),
+    let usage = "usage: imagen check P, replay P E, instrument P, save P E, stress N\n";
+    let rows: [(&[&str], u64, Status, &str, &str); 10] = [
+        (&[], 100, Status::Usage, "", usage),
+        (&["replay"], 100, Status::Usage, "", usage),
+        (&["save", "p"], 100, Status::Usage, "", usage),
+        (&["Replay", "p", "e"], 100, Status::Usage, "", usage),
+        (&["replay", "p", "e", "e"], 100, Status::Usage, "", usage),
+        (
+            &["replay", "none", "e"],
+            100,
+            Status::ReadFault,
+            "",
+            "read fault\n",
+        ),
+        (
+            &["save", "p", "none"],
+            100,
+            Status::ReadFault,
+            "",
+            "read fault\n",
+        ),
+        (&["replay", "p", "e"], 3, Status::WriteFault, "log", "wri"),
+        (&["save", "p", "e"], 4, Status::WriteFault, "<!--", "writ"),
+        (&["replay", "p", "e"], 7, Status::Ok, "log 12\n", ""),
     ];
-    for (words, room, expected, written) in rows {
-        let (status, text) = ended(rt.alloc(), words, page.as_bytes(), b"[]", room)?;
-        assert_eq!(rt; status, expected);
-        assert!(rt; text.as_slice() == written.as_bytes());
+    for (words, room, status, written, note) in rows {
+        let ended = ended(rt.alloc(), words, page.as_bytes(), b"[]", room)?;
+        assert_eq!(rt; ended.status, status);
+        assert!(rt; ended.text.as_slice() == written.as_bytes());
+        assert!(rt; ended.note.as_slice() == note.as_bytes());
     }
     Ok(())
 }

@@ -4,10 +4,9 @@ ghost use Rattle.std.specs.Prelude.{◌≡◌, IfOk};
 ghost use Rattle.js_core.specs.Line.{lines_text};
 ghost use Rattle.js_parser.specs.Items.{IsFirst};
 ghost use Rattle.js_machine.specs.Run.{run_of, lines_of_run};
-ghost use Rattle.imagen.specs.Command.{view};
 ghost use Rattle.imagen.specs.Ending.{Ends, IsTextOf};
 
-use crate::command::{Command, Work};
+use crate::command::Work;
 use crate::reading::{read_events, read_page};
 use crate::replay::replayed_text;
 use crate::saving::saved_text;
@@ -35,17 +34,19 @@ fn text_of(
     }
 }
 
-/// Does what the command asks for. The order is: reading and accepting the page, reading the events, loading and acting,
+/// Does a command on the files of these names. The order is: reading and accepting the page, reading the events, loading and acting,
 /// writing. The first cause to end is the answer.
 pub fn perform<F: Files, O: Sink>(
     alloc: Global,
-    command: Command<'_>,
+    work: Work,
+    page: &str,
+    events: &str,
     files: &mut F,
     out: &mut O,
 ) -> Status
-    ensures { Ends (view command) result (record {
-      page = F.content files.old command.page.now;
-      events = F.content files.old command.events.now;
+    ensures { Ends (record { work = work; page = page.now; events = events.now }) result (record {
+      page = F.content files.old page.now;
+      events = F.content files.old events.now;
       reads_before = F.faults files.old;
       reads_now = F.faults files.new;
       failed = F.failed files.new;
@@ -55,15 +56,15 @@ pub fn perform<F: Files, O: Sink>(
       taken_now = O.taken out.new;
     }) }
 {
-    let page = match read_page(alloc, files, command.page) {
+    let page = match read_page(alloc, files, page) {
         Ok(page) => page,
         Err(status) => return status,
     };
-    let list = match read_events(alloc, files, command.events) {
+    let list = match read_events(alloc, files, events) {
         Ok(list) => list,
         Err(status) => return status,
     };
-    let Ok(text) = text_of(alloc, command.work, &page.script, &list) else {
+    let Ok(text) = text_of(alloc, work, &page.script, &list) else {
         return Status::OutOfMemory;
     };
     match out.put(&text) {

@@ -1,20 +1,23 @@
-use Rattle.std.proofs.Common.{rules, ◌≡◌, ◌<◌, ◌≤◌, ◌++◌, IfOk, OnOk, Some, map, pos, neg_ℤ, ℕ, ◌+◌, ◌-◌, ◌*◌, length, ◌/◌, ◌%◌, Bool, true, false, nat_eq, nat_lt, List, [], ◌∷◌, slice_index_or, slice_set, bit_and, bit_or, Fits, w8, w32, w64, Bor, MutBor}
+use Rattle.std.proofs.Common.{◌≡◌, ◌++◌, sym, ap, ◌∙◌, subst, List, ℕ, ◌<◌}
 use Rattle.std.specs.List.{All}
-use Rattle.std.specs.Rc.{rc_value}
-use Rattle.js_core.specs.Whole.{InRange}
-use Rattle.js_core.specs.Height.{stmts_height, maybe_expr_height, expr_height}
 use Rattle.js_core.specs.Tree as tree
 use Rattle.js_core.specs.Tree.{stmts_of}
-use Rattle.js_parser.specs.Items.{IsFirst}
-use Rattle.js_machine.specs.Run.{run_of}
-use Rattle.js_machine.specs.Saved as spec
-use Rattle.imagen.specs.Saving.{saved_page, before}
+use Rattle.js_parser.specs.Printing.{items_text}
+use Rattle.js_parser.proofs.PrintingUnits.{printed_is_ascii}
+use Rattle.js_machine.specs.Saved.{saved_items}
+use Rattle.imagen.proofs.SavedItems.{page_bytes}
 use Rattle.imagen.proofs.saving.page_text.Goals as goal
 
--- src/saving.rt:180:5
 pub push_ascii-requires : goal.push_ascii-requires
-push_ascii-requires c = ?
+push_ascii-requires c =
+    let text : c.deref-2.result.now ≡ items_text (saved_items c.args.page.now) =
+    c.deref-2.ensures.value ∙ c.in_ok-print_items.ensures.ok ∙ ap (λ (w : List ℕ). w ++ items_text (stmts_of c.deref.result.now)) c.new-units.ensures.items
+    ∙ ap (λ (ss : List tree.Stmt). items_text (stmts_of ss)) c.deref.ensures.value ∙ ap items_text c.in_ok-items.ensures in
+    subst (λ (w : List ℕ). All (λ u. u < 128) w) (sym text) (printed_is_ascii (saved_items c.args.page.now) c.requires.shaped)
 
--- src/saving.rt:172:1
 pub returns : goal.returns
-returns c = ?
+returns c =
+    let text : c.deref-2.result.now ≡ items_text (saved_items c.args.page.now) =
+    c.deref-2.ensures.value ∙ c.in_ok-print_items.ensures.ok ∙ ap (λ (w : List ℕ). w ++ items_text (stmts_of c.deref.result.now)) c.new-units.ensures.items
+    ∙ ap (λ (ss : List tree.Stmt). items_text (stmts_of ss)) c.deref.ensures.value ∙ ap items_text c.in_ok-items.ensures in
+    page_bytes _ _ _ _ _ c.in_ok-extend_from_slice.ensures.items c.in_ok-push_ascii.ensures c.in_ok-text.ensures.items text

@@ -1,20 +1,24 @@
-use Rattle.std.proofs.Common.{rules, ◌≡◌, ◌<◌, ◌≤◌, ◌++◌, IfOk, OnOk, Some, map, pos, neg_ℤ, ℕ, ◌+◌, ◌-◌, ◌*◌, length, ◌/◌, ◌%◌, Bool, true, false, nat_eq, nat_lt, List, [], ◌∷◌, slice_index_or, slice_set, bit_and, bit_or, Fits, w8, w32, w64, Bor, MutBor}
-use Rattle.std.specs.List.{All}
+use Rattle.std.proofs.Common.{◌≡◌, ◌≤◌, ◌<◌, ◌+◌, sym, ap, ◌∙◌, drop, map, length, arith, rules}
+use Rattle.std.proofs.Math.ListN.{drop_of_length-le}
 use Rattle.std.specs.Rc.{rc_value}
-use Rattle.js_core.specs.Whole.{InRange}
-use Rattle.js_core.specs.Height.{stmts_height, maybe_expr_height, expr_height}
 use Rattle.js_core.specs.Tree as tree
-use Rattle.js_core.specs.Tree.{stmts_of}
-use Rattle.js_parser.specs.Items.{IsFirst}
-use Rattle.js_machine.specs.Run.{run_of}
-use Rattle.js_machine.specs.Saved as spec
-use Rattle.imagen.specs.Saving.{saved_page, before}
+use Rattle.js_machine.specs.Saved.{saved_functions}
+use Rattle.imagen.specs.Saving.{before}
+use Rattle.imagen.proofs.SavedItems.{before_push, before_none, next_function}
 use Rattle.imagen.proofs.saving.push_functions.Goals as goal
 
--- src/saving.rt:140:5
 pub loop-code-preserved : goal.loop-code-preserved
-loop-code-preserved c = ?
+loop-code-preserved c =
+    let lt : c.loop-code.code-index < length c.args.codes.now = omega arith in
+    let split = next_function rc_value c.args.codes.now c.code-item.result c.loop-code.code-index lt c.code-item.is in
+    let low = rw split at c.loop-code.invariant.low in
+    let same : c.in_ok-code.code.value ≡ c.code-item.result.value = search (rules, c.in_ok-code.ensures.cases) in
+    record {
+      low = omega (arith, low);
+      saved = rw (c.in_ok-push.ensures.items, same) (before_push c.loop-code.items.items _ _ ∙ ap (before c.loop-code.items.items) (sym split) ∙ c.loop-code.invariant.saved);
+    }
 
--- src/saving.rt:136:1
 pub returns : goal.returns
-returns c = ?
+returns c =
+    let none = rw (drop_of_length-le c.args.codes.now c.loop-code-test.false) at c.loop-code.invariant.saved in
+    sym (before_none c.loop-code.items.items) ∙ none

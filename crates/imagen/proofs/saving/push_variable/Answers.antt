@@ -1,20 +1,10 @@
-use Rattle.std.proofs.Common.{rules, ◌≡◌, ◌<◌, ◌≤◌, ◌++◌, IfOk, OnOk, Some, map, pos, neg_ℤ, ℕ, ◌+◌, ◌-◌, ◌*◌, length, ◌/◌, ◌%◌, Bool, true, false, nat_eq, nat_lt, List, [], ◌∷◌, slice_index_or, slice_set, bit_and, bit_or, Fits, w8, w32, w64, Bor, MutBor}
-use Rattle.std.specs.List.{All}
-use Rattle.std.specs.Rc.{rc_value}
-use Rattle.js_core.specs.Whole.{InRange}
-use Rattle.js_core.specs.Height.{stmts_height, maybe_expr_height, expr_height}
-use Rattle.js_core.specs.Tree as tree
-use Rattle.js_core.specs.Tree.{stmts_of}
-use Rattle.js_parser.specs.Items.{IsFirst}
-use Rattle.js_machine.specs.Run.{run_of}
-use Rattle.js_machine.specs.Saved as spec
-use Rattle.imagen.specs.Saving.{saved_page, before}
+use Rattle.imagen.proofs.SavedItems.{before_push}
 use Rattle.imagen.proofs.saving.push_variable.Goals as goal
 
--- src/saving.rt:96:1
 pub returns-in_ok-push-in-Undefined : goal.returns-in_ok-push-in-Undefined
-returns-in_ok-push-in-Undefined c = ?
+returns-in_ok-push-in-Undefined c = λ rest.
+    rw (c.in_ok-push-in-Undefined.ensures.items, c.in_ok-declaration-in-Undefined.ensures, c.in-Undefined.is) (before_push c.args.items.now.items _ rest)
 
--- src/saving.rt:96:1
 pub returns-in_ok-push-in-Num : goal.returns-in_ok-push-in-Num
-returns-in_ok-push-in-Num c = ?
+returns-in_ok-push-in-Num c = λ rest.
+    rw (c.in_ok-push-in-Num.ensures.items, c.in_ok-declaration-in-Num.ensures, c.in_ok-value-in-Num.ensures.is, c.in-Num.is) (before_push c.args.items.now.items _ rest)

@@ -1,16 +1,13 @@
-use Rattle.std.proofs.Common.{rules, ◌≡◌, ◌<◌, ◌≤◌, ◌++◌, IfOk, OnOk, Some, map, pos, neg_ℤ, ℕ, ◌+◌, ◌-◌, ◌*◌, length, ◌/◌, ◌%◌, Bool, true, false, nat_eq, nat_lt, List, [], ◌∷◌, slice_index_or, slice_set, bit_and, bit_or, Fits, w8, w32, w64, Bor, MutBor}
-use Rattle.std.specs.List.{All}
-use Rattle.std.specs.Rc.{rc_value}
-use Rattle.js_core.specs.Whole.{InRange}
-use Rattle.js_core.specs.Height.{stmts_height, maybe_expr_height, expr_height}
-use Rattle.js_core.specs.Tree as tree
-use Rattle.js_core.specs.Tree.{stmts_of}
-use Rattle.js_parser.specs.Items.{IsFirst}
-use Rattle.js_machine.specs.Run.{run_of}
-use Rattle.js_machine.specs.Saved as spec
-use Rattle.imagen.specs.Saving.{saved_page, before}
+use Rattle.std.proofs.Common.{◌≡◌, ◌+◌, sym, ap, ◌∙◌, drop, List, ℕ}
+use Rattle.js_machine.specs.declared.cell.Cell.{Cell}
+use Rattle.js_machine.specs.Saved.{saved_variables}
+use Rattle.imagen.specs.Saving.{before}
+use Rattle.imagen.proofs.SavedItems.{next_variable}
 use Rattle.imagen.proofs.saving.push_variables.Goals as goal
 
--- src/saving.rt:126:5
 pub loop-at-preserved : goal.loop-at-preserved
-loop-at-preserved c = ?
+loop-at-preserved c = λ rest.
+    let split = next_variable c.args.names c.loop-at.at (c.in-Some.name.now, c.in-Some.cell.now) (sym c.in-Some.ensures.entry) in
+    c.in_ok-push_variable.ensures (saved_variables (drop (c.loop-at.at + 1) c.args.names) rest)
+    ∙ ap (λ (es : List (List ℕ × Cell)). before c.loop-at.items.items (saved_variables es rest)) (sym split)
+    ∙ c.loop-at.invariant rest

@@ -1,16 +1,5 @@
-use Rattle.std.proofs.Common.{rules, ◌≡◌, ◌<◌, ◌≤◌, ◌++◌, IfOk, OnOk, Some, map, pos, neg_ℤ, ℕ, ◌+◌, ◌-◌, ◌*◌, length, ◌/◌, ◌%◌, Bool, true, false, nat_eq, nat_lt, List, [], ◌∷◌, slice_index_or, slice_set, bit_and, bit_or, Fits, w8, w32, w64, Bor, MutBor}
-use Rattle.std.specs.List.{All}
-use Rattle.std.specs.Rc.{rc_value}
-use Rattle.js_core.specs.Whole.{InRange}
-use Rattle.js_core.specs.Height.{stmts_height, maybe_expr_height, expr_height}
-use Rattle.js_core.specs.Tree as tree
-use Rattle.js_core.specs.Tree.{stmts_of}
-use Rattle.js_parser.specs.Items.{IsFirst}
-use Rattle.js_machine.specs.Run.{run_of}
-use Rattle.js_machine.specs.Saved as spec
-use Rattle.imagen.specs.Saving.{saved_page, before}
+use Rattle.imagen.proofs.SavedItems.{functions_fit}
 use Rattle.imagen.proofs.saving.saved_items.Goals as goal
 
--- src/saving.rt:156:5
 pub push_functions-requires : goal.push_functions-requires
-push_functions-requires c = ?
+push_functions-requires c = rw (c.as_slice.ensures, c.codes.ensures) (functions_fit c.args.page.now c.requires.low)
