@@ -1,6 +1,7 @@
 //! The base of the product: texts of 16-bit units, whole numbers, values, syntax trees and lines.
 #![tactic(auto)]
 
+pub mod ascii;
 pub mod global_names;
 pub mod height;
 pub mod ids;

@@ -3,6 +3,7 @@
 ghost use Rattle.std.specs.Prelude.{◌≡◌, ◌++◌, IfOk, OnOk};
 ghost use Rattle.js_core.specs.Throw.{error_name_of, message_of, thrown_text};
 
+use crate::ascii::push_ascii;
 use crate::memory::OutOfMemory;
 use crate::units::Units;
 use std::alloc::Global;
@@ -64,8 +65,8 @@ impl Throw {
         ensures { IfOk result (λ text. text ≡ thrown_text self.now) }
     {
         let mut units = Vec::new(alloc);
-        push_ascii(&mut units, self.error_name())?;
-        push_ascii(&mut units, b": ")?;
+        push_ascii(self.error_name(), &mut units)?;
+        push_ascii(b": ", &mut units)?;
         self.push_message(&mut units)?;
         Units::of(alloc, units.as_slice())
     }
@@ -75,7 +76,7 @@ impl Throw {
     {
         let (name, words) = self.message_parts();
         out.extend_from_slice(name)?;
-        push_ascii(out, words)
+        push_ascii(words, out)
     }
 
     fn error_name(&self) -> &'static [u8]
@@ -127,16 +128,6 @@ impl Throw {
             Throw::UnspecifiedEventType => (&[], b"UNSPECIFIED_EVENT_TYPE_ERR"),
         }
     }
-}
-
-// Appends the characters of an ASCII text, each as one unit.
-fn push_ascii(out: &mut Vec<u16>, text: &[u8]) -> Result<(), OutOfMemory>
-    ensures { OnOk result (out.new.items ≡ out.old.items ++ text.now) }
-{
-    for byte in text {
-        out.push(u16::from(*byte))?;
-    }
-    Ok(())
 }
 
 #[cfg(test)]

@@ -3,6 +3,7 @@
 ghost use Rattle.std.specs.Prelude.{◌≡◌, IfOk};
 ghost use Rattle.std.specs.Char.{is_ascii_alphabetic, is_ascii_alphanumeric, is_ascii_digit};
 
+use js_core::ascii::push_ascii;
 use js_core::memory::OutOfMemory;
 use js_core::units::Units;
 use std::alloc::Global;
@@ -33,8 +34,6 @@ pub fn ascii_text(alloc: Global, text: &[u8]) -> Result<Units, OutOfMemory>
     ensures { IfOk result (λ units. units ≡ text.now) }
 {
     let mut units = Vec::new(alloc);
-    for code in text {
-        units.push(u16::from(*code))?;
-    }
+    push_ascii(text, &mut units)?;
     Units::of(alloc, units.as_slice())
 }

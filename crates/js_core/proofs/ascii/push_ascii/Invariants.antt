@@ -1,5 +1,5 @@
 use Rattle.std.proofs.Common.{◌≡◌, ◌++◌, take, length}
-use Rattle.js_parser.proofs.printing.push_ascii.Given as goal
+use Rattle.js_core.proofs.ascii.push_ascii.Given as goal
 
 abbrev pub invariant-loop-code : goal.invariant-loop-code
 invariant-loop-code l = record {

@@ -1,0 +1,16 @@
+//! ASCII characters as 16-bit units.
+
+ghost use Rattle.std.specs.Prelude.{◌≡◌, ◌++◌, take, length, OnOk, OnErr};
+
+use crate::memory::OutOfMemory;
+
+/// Appends ASCII characters, each as its unit. After an error some of them may be appended.
+pub fn push_ascii(text: &[u8], out: &mut Vec<u16>) -> Result<(), OutOfMemory>
+    ensures ok { OnOk result (out.new.items ≡ out.old.items ++ text.now) }
+    ensures err { OnErr result (take (length out.old.items) out.new.items ≡ out.old.items) }
+{
+    for code in text {
+        out.push(u16::from(*code))?;
+    }
+    Ok(())
+}
