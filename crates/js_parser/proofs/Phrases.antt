@@ -5,7 +5,7 @@ use Rattle.js_core.specs.Tree.{name, num, text, member, call, binary, assign, no
 use Rattle.js_parser.specs.Names.{is_name}
 use Rattle.js_parser.specs.Items.{IsStatement, AreStatements, IsItem, AreItems}
 use Rattle.js_parser.specs.Spelling.{expr_tokens, stmt_tokens, stmts_tokens, item_tokens, items_tokens}
-use Rattle.js_parser.specs.Reading.{Tokens, tail, sees, assignment, log, statement, in_body, body, variable, procedure, item, has_more, items}
+use Rattle.js_parser.specs.Reading.{Tokens, tail, sees, assignment, procedure_call, named_statement, log, statement, in_body, body, variable, procedure, item, has_more, items}
 use Rattle.js_parser.proofs.Holds.{Holds, given, then_holds, held, either_holds, seen, expect_holds, name_holds}
 use Rattle.js_parser.proofs.Additions.{sum_holds}
 use Rattle.js_parser.proofs.Lists.{Each, spelled, repeat_holds}
@@ -21,11 +21,21 @@ closed_twice ts v w x z t u e f g = e ∙ ap (λ y. ts ++ y) (f ∙ ap (λ y. t 
 abbrev pub StatementFrom : Tokens → tree.Stmt → Tokens → Type 0
 StatementFrom start s z = IsStatement s × (start ≡ stmt_tokens s ++ z)
 
-assignment_holds : (i : Tokens) → Holds (StatementFrom i) (assignment i)
+assignment_holds : (x : List ℕ) (start i : Tokens) → is_name x ≡ true → start ≡ x ∷ i → Holds (StatementFrom start) (assignment x i)
 unfolding assignment
-assignment_holds i =
-    then_holds _ (name_holds i) (λ x y h. then_holds _ (expect_holds (codes "=") y) (λ u v k. then_holds _ (sum_holds v) (λ e w l. then_holds _ (expect_holds (codes ";") w) (λ r z m.
-    given ((h.1, l.0), h.0 ∙ ap (λ t. x ∷ t) (k ∙ ap (λ t. codes "=" ∷ t) (closed (expr_tokens e) v w z (codes ";") l.1 m)))))))
+assignment_holds x start i n s =
+    then_holds _ (expect_holds (codes "=") i) (λ u v k. then_holds _ (sum_holds v) (λ e w l. then_holds _ (expect_holds (codes ";") w) (λ r z m.
+    given ((n, l.0), s ∙ ap (λ t. x ∷ t) (k ∙ ap (λ t. codes "=" ∷ t) (closed (expr_tokens e) v w z (codes ";") l.1 m))))))
+
+call_holds : (f : List ℕ) (start i : Tokens) → is_name f ≡ true → start ≡ f ∷ i → Holds (StatementFrom start) (procedure_call f i)
+unfolding procedure_call
+call_holds f start i n s =
+    then_holds _ (expect_holds (codes "(") i) (λ u0 i1 e1. then_holds _ (expect_holds (codes ")") i1) (λ u1 i2 e2. then_holds _ (expect_holds (codes ";") i2) (λ u2 z e3.
+    given (n, s ∙ ap (λ t. f ∷ t) (e1 ∙ ap (λ t. codes "(" ∷ t) (e2 ∙ ap (λ t. codes ")" ∷ t) e3))))))
+
+named_holds : (x : List ℕ) (start i : Tokens) → is_name x ≡ true → start ≡ x ∷ i → Holds (StatementFrom start) (named_statement x i)
+unfolding named_statement
+named_holds x start i n s = either_holds (sees (codes "(") i) (λ _. call_holds x start i n s) (λ _. assignment_holds x start i n s)
 
 log_holds : (start i : Tokens) → start ≡ codes "console" ∷ i → Holds (StatementFrom start) (log i)
 unfolding log
@@ -36,7 +46,7 @@ log_holds start i s =
 
 statement_holds : (i : Tokens) → Holds (StatementFrom i) (statement i)
 unfolding statement
-statement_holds i = either_holds (sees (codes "console") i) (λ e. log_holds i (tail i) (seen (codes "console") i e)) (λ e. assignment_holds i)
+statement_holds i = either_holds (sees (codes "console") i) (λ e. log_holds i (tail i) (seen (codes "console") i e)) (λ _. then_holds _ (name_holds i) (λ x y h. named_holds x i y h.1 h.0))
 
 are_statements : (ss : List tree.Stmt) → Each IsStatement ss → AreStatements (stmts_of ss)
 are_statements [] h = tt

@@ -12,3 +12,8 @@ several_arguments object x m es e l = ap (λ o. stmt_text (expr (call (member o 
     none [] l = refl
     none (a ∷ []) l = absurd (omega arith)
     none (a ∷ b ∷ es) l = refl
+
+-- a function is printed without arguments alone
+pub some_argument : (f : List ℕ) (es : List tree.Expr) → 1 ≤ length es → stmt_text (expr (call (name f) (exprs_of es))) ≡ []
+some_argument f [] l = absurd (omega arith)
+some_argument f (a ∷ es) l = refl

@@ -91,9 +91,14 @@ call_spells c m e v w h =
     joined_by_sign c 46 (m ++ (codes "(" ++ (expr_text e ++ codes ");"))) (c ∷ []) (codes "." ∷ m ∷ called) refl (word c v)
     (λ rest. ap (λ ts. codes "." ∷ ts) (joined_by_sign m 40 (expr_text e ++ codes ");") (m ∷ []) called refl (word m w) (argument_spells e h) rest))
 
+-- `N();`
+procedure_call_spells : (f : List ℕ) → IsWord f → Spells (f ++ codes "();") (f ∷ codes "(" ∷ codes ")" ∷ codes ";" ∷ [])
+procedure_call_spells f w = joined_by_sign f 40 (codes ");") (f ∷ []) (codes "(" ∷ codes ")" ∷ codes ";" ∷ []) refl (word f w) (λ rest. refl)
+
 pub stmt_spells : (s : tree.Stmt) → IsStatement s → Spells (stmt_text s) (stmt_tokens s)
 stmt_spells (expr (assign None (name x) e)) h = assign_spells x e (name_is_word x h.0) h.1
 stmt_spells (expr (call (member (name c) m) (then_expr e no_exprs))) h = call_spells c m e (log_word c (inl h.0)) (log_word m (inr h.1)) h.2
+stmt_spells (expr (call (name f) no_exprs)) h = procedure_call_spells f (name_is_word f h)
 stmt_spells s h = absurd h
 
 stmts_spell : (ss : tree.Stmts) → AreStatements ss → Spells (stmts_text ss) (stmts_tokens ss)

@@ -53,6 +53,7 @@ method_call c m e v w h =
 statement : (s : tree.Stmt) → IsStatement s → IsSafe (stmt_text s)
 statement (expr (assign None (name x) e)) h = assignment x e (name_is_word x h.0) h.1
 statement (expr (call (member (name c) m) (then_expr e no_exprs))) h = method_call c m e (log_word c (inl h.0)) (log_word m (inr h.1)) h.2
+statement (expr (call (name f) no_exprs)) h = both f (codes "();") (word f (name_is_word f h)) refl
 statement s h = absurd h
 
 statements : (ss : tree.Stmts) → AreStatements ss → IsSafe (stmts_text ss)

@@ -9,7 +9,7 @@ use Rattle.js_core.specs.GlobalNames.{global_names}
 use Rattle.js_parser.specs.Names.{is_name}
 use Rattle.js_parser.specs.Items.{IsSum, IsStatement, AreStatements, IsItem, AreItems}
 use Rattle.js_parser.specs.Spelling.{expr_tokens, stmt_tokens, stmts_tokens, item_tokens, items_tokens}
-use Rattle.js_parser.specs.Reading.{Tokens, Outcome, Parser, and_then, tail, sees, expect, declared_name, operator, sum, assignment, log, logged, statement, in_body, body, variable, procedure, item, has_more, items}
+use Rattle.js_parser.specs.Reading.{Tokens, Outcome, Parser, and_then, tail, sees, expect, declared_name, operator, sum, assignment, procedure_call, named_statement, log, logged, statement, in_body, body, variable, procedure, item, has_more, items}
 use Rattle.js_parser.proofs.Apart.{bytes_same}
 use Rattle.js_parser.proofs.Additions.{sum_read}
 use Rattle.js_parser.proofs.Lists.{list_of, stmts_of-list_of, Each, spelled, all_read}
@@ -69,13 +69,19 @@ parenthesis_ends z = refl
 
 -- ---- statements
 
-assignment_reads : (x : List ℕ) (e : tree.Expr) (z : Tokens) → is_name x ≡ true → IsSum e → expr_height e ≤ 440 → assignment (x ∷ codes "=" ∷ ((expr_tokens e ++ codes ";" ∷ []) ++ z)) ≡ Some (expr (assign None (name x) e), z)
+assignment_reads : (x : List ℕ) (e : tree.Expr) (z : Tokens) → IsSum e → expr_height e ≤ 440 → assignment x (codes "=" ∷ ((expr_tokens e ++ codes ";" ∷ []) ++ z)) ≡ Some (expr (assign None (name x) e), z)
 unfolding assignment
-assignment_reads x e z n h low =
-    then_reads _ (name_reads x (codes "=" ∷ ((expr_tokens e ++ codes ";" ∷ []) ++ z)) n)
-    (then_reads _ (expect_reads (codes "=") ((expr_tokens e ++ codes ";" ∷ []) ++ z))
+assignment_reads x e z h low =
+    then_reads _ (expect_reads (codes "=") ((expr_tokens e ++ codes ";" ∷ []) ++ z))
     (then_reads _ (ap sum (append_assoc (expr_tokens e) (codes ";" ∷ []) z) ∙ sum_read e h low (codes ";" ∷ z) (semicolon_ends z))
-    (then_reads _ (expect_reads (codes ";") z) refl)))
+    (then_reads _ (expect_reads (codes ";") z) refl))
+
+call_reads : (f : List ℕ) (z : Tokens) → procedure_call f (codes "(" ∷ codes ")" ∷ codes ";" ∷ z) ≡ Some (expr (call (name f) no_exprs), z)
+unfolding procedure_call
+call_reads f z =
+    then_reads _ (expect_reads (codes "(") (codes ")" ∷ codes ";" ∷ z))
+    (then_reads _ (expect_reads (codes ")") (codes ";" ∷ z))
+    (then_reads _ (expect_reads (codes ";") z) refl))
 
 log_reads : (e : tree.Expr) (z : Tokens) → IsSum e → expr_height e ≤ 440 → log (codes "." ∷ codes "log" ∷ codes "(" ∷ ((expr_tokens e ++ codes ")" ∷ codes ";" ∷ []) ++ z)) ≡ Some (logged e, z)
 unfolding log
@@ -91,35 +97,45 @@ log_reads e z h low =
 abbrev LowStatement : tree.Stmt → Type 0
 LowStatement s = IsStatement s × (stmt_height s ≤ 440)
 
-assigned : (x : List ℕ) (e : tree.Expr) (z : Tokens) → is_name x ≡ true → IsSum e → expr_height e ≤ 440 → statement (x ∷ codes "=" ∷ ((expr_tokens e ++ codes ";" ∷ []) ++ z)) ≡ Some (expr (assign None (name x) e), z)
+named_reads : (x : List ℕ) (i z : Tokens) (s : tree.Stmt) → is_name x ≡ true → named_statement x i ≡ Some (s, z) → statement (x ∷ i) ≡ Some (s, z)
 unfolding statement
-assigned x e z n h low =
-    let i = x ∷ codes "=" ∷ ((expr_tokens e ++ codes ";" ∷ []) ++ z) in
-    ap (λ b. if b then log (tail i) else assignment i) (sees_other (codes "console") x (tail i) (other x (codes "console") n console_is))
-    ∙ assignment_reads x e z n h low
+named_reads x i z s n e =
+    ap (λ b. if b then log i else and_then (declared_name (x ∷ i)) named_statement) (sees_other (codes "console") x i (other x (codes "console") n console_is))
+    ∙ then_reads named_statement (name_reads x i n) e
+
+assigned : (x : List ℕ) (e : tree.Expr) (z : Tokens) → IsSum e → expr_height e ≤ 440 → named_statement x (codes "=" ∷ ((expr_tokens e ++ codes ";" ∷ []) ++ z)) ≡ Some (expr (assign None (name x) e), z)
+unfolding named_statement sees
+assigned x e z h low = assignment_reads x e z h low
+
+called : (f : List ℕ) (z : Tokens) → named_statement f (codes "(" ∷ codes ")" ∷ codes ";" ∷ z) ≡ Some (expr (call (name f) no_exprs), z)
+unfolding named_statement sees
+called f z = call_reads f z
 
 printed : (e : tree.Expr) (z : Tokens) → IsSum e → expr_height e ≤ 440 → statement (stmt_tokens (logged e) ++ z) ≡ Some (logged e, z)
 unfolding statement
 printed e z h low =
     let i = stmt_tokens (logged e) ++ z in
-    ap (λ b. if b then log (tail i) else assignment i) (sees_it (codes "console") (tail i)) ∙ log_reads e z h low
+    ap (λ b. if b then log (tail i) else and_then (declared_name i) named_statement) (sees_it (codes "console") (tail i)) ∙ log_reads e z h low
 
 statement_reads : (s : tree.Stmt) → LowStatement s → (z : Tokens) → statement (stmt_tokens s ++ z) ≡ Some (s, z)
-statement_reads (expr (assign None (name x) e)) h z = assigned x e z h.0.0 h.0.1 (let low = h.1 in omega arith)
+statement_reads (expr (assign None (name x) e)) h z = named_reads x _ z _ h.0.0 (assigned x e z h.0.1 (let low = h.1 in omega arith))
 statement_reads (expr (call (member (name c) m) (then_expr e no_exprs))) h z =
     let P : List ℕ → List ℕ → Type 0 = λ c m. statement (stmt_tokens (expr (call (member (name c) m) (then_expr e no_exprs))) ++ z) ≡ Some (expr (call (member (name c) m) (then_expr e no_exprs)), z) in
     subst (λ d. P d m) (sym h.0.0) (subst (λ n. P (codes "console") n) (sym h.0.1) (printed e z h.0.2 (let low = h.1 in omega arith)))
+statement_reads (expr (call (name f) no_exprs)) h z = named_reads f _ z _ h.0 (called f z)
 statement_reads s h z = absurd h.0
 
 -- no statement begins with a token that is no name and not `console`
 begins : (s : tree.Stmt) → IsStatement s → (k : List ℕ) → is_name k ≡ false → bytes_eq (codes "console") k ≡ false → (z : Tokens) → sees k (stmt_tokens s ++ z) ≡ false
 begins (expr (assign None (name x) e)) h k n c z = sees_other k x _ (other x k h.0 n)
 begins (expr (call (member (name d) m) (then_expr e no_exprs))) h k n c z = sees_other k d _ (ap (λ t. bytes_eq t k) h.0 ∙ c)
+begins (expr (call (name f) no_exprs)) h k n c z = sees_other k f _ (other f k h n)
 begins s h k n c z = absurd h
 
 statement_long : (s : tree.Stmt) → LowStatement s → 1 ≤ length (stmt_tokens s)
 statement_long (expr (assign None (name x) e)) h = omega arith
 statement_long (expr (call (member (name c) m) (then_expr e no_exprs))) h = omega arith
+statement_long (expr (call (name f) no_exprs)) h = omega arith
 statement_long s h = absurd h.0
 
 each_statement : (b : tree.Stmts) → AreStatements b → stmts_height b ≤ 440 → Each LowStatement (list_of b)
@@ -190,6 +206,7 @@ item_begins (var (then_declarator x (one_expr e) no_declarators)) h z = refl
 item_begins (function (code (Some f) [] b)) h z = refl
 item_begins (expr (assign None (name x) e)) h z = refl
 item_begins (expr (call (member (name c) m) (then_expr e no_exprs))) h z = refl
+item_begins (expr (call (name f) no_exprs)) h z = refl
 item_begins s h z = absurd h.0
 
 item_long : (s : tree.Stmt) → LowItem s → 1 ≤ length (item_tokens s)
@@ -198,6 +215,7 @@ item_long (var (then_declarator x (one_expr e) no_declarators)) h = omega arith
 item_long (function (code (Some f) [] b)) h = omega arith
 item_long (expr (assign None (name x) e)) h = omega arith
 item_long (expr (call (member (name c) m) (then_expr e no_exprs))) h = omega arith
+item_long (expr (call (name f) no_exprs)) h = omega arith
 item_long s h = absurd h.0
 
 each_item : (b : tree.Stmts) → AreItems b → stmts_height b ≤ 440 → Each LowItem (list_of b)

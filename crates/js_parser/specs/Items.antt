@@ -1,5 +1,5 @@
--- The syntax trees of the pages that run so far: global variables, functions without formals, assignments of sums and
--- `console.log` of a sum.
+-- The syntax trees of the pages that run so far: global variables, functions without formals, assignments of sums,
+-- `console.log` of a sum and calls of functions.
 use Rattle.std.specs.Prelude.{ℕ, pos, ◌≤◌, ◌≡◌, Bool, true, not, ◌&&◌, ◌||◌, IsTrue, List, [], ◌∷◌, Some, None, codes}
 use Rattle.std.specs.List.{list_all}
 use Rattle.js_core.specs.Whole.{largest}
@@ -21,10 +21,11 @@ IsSum (binary Add a b) = IsSum a × IsTerm b
 IsSum (binary Sub a b) = IsSum a × IsTerm b
 IsSum e = IsTerm e
 
--- `N=S;` or `console.log(S);`
+-- `N=S;`, `console.log(S);` or `N();`
 abbrev pub IsStatement : tree.Stmt → Type 0
 IsStatement (expr (assign None (name x) e)) = IsTrue (is_name x) × IsSum e
 IsStatement (expr (call (member (name c) m) (then_expr e no_exprs))) = (c ≡ codes "console") × (m ≡ codes "log") × IsSum e
+IsStatement (expr (call (name f) no_exprs)) = IsTrue (is_name f)
 IsStatement s = ⊥
 
 abbrev pub AreStatements : tree.Stmts → Type 0
@@ -60,25 +61,28 @@ expr_is_declared is_variable (name x) = is_value_name x || is_variable x
 expr_is_declared is_variable (binary op a b) = expr_is_declared is_variable a && expr_is_declared is_variable b
 expr_is_declared is_variable e = true
 
--- each name that is assigned or read is one of the variables
-abbrev pub stmt_is_declared : (List ℕ → Bool) → tree.Stmt → Bool
-stmt_is_declared is_variable (expr (assign op (name x) e)) = is_variable x && expr_is_declared is_variable e
-stmt_is_declared is_variable (expr (call f (then_expr e es))) = expr_is_declared is_variable e
-stmt_is_declared is_variable (var (then_declarator x (one_expr e) ds)) = expr_is_declared is_variable e
-stmt_is_declared is_variable s = true
+-- each name that is assigned or read is one of the variables, and each that is called one of the functions
+abbrev pub stmt_is_declared : (List ℕ → Bool) → (List ℕ → Bool) → tree.Stmt → Bool
+stmt_is_declared is_variable is_function (expr (assign op (name x) e)) = is_variable x && expr_is_declared is_variable e
+stmt_is_declared is_variable is_function (expr (call g (then_expr e es))) = expr_is_declared is_variable e
+stmt_is_declared is_variable is_function (expr (call (name f) no_exprs)) = is_function f
+stmt_is_declared is_variable is_function (var (then_declarator x (one_expr e) ds)) = expr_is_declared is_variable e
+stmt_is_declared is_variable is_function s = true
 
-abbrev pub stmts_are_declared : (List ℕ → Bool) → tree.Stmts → Bool
-stmts_are_declared is_variable no_stmts = true
-stmts_are_declared is_variable (then_stmt s ss) = stmt_is_declared is_variable s && stmts_are_declared is_variable ss
+abbrev pub stmts_are_declared : (List ℕ → Bool) → (List ℕ → Bool) → tree.Stmts → Bool
+stmts_are_declared is_variable is_function no_stmts = true
+stmts_are_declared is_variable is_function (then_stmt s ss) =
+    stmt_is_declared is_variable is_function s && stmts_are_declared is_variable is_function ss
 
 -- the same of an item, in whose body too
-abbrev pub item_is_declared : (List ℕ → Bool) → tree.Stmt → Bool
-item_is_declared is_variable (function (code f formals body)) = stmts_are_declared is_variable body
-item_is_declared is_variable s = stmt_is_declared is_variable s
+abbrev pub item_is_declared : (List ℕ → Bool) → (List ℕ → Bool) → tree.Stmt → Bool
+item_is_declared is_variable is_function (function (code f formals body)) = stmts_are_declared is_variable is_function body
+item_is_declared is_variable is_function s = stmt_is_declared is_variable is_function s
 
-abbrev pub items_are_declared : (List ℕ → Bool) → tree.Stmts → Bool
-items_are_declared is_variable no_stmts = true
-items_are_declared is_variable (then_stmt s ss) = item_is_declared is_variable s && items_are_declared is_variable ss
+abbrev pub items_are_declared : (List ℕ → Bool) → (List ℕ → Bool) → tree.Stmts → Bool
+items_are_declared is_variable is_function no_stmts = true
+items_are_declared is_variable is_function (then_stmt s ss) =
+    item_is_declared is_variable is_function s && items_are_declared is_variable is_function ss
 
 -- no text stands twice
 abbrev pub are_distinct : List (List ℕ) → Bool
@@ -88,8 +92,8 @@ are_distinct (x ∷ xs) = not (is_one_of xs x) && are_distinct xs
 -- each name in use is declared; a name is a variable or a function, and a function is declared once
 abbrev pub is_well_declared : tree.Stmts → Bool
 is_well_declared items =
-    items_are_declared (is_one_of (variables_of items)) items && are_distinct (functions_of items)
-    && list_all (λ f. not (is_one_of (variables_of items) f)) (functions_of items)
+    items_are_declared (is_one_of (variables_of items)) (is_one_of (functions_of items)) items
+    && are_distinct (functions_of items) && list_all (λ f. not (is_one_of (variables_of items) f)) (functions_of items)
 
 -- no script that is read is higher
 abbrev pub height_limit : ℕ

@@ -26,6 +26,10 @@ abbrev pub is_variable_kind : Option NameKind → Bool
 is_variable_kind (Some Variable) = true
 is_variable_kind kind = false
 
+abbrev pub is_function_kind : Option NameKind → Bool
+is_function_kind (Some Function) = true
+is_function_kind kind = false
+
 -- what is declared as the first may be declared as the second, too
 abbrev pub may_become : Option NameKind → NameKind → Bool
 may_become None kind = true
@@ -40,3 +44,7 @@ are_apart items =
 -- whether the table has the name as a variable
 abbrev pub has_variable : {S : Type 0} → IndexMap (List ℕ) NameKind S → List ℕ → Bool
 has_variable names x = is_variable_kind (get bytes_eq names x)
+
+-- whether it has the name as a function
+abbrev pub has_function : {S : Type 0} → IndexMap (List ℕ) NameKind S → List ℕ → Bool
+has_function names x = is_function_kind (get bytes_eq names x)

@@ -19,6 +19,7 @@ abbrev pub stmt_text : tree.Stmt → List ℕ
 stmt_text (expr (assign None (name x) e)) = x ++ (codes "=" ++ (expr_text e ++ codes ";"))
 stmt_text (expr (call (member (name c) m) (then_expr e no_exprs))) =
     c ++ (codes "." ++ (m ++ (codes "(" ++ (expr_text e ++ codes ");"))))
+stmt_text (expr (call (name f) no_exprs)) = f ++ codes "();"
 stmt_text s = []
 
 abbrev pub stmts_text : tree.Stmts → List ℕ

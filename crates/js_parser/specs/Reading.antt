@@ -150,14 +150,24 @@ sum = do
 
 -- ---- statements
 
--- `N=S;`
-unfoldable pub assignment : Parser tree.Stmt
-assignment = do
-  x ← declared_name
+-- `=S;` behind `N`
+unfoldable pub assignment : List ℕ → Parser tree.Stmt
+assignment x = do
   expect (codes "=")
   e ← sum
   expect (codes ";")
   pure (expr (assign None (name x) e))
+
+-- `();` behind `N`
+unfoldable pub procedure_call : List ℕ → Parser tree.Stmt
+procedure_call f = do
+  expect (codes "(")
+  expect (codes ")")
+  expect (codes ";")
+  pure (expr (call (name f) no_exprs))
+
+unfoldable pub named_statement : List ℕ → Parser tree.Stmt
+named_statement x = λ i. if sees (codes "(") i then procedure_call x i else assignment x i
 
 abbrev pub logged : tree.Expr → tree.Stmt
 logged e = expr (call (member (name (codes "console")) (codes "log")) (then_expr e no_exprs))
@@ -174,7 +184,7 @@ log = do
   pure (logged e)
 
 unfoldable pub statement : Parser tree.Stmt
-statement = λ i. if sees (codes "console") i then log (tail i) else assignment i
+statement = λ i. if sees (codes "console") i then log (tail i) else (declared_name >>= named_statement) i
 
 -- ---- lists of statements
 

@@ -16,6 +16,7 @@ abbrev pub stmt_tokens : tree.Stmt → List (List ℕ)
 stmt_tokens (expr (assign None (name x) e)) = x ∷ codes "=" ∷ (expr_tokens e ++ codes ";" ∷ [])
 stmt_tokens (expr (call (member (name c) m) (then_expr e no_exprs))) =
     c ∷ codes "." ∷ m ∷ codes "(" ∷ (expr_tokens e ++ codes ")" ∷ codes ";" ∷ [])
+stmt_tokens (expr (call (name f) no_exprs)) = f ∷ codes "(" ∷ codes ")" ∷ codes ";" ∷ []
 stmt_tokens s = []
 
 abbrev pub stmts_tokens : tree.Stmts → List (List ℕ)

@@ -171,6 +171,8 @@ mod tests {
             "var x=x;",
             "console.log(0);",
             "var varn=0;varn=1;",
+            "f();function f(){f();g();}function g(){}",
+            "function f(){}f\n ( \n) ; var x;x=1;",
         ];
         read_all(&rt, &items, true)
     }
@@ -192,7 +194,17 @@ mod tests {
         }
         let items = [
             "var c=0;while(c){}",
-            "function f(){}f();",
+            "f();",
+            "function f(){g();}",
+            "var x;x();",
+            "function f(){}f(1);",
+            "function f(){}f()",
+            "function f(){}f(;",
+            "function f(){}f)(;",
+            "function f(){}(f)();",
+            "NaN();",
+            "eval();",
+            "console();",
             "var x=00;",
             "var x=01;",
             "var x=9007199254740992;",

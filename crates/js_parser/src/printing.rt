@@ -9,6 +9,7 @@ ghost use Rattle.js_parser.specs.Printing as spec;
 ghost use Rattle.js_parser.specs.Printing.{PrintedIsReadBack, PrintedIsAscii, PrintedHasNoTag};
 
 use itoa::Buffer;
+use js_core::ascii::push_ascii;
 use js_core::memory::OutOfMemory;
 use js_core::operators::BinaryOp;
 use js_core::syntax::{Code, Declarator, Expr, ExprNode, Stmt, StmtNode};
@@ -124,7 +125,25 @@ fn print_call(called: &Expr, arguments: &[Expr], out: &mut Vec<u16>) -> Result<(
 {
     match &called.node {
         ExprNode::Member(object, method) => print_method_call(object, method, arguments, out),
+        ExprNode::Name(name) => print_procedure_call(name, arguments, out),
         _ => Ok(()),
+    }
+}
+
+fn print_procedure_call(
+    name: &Units,
+    arguments: &[Expr],
+    out: &mut Vec<u16>,
+) -> Result<(), OutOfMemory>
+    ensures ok { OnOk result (out.new.items ≡ out.old.items ++ spec.stmt_text (tree.expr (tree.call (tree.name name.now) (exprs_of arguments.now)))) }
+    ensures err { OnErr result (take (length out.old.items) out.new.items ≡ out.old.items) }
+{
+    match arguments {
+        [] => {
+            push_units(name.as_slice(), out)?;
+            push_ascii(b"();", out)
+        }
+        [_, ..] => Ok(()),
     }
 }
 
@@ -202,16 +221,6 @@ fn push_units(units: &[u16], out: &mut Vec<u16>) -> Result<(), OutOfMemory>
     ensures err { OnErr result (take (length out.old.items) out.new.items ≡ out.old.items) }
 {
     out.extend_from_slice(units)?;
-    Ok(())
-}
-
-fn push_ascii(text: &[u8], out: &mut Vec<u16>) -> Result<(), OutOfMemory>
-    ensures ok { OnOk result (out.new.items ≡ out.old.items ++ text.now) }
-    ensures err { OnErr result (take (length out.old.items) out.new.items ≡ out.old.items) }
-{
-    for code in text {
-        out.push(u16::from(*code))?;
-    }
     Ok(())
 }
 

@@ -1,4 +1,4 @@
-//! Statements (ECMA-262 5.1 section 12): assignments and log lines.
+//! Statements (ECMA-262 5.1 section 12): assignments, calls and log lines.
 
 ghost use Rattle.std.specs.Prelude.{◌≡◌, ◌≤◌, ◌+◌, IfOk, codes};
 ghost use Rattle.js_core.specs.Height.{expr_height, stmt_height, stmts_height};
@@ -38,19 +38,59 @@ pub fn statement(alloc: Global, tokens: &mut Cursor<'_>) -> Result<Stmt, ParseFa
 {
     if tokens.sees(b"console") {
         tokens.skip();
-        log(alloc, tokens)
+        return log(alloc, tokens);
+    }
+    let name = tokens.name()?;
+    named_statement(alloc, name, tokens)
+}
+
+/// Reads what stands behind the name at a statement's head.
+#[tactic(auto, unfolding(crate::specs::Reading::named_statement))]
+fn named_statement(alloc: Global, name: Units, tokens: &mut Cursor<'_>) -> Result<Stmt, ParseFault>
+    ensures read { Reads (spec.named_statement name tokens.old) result tokens.new }
+    ensures low { IfOk result (λ s. stmt_height s ≤ 442) }
+{
+    if tokens.sees(b"(") {
+        procedure_call(alloc, name, tokens)
     } else {
-        assignment(alloc, tokens)
+        assignment(alloc, name, tokens)
     }
 }
 
-/// Reads `N=S;`.
-#[tactic(auto, unfolding(crate::specs::Reading::assignment))]
-fn assignment(alloc: Global, tokens: &mut Cursor<'_>) -> Result<Stmt, ParseFault>
-    ensures read { Reads (spec.assignment tokens.old) result tokens.new }
+/// Reads `();` behind the name of a function.
+#[tactic(auto, unfolding(crate::specs::Reading::procedure_call))]
+fn procedure_call(alloc: Global, name: Units, tokens: &mut Cursor<'_>) -> Result<Stmt, ParseFault>
+    ensures read { Reads (spec.procedure_call name tokens.old) result tokens.new }
     ensures low { IfOk result (λ s. stmt_height s ≤ 442) }
 {
-    let name = tokens.name()?;
+    tokens.expect(b"(")?;
+    tokens.expect(b")")?;
+    tokens.expect(b";")?;
+    called(alloc, name)
+}
+
+fn called(alloc: Global, name: Units) -> Result<Stmt, ParseFault>
+    ensures { Makes (tree.expr (tree.call (tree.name name) tree.no_exprs)) result }
+{
+    let callee = Box::new(
+        alloc,
+        Expr {
+            node: ExprNode::Name(name),
+        },
+    )?;
+    Ok(Stmt {
+        node: StmtNode::Expr(Expr {
+            node: ExprNode::Call(callee, Vec::new(alloc)),
+        }),
+    })
+}
+
+/// Reads `=S;` behind the name of a variable.
+#[tactic(auto, unfolding(crate::specs::Reading::assignment))]
+fn assignment(alloc: Global, name: Units, tokens: &mut Cursor<'_>) -> Result<Stmt, ParseFault>
+    ensures read { Reads (spec.assignment name tokens.old) result tokens.new }
+    ensures low { IfOk result (λ s. stmt_height s ≤ 442) }
+{
     tokens.expect(b"=")?;
     let value = sum(alloc, tokens)?;
     tokens.expect(b";")?;
