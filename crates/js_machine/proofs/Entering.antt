@@ -134,8 +134,8 @@ names_bound cs xs d a = ap (λ r. bind_variables r xs) (functions_bound [] 0 cs 
 
 items_entered : (ss : tree.Stmts) → is_well_declared ss ≡ true → bound ss ≡ entered ss
 items_entered ss h =
-    let a = and_parts (items_are_declared (is_one_of (variables_of ss)) ss && are_distinct (functions_of ss)) (list_all (λ f. not (is_one_of (variables_of ss) f)) (functions_of ss)) h in
-    let b = and_parts (items_are_declared (is_one_of (variables_of ss)) ss) (are_distinct (functions_of ss)) a.0 in
+    let a = and_parts (items_are_declared (is_one_of (variables_of ss)) (is_one_of (functions_of ss)) ss && are_distinct (functions_of ss)) (list_all (λ f. not (is_one_of (variables_of ss) f)) (functions_of ss)) h in
+    let b = and_parts (items_are_declared (is_one_of (variables_of ss)) (is_one_of (functions_of ss)) ss) (are_distinct (functions_of ss)) a.0 in
     ap (λ names. record { names = names; codes = codes_of ss; lines = [] }) (names_bound (codes_of ss) (variables_of ss) (rw functions_are b.1) (rw functions_are a.1))
 
 pub first_entered : (script : tree.Stmts) → IsFirst script → bound script ≡ entered script

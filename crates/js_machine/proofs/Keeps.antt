@@ -139,11 +139,11 @@ with_plain (e ∷ es) x v h p = by_case (bytes_eq x e.0) (with_plain es x v h.1 
 -- ---- scripts over these functions and variables
 
 -- a body that a call may run
-pub record IsBody (declared : List ℕ → Bool) (body : tree.Stmts) : Type 0 where
+pub record IsBody (declared callable : List ℕ → Bool) (body : tree.Stmts) : Type 0 where
   pub shaped : AreStatements body
-  pub declared_all : stmts_are_declared declared body ≡ true
+  pub declared_all : stmts_are_declared declared callable body ≡ true
 
-module _ (fs : Names) (cs : List tree.Code) (vars : List (List ℕ)) (declared : List ℕ → Bool) (free : (x : List ℕ) → declared x ≡ true → held_by fs x ≡ None) (bodies : (k : ℕ) → IsBody declared (body_of (slice_get cs k))) where
+module _ (fs : Names) (cs : List tree.Code) (vars : List (List ℕ)) (declared callable : List ℕ → Bool) (free : (x : List ℕ) → declared x ≡ true → held_by fs x ≡ None) (bodies : (k : ℕ) → IsBody declared callable (body_of (slice_get cs k))) where
   abbrev K : Store → Type 0
   K s = Keeps fs cs vars s
 
@@ -202,7 +202,7 @@ module _ (fs : Names) (cs : List tree.Code) (vars : List (List ℕ)) (declared :
   abbrev Calls : Type 0
   Calls = List ℕ → Act (Unit {0})
 
-  pub statement_safe : (calls : Calls) → ((f : List ℕ) → Safe K Any (calls f)) → (s : tree.Stmt) → IsStatement s → stmt_is_declared declared s ≡ true → Safe K Any (exec calls s)
+  pub statement_safe : (calls : Calls) → ((f : List ℕ) → Safe K Any (calls f)) → (s : tree.Stmt) → IsStatement s → stmt_is_declared declared callable s ≡ true → Safe K Any (exec calls s)
   statement_safe calls g (expr (assign None (name x) e)) h d =
       let both = and_parts (declared x) (expr_is_declared declared e) d in
       safe_bind K IsPlain Any (eval e) (write_name x) (eval_safe e h.1 both.1) (λ v p. write_safe x v both.0 p)
@@ -210,20 +210,20 @@ module _ (fs : Names) (cs : List tree.Code) (vars : List (List ℕ)) (declared :
   statement_safe calls g (expr (call (name f) no_exprs)) h d = g f
   statement_safe calls g s h d = absurd h
 
-  pub statements_safe : (calls : Calls) → ((f : List ℕ) → Safe K Any (calls f)) → (ss : tree.Stmts) → AreStatements ss → stmts_are_declared declared ss ≡ true → Safe K Any (exec_all calls ss)
+  pub statements_safe : (calls : Calls) → ((f : List ℕ) → Safe K Any (calls f)) → (ss : tree.Stmts) → AreStatements ss → stmts_are_declared declared callable ss ≡ true → Safe K Any (exec_all calls ss)
   statements_safe calls g no_stmts h d = safe_ret K Any tt tt
   statements_safe calls g (then_stmt s ss) h d =
-      let both = and_parts (stmt_is_declared declared s) (stmts_are_declared declared ss) d in
+      let both = and_parts (stmt_is_declared declared callable s) (stmts_are_declared declared callable ss) d in
       safe_bind K Any Any (exec calls s) (λ _. exec_all calls ss) (statement_safe calls g s h.0 both.0) (λ v u. statements_safe calls g ss h.1 both.1)
 
-  bodies_kept : (k : ℕ) (s : Store) → K s → IsBody declared (body_of (slice_get s.codes k))
+  bodies_kept : (k : ℕ) (s : Store) → K s → IsBody declared callable (body_of (slice_get s.codes k))
   bodies_kept k s h = rw (h.codes) (bodies k)
 
   pub apply_safe : (d k : ℕ) → Safe K Any (apply d k)
   apply_safe zero k = safe_bind K Any Any take_step _ (safe_step K) (λ v u. safe_raise K Any TooDeep)
   apply_safe (suc d) k =
       safe_bind K Any Any take_step _ (safe_step K) λ v u.
-      safe_bind K (IsBody declared) Any (ask (λ s. body_of (slice_get s.codes k))) _ (safe_ask K (IsBody declared) _ (bodies_kept k)) λ body h.
+      safe_bind K (IsBody declared callable) Any (ask (λ s. body_of (slice_get s.codes k))) _ (safe_ask K (IsBody declared callable) _ (bodies_kept k)) λ body h.
       statements_safe _ (called_safe K (apply d) (apply_safe d)) body h.shaped h.declared_all
 
   pub call_name_safe : (d : ℕ) (f : List ℕ) → Safe K Any (call_name d f)

@@ -23,7 +23,7 @@ use Rattle.js_machine.proofs.Keeps.{ArePlain, IsPlain, Keeps, Kept, Safe, Any, s
 -- a first script by its items
 pub record FirstItems (items : tree.Stmts) : Type 0 where
   pub shaped : AreItems items
-  pub declared : items_are_declared (is_one_of (variables_of items)) items ≡ true
+  pub declared : items_are_declared (is_one_of (variables_of items)) (is_one_of (functions_of items)) items ≡ true
   pub distinct : are_distinct (functions_of items) ≡ true
   pub apart : list_all (λ f. not (is_one_of (variables_of items) f)) (functions_of items) ≡ true
   pub low : stmts_height (with_directive items) ≤ height_limit
@@ -31,8 +31,8 @@ pub record FirstItems (items : tree.Stmts) : Type 0 where
 first_items : (script : tree.Stmts) → IsFirst script → FirstItems (items_of script)
 first_items script h =
     let vars = variables_of (items_of script) in
-    let one = and_parts (items_are_declared (is_one_of vars) (items_of script) && are_distinct (functions_of (items_of script))) (list_all (λ f. not (is_one_of vars f)) (functions_of (items_of script))) h.declared in
-    let two = and_parts (items_are_declared (is_one_of vars) (items_of script)) (are_distinct (functions_of (items_of script))) one.0 in
+    let one = and_parts (items_are_declared (is_one_of vars) (is_one_of (functions_of (items_of script))) (items_of script) && are_distinct (functions_of (items_of script))) (list_all (λ f. not (is_one_of vars f)) (functions_of (items_of script))) h.declared in
+    let two = and_parts (items_are_declared (is_one_of vars) (is_one_of (functions_of (items_of script))) (items_of script)) (are_distinct (functions_of (items_of script))) one.0 in
     record {
       shaped = h.shaped;
       declared = two.0;
@@ -47,22 +47,22 @@ by_items P g script h = subst P (sym h.strict) (g (items_of script) (first_items
 
 -- ---- bodies
 
-abbrev pub AreBodies : (List ℕ → Bool) → List tree.Code → Type 0
-AreBodies declared [] = Unit {0}
-AreBodies declared (c ∷ cs) = IsBody declared (body_of (Some c)) × AreBodies declared cs
+abbrev pub AreBodies : (List ℕ → Bool) → (List ℕ → Bool) → List tree.Code → Type 0
+AreBodies declared callable [] = Unit {0}
+AreBodies declared callable (c ∷ cs) = IsBody declared callable (body_of (Some c)) × AreBodies declared callable cs
 
-pub bodies_of : (declared : List ℕ → Bool) (items : tree.Stmts) → AreItems items → items_are_declared declared items ≡ true → AreBodies declared (codes_of items)
-bodies_of declared no_stmts h d = tt
-bodies_of declared (then_stmt (function (code (Some f) [] body)) ss) h d =
-    let both = and_parts (stmts_are_declared declared body) (items_are_declared declared ss) d in
-    (record { shaped = h.0.1; declared_all = both.0 }, bodies_of declared ss h.1 both.1)
-bodies_of declared (then_stmt (function c) ss) h d = absurd h.0
-bodies_of declared (then_stmt s ss) h d = bodies_of declared ss h.1 (and_parts (item_is_declared declared s) (items_are_declared declared ss) d).1
+pub bodies_of : (declared callable : List ℕ → Bool) (items : tree.Stmts) → AreItems items → items_are_declared declared callable items ≡ true → AreBodies declared callable (codes_of items)
+bodies_of declared callable no_stmts h d = tt
+bodies_of declared callable (then_stmt (function (code (Some f) [] body)) ss) h d =
+    let both = and_parts (stmts_are_declared declared callable body) (items_are_declared declared callable ss) d in
+    (record { shaped = h.0.1; declared_all = both.0 }, bodies_of declared callable ss h.1 both.1)
+bodies_of declared callable (then_stmt (function c) ss) h d = absurd h.0
+bodies_of declared callable (then_stmt s ss) h d = bodies_of declared callable ss h.1 (and_parts (item_is_declared declared callable s) (items_are_declared declared callable ss) d).1
 
-pub body_at : (declared : List ℕ → Bool) (cs : List tree.Code) (k : ℕ) → AreBodies declared cs → IsBody declared (body_of (slice_get cs k))
-body_at declared [] k h = record { shaped = tt; declared_all = refl }
-body_at declared (c ∷ cs) zero h = h.0
-body_at declared (c ∷ cs) (suc k) h = body_at declared cs k h.1
+pub body_at : (declared callable : List ℕ → Bool) (cs : List tree.Code) (k : ℕ) → AreBodies declared callable cs → IsBody declared callable (body_of (slice_get cs k))
+body_at declared callable [] k h = record { shaped = tt; declared_all = refl }
+body_at declared callable (c ∷ cs) zero h = h.0
+body_at declared callable (c ∷ cs) (suc k) h = body_at declared callable cs k h.1
 
 blank_plain : (xs : List (List ℕ)) → ArePlain (map (λ x. (x, Undefined)) xs)
 blank_plain [] = tt
@@ -83,37 +83,37 @@ module _ (items : tree.Stmts) (first : FirstItems items) where
   free : (x : List ℕ) → is_one_of (variables_of items) x ≡ true → held_by fs x ≡ None
   free x d = no_function (variables_of items) x 0 items d first.apart
 
-  bodies : (k : ℕ) → IsBody (is_one_of (variables_of items)) (body_of (slice_get (codes_of items) k))
-  bodies k = body_at (is_one_of (variables_of items)) (codes_of items) k (bodies_of (is_one_of (variables_of items)) items first.shaped first.declared)
+  bodies : (k : ℕ) → IsBody (is_one_of (variables_of items)) (is_one_of (functions_of items)) (body_of (slice_get (codes_of items) k))
+  bodies k = body_at (is_one_of (variables_of items)) (is_one_of (functions_of items)) (codes_of items) k (bodies_of (is_one_of (variables_of items)) (is_one_of (functions_of items)) items first.shaped first.declared)
 
   abbrev Calls : Type 0
   Calls = List ℕ → Act (Unit {0})
 
-  items_safe : (calls : Calls) → ((f : List ℕ) → Safe K Any (calls f)) → (ss : tree.Stmts) → AreItems ss → items_are_declared (is_one_of (variables_of items)) ss ≡ true → Among (variables_of items) (variables_of ss) → Safe K Any (exec_all calls ss)
+  items_safe : (calls : Calls) → ((f : List ℕ) → Safe K Any (calls f)) → (ss : tree.Stmts) → AreItems ss → items_are_declared (is_one_of (variables_of items)) (is_one_of (functions_of items)) ss ≡ true → Among (variables_of items) (variables_of ss) → Safe K Any (exec_all calls ss)
   items_safe calls g no_stmts h d a = safe_ret K Any tt tt
   items_safe calls g (then_stmt (var (then_declarator x no_expr no_declarators)) ss) h d a =
-      let both = and_parts true (items_are_declared (is_one_of (variables_of items)) ss) d in
+      let both = and_parts true (items_are_declared (is_one_of (variables_of items)) (is_one_of (functions_of items)) ss) d in
       safe_bind K Any Any (ret tt) (λ _. exec_all calls ss) (safe_ret K Any tt tt) (λ v u. items_safe calls g ss h.1 both.1 a.1)
   items_safe calls g (then_stmt (var (then_declarator x (one_expr e) no_declarators)) ss) h d a =
-      let both = and_parts (expr_is_declared (is_one_of (variables_of items)) e) (items_are_declared (is_one_of (variables_of items)) ss) d in
+      let both = and_parts (expr_is_declared (is_one_of (variables_of items)) e) (items_are_declared (is_one_of (variables_of items)) (is_one_of (functions_of items)) ss) d in
       safe_bind K Any Any (bind (eval e) (write_name x)) (λ _. exec_all calls ss)
-      (safe_bind K IsPlain Any (eval e) (write_name x) (eval_safe fs (codes_of items) vars (is_one_of (variables_of items)) free bodies e h.0.1 both.0) (λ v p. write_safe fs (codes_of items) vars (is_one_of (variables_of items)) free bodies x v a.0 p))
+      (safe_bind K IsPlain Any (eval e) (write_name x) (eval_safe fs (codes_of items) vars (is_one_of (variables_of items)) (is_one_of (functions_of items)) free bodies e h.0.1 both.0) (λ v p. write_safe fs (codes_of items) vars (is_one_of (variables_of items)) (is_one_of (functions_of items)) free bodies x v a.0 p))
       (λ v u. items_safe calls g ss h.1 both.1 a.1)
   items_safe calls g (then_stmt (var ds) ss) h d a = absurd h.0
   items_safe calls g (then_stmt (function c) ss) h d a =
-      safe_bind K Any Any (ret tt) (λ _. exec_all calls ss) (safe_ret K Any tt tt) (λ v u. items_safe calls g ss h.1 (and_parts (item_is_declared (is_one_of (variables_of items)) (function c)) (items_are_declared (is_one_of (variables_of items)) ss) d).1 a)
+      safe_bind K Any Any (ret tt) (λ _. exec_all calls ss) (safe_ret K Any tt tt) (λ v u. items_safe calls g ss h.1 (and_parts (item_is_declared (is_one_of (variables_of items)) (is_one_of (functions_of items)) (function c)) (items_are_declared (is_one_of (variables_of items)) (is_one_of (functions_of items)) ss) d).1 a)
   items_safe calls g (then_stmt (expr e) ss) h d a =
-      let both = and_parts (item_is_declared (is_one_of (variables_of items)) (expr e)) (items_are_declared (is_one_of (variables_of items)) ss) d in
+      let both = and_parts (item_is_declared (is_one_of (variables_of items)) (is_one_of (functions_of items)) (expr e)) (items_are_declared (is_one_of (variables_of items)) (is_one_of (functions_of items)) ss) d in
       safe_bind K Any Any (exec calls (expr e)) (λ _. exec_all calls ss)
-      (statement_safe fs (codes_of items) vars (is_one_of (variables_of items)) free bodies calls g (expr e) h.0 both.0)
+      (statement_safe fs (codes_of items) vars (is_one_of (variables_of items)) (is_one_of (functions_of items)) free bodies calls g (expr e) h.0 both.0)
       (λ v u. items_safe calls g ss h.1 both.1 a)
   items_safe calls g (then_stmt s ss) h d a = absurd h.0
 
   call_safe : (f : List ℕ) → Safe K Any (call_name depth_limit f)
-  call_safe f = call_name_safe fs (codes_of items) vars (is_one_of (variables_of items)) free bodies depth_limit f
+  call_safe f = call_name_safe fs (codes_of items) vars (is_one_of (variables_of items)) (is_one_of (functions_of items)) free bodies depth_limit f
 
   line_safe : (kind : LineKind) (words : List ℕ) (s : Store) → K s → K (put_line kind words s)
-  line_safe kind words s k = line_kept fs (codes_of items) vars (is_one_of (variables_of items)) free bodies kind words s k
+  line_safe kind words s k = line_kept fs (codes_of items) vars (is_one_of (variables_of items)) (is_one_of (functions_of items)) free bodies kind words s k
 
   settled_kept : (o : Outcome (Unit {0})) → Kept K Any o → K (settled o)
   settled_kept (Ended a s n) h = h.1

@@ -4,13 +4,11 @@ pub mod Frames
 pub mod Keeps
 pub mod KeptRuns
 pub mod Limits
-pub mod Lines
 pub mod Names
 pub mod SavedLoading
 pub mod SavedNames
 pub mod SavedPages
 pub mod SavedShape
 pub mod Sizes
-pub mod Smallest
 pub mod Stacks
 pub mod Steps

@@ -7,9 +7,9 @@ use Rattle.js_core.specs.Tree as tree
 use Rattle.js_parser.specs.Items.{IsFirst, with_directive}
 use Rattle.js_machine.specs.declared.event.Event.{Event}
 use Rattle.js_machine.specs.Act.{Store}
-use Rattle.js_machine.specs.Run.{load_of, do_event, run_all, run_of, lines_of_run, lines_added}
+use Rattle.js_machine.specs.Run.{LinesGrow, load_of, do_event, run_all, run_of, lines_of_run, lines_added}
 use Rattle.js_machine.specs.Saved.{saved_script, without_lines, SavedIsFirst, SavedLoads, SavedGoesOn, SavedAgain, SavedGoesOnLater, MovesKeepLines, joined}
-use Rattle.js_machine.proofs.Frames.{after_lines, run_all_framed}
+use Rattle.js_machine.proofs.Frames.{after_lines, do_event_framed, run_all_framed}
 use Rattle.js_machine.proofs.KeptRuns.{by_items, run_kept}
 use Rattle.js_machine.proofs.SavedShape.{saved_is_first}
 use Rattle.js_machine.proofs.SavedLoading.{saved_loads}
@@ -25,6 +25,11 @@ loads script events h = by_items (λ p. load_of (saved_script (run_of p events))
 -- a store is one without lines, with its lines before
 with_its_lines : (s : Store) → after_lines s.lines (without_lines s) ≡ s
 with_its_lines s = ap (λ ls. record { names = s.names; codes = s.codes; lines = ls }) (append-nil s.lines)
+
+pub lines_grow : LinesGrow
+lines_grow s e =
+    let bare = without_lines s in
+    ((do_event e bare).lines, ap (λ t. (do_event e t).lines) (sym (with_its_lines s)) ∙ ap (λ t. t.lines) (do_event_framed s.lines e bare))
 
 -- what events put out does not hang on the lines before
 added_after : (ls : List Line) (s : Store) (es : List Event) → lines_added (after_lines ls s) es ≡ lines_added s es

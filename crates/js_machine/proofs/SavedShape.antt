@@ -122,23 +122,23 @@ number_declared is_variable None = refl
 number_declared is_variable (Some (pos n)) = refl
 number_declared is_variable (Some (negsuc n)) = refl
 
-variables_declared : (is_variable : List ℕ → Bool) (es : Names) (rest : tree.Stmts) → items_are_declared is_variable rest ≡ true → items_are_declared is_variable (saved_variables es rest) ≡ true
-variables_declared is_variable [] rest h = h
-variables_declared is_variable (e ∷ es) rest h = by_case e.1 (variables_declared is_variable es rest h)
+variables_declared : (is_variable is_function : List ℕ → Bool) (es : Names) (rest : tree.Stmts) → items_are_declared is_variable is_function rest ≡ true → items_are_declared is_variable is_function (saved_variables es rest) ≡ true
+variables_declared is_variable is_function [] rest h = h
+variables_declared is_variable is_function (e ∷ es) rest h = by_case e.1 (variables_declared is_variable is_function es rest h)
   where
-    by_case : (v : Cell) → items_are_declared is_variable (saved_variables es rest) ≡ true → items_are_declared is_variable (saved_variable e.0 v (saved_variables es rest)) ≡ true
+    by_case : (v : Cell) → items_are_declared is_variable is_function (saved_variables es rest) ≡ true → items_are_declared is_variable is_function (saved_variable e.0 v (saved_variables es rest)) ≡ true
     by_case Undefined g = g
     by_case (Num n) g = and_from (expr_is_declared is_variable (saved_number n)) _ (number_declared is_variable n) g
     by_case (Function k) g = g
 
-functions_declared : (is_variable : List ℕ → Bool) (ss : tree.Stmts) → items_are_declared is_variable ss ≡ true → items_are_declared is_variable (saved_functions (codes_of ss)) ≡ true
-functions_declared is_variable no_stmts h = refl
-functions_declared is_variable (then_stmt (function c) ss) h =
-    let both = and_parts (item_is_declared is_variable (function c)) (items_are_declared is_variable ss) h in
-    and_from (item_is_declared is_variable (function c)) _ both.0 (functions_declared is_variable ss both.1)
-functions_declared is_variable (then_stmt s ss) h = functions_declared is_variable ss (and_parts (item_is_declared is_variable s) (items_are_declared is_variable ss) h).1
+functions_declared : (is_variable is_function : List ℕ → Bool) (ss : tree.Stmts) → items_are_declared is_variable is_function ss ≡ true → items_are_declared is_variable is_function (saved_functions (codes_of ss)) ≡ true
+functions_declared is_variable is_function no_stmts h = refl
+functions_declared is_variable is_function (then_stmt (function c) ss) h =
+    let both = and_parts (item_is_declared is_variable is_function (function c)) (items_are_declared is_variable is_function ss) h in
+    and_from (item_is_declared is_variable is_function (function c)) _ both.0 (functions_declared is_variable is_function ss both.1)
+functions_declared is_variable is_function (then_stmt s ss) h = functions_declared is_variable is_function ss (and_parts (item_is_declared is_variable is_function s) (items_are_declared is_variable is_function ss) h).1
 
-well : (vars names : List (List ℕ)) (ss : tree.Stmts) → variables_of ss ≡ vars → functions_of ss ≡ names → items_are_declared (is_one_of vars) ss ≡ true → are_distinct names ≡ true → list_all (λ f. not (is_one_of vars f)) names ≡ true → is_well_declared ss ≡ true
+well : (vars names : List (List ℕ)) (ss : tree.Stmts) → variables_of ss ≡ vars → functions_of ss ≡ names → items_are_declared (is_one_of vars) (is_one_of names) ss ≡ true → are_distinct names ≡ true → list_all (λ f. not (is_one_of vars f)) names ≡ true → is_well_declared ss ≡ true
 well vars names ss p q a b c = rw (p, q) (and_from _ _ (and_from _ _ a b) c)
 
 -- ---- their height
@@ -185,7 +185,8 @@ shaped_items items first es plain known =
       strict = refl;
       shaped = variables_shaped es functions plain (subst AreNames (sym known) (first_named [] (variables_of items) (variables_named items first.shaped))) (functions_shaped items first.shaped);
       declared = well vars (functions_of items) saved declares calls
-          (variables_declared (is_one_of vars) es functions (functions_declared (is_one_of vars) items (ap (λ t. items_are_declared t items) same ∙ first.declared)))
+          (variables_declared (is_one_of vars) (is_one_of (functions_of items)) es functions
+          (functions_declared (is_one_of vars) (is_one_of (functions_of items)) items (ap (λ t. items_are_declared t (is_one_of (functions_of items)) items) same ∙ first.declared)))
           first.distinct
           (ap (λ t. list_all (λ f. not (t f)) (functions_of items)) same ∙ first.apart);
       low = max-le {a = 2} (omega arith) (variables_low es functions height_limit (omega arith) (functions_low items height_limit (right_within 2 (stmts_height items) height_limit first.low)));

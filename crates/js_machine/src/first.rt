@@ -181,7 +181,7 @@ fn settle(globals: &mut Globals, end: End) -> Result<(), OutOfMemory>
 }
 
 /// A law: no host event takes a line back.
-#[tactic(auto, using(crate::proofs::Lines::lines_grow))]
+#[tactic(auto, using(crate::proofs::SavedPages::lines_grow))]
 pub fn law_lines_grow()
     ensures { LinesGrow }
 {}

@@ -25,7 +25,8 @@ fn page(alloc: Global, items: &str) -> Result<First, Fail> {
     Ok(load_first(alloc, &script)?)
 }
 
-// Whether the last line of the page, which has so many, is this one, and `n` holds the number.
+// Whether the last line of the page, which has so many, is this one, and `n` holds the number. Where there is none, the
+// line is not looked at.
 fn ends_with(
     alloc: Global,
     page: &First,
@@ -40,7 +41,7 @@ fn ends_with(
         Some(line) => {
             holds && page.lines().len() == count && line.kind == kind && line.text == words
         }
-        None => false,
+        None => holds && count == 0,
     })
 }
 
@@ -79,6 +80,22 @@ fn a_call_puts_out_what_its_function_logs_or_why_it_ends(rt: HostRuntime) -> Res
             "ReferenceError: g is not defined",
             7,
         ),
+        (
+            "var n=0;function f(){n=n+1;f();}",
+            "f",
+            1,
+            LineKind::Uncaught,
+            "RangeError: too deep",
+            1000,
+        ),
+        (
+            "var n=0;f();function f(){g();n=n+1;}function g(){n=n+5;}",
+            "f",
+            0,
+            LineKind::Log,
+            "",
+            12,
+        ),
     ];
     for (items, name, count, kind, words, n) in rows {
         let mut page = page(rt.alloc(), items)?;
@@ -93,13 +110,18 @@ fn a_call_puts_out_what_its_function_logs_or_why_it_ends(rt: HostRuntime) -> Res
 
 #[test]
 fn a_call_stops_where_no_step_is_left(rt: HostRuntime) -> Result<(), Fail> {
-    let mut page = page(rt.alloc(), "var n=1;function f(){n=n+1;}")?;
+    let mut page = page(
+        rt.alloc(),
+        "var n=1;function f(){n=n+1;g();}function g(){n=n+10;}",
+    )?;
     let f = Units::from_utf8(rt.alloc(), "f")?;
     page.call_within(&f, 0)?;
     assert!(rt; ends_with(rt.alloc(), &page, 1, LineKind::Stopped, "", 1)?);
     page.call_within(&f, 1)?;
-    assert!(rt; page.cell(&Units::from_utf8(rt.alloc(), "n")?) == Some(Cell::Num(whole(2))));
-    assert_eq!(rt; page.names().len(), 2);
+    assert!(rt; ends_with(rt.alloc(), &page, 2, LineKind::Stopped, "", 2)?);
+    page.call_within(&f, 2)?;
+    assert!(rt; ends_with(rt.alloc(), &page, 2, LineKind::Stopped, "", 13)?);
+    assert_eq!(rt; page.names().len(), 3);
     Ok(())
 }
 
