@@ -21,6 +21,14 @@ struct Ending {
     note: Vec<u8>,
 }
 
+// The numbers of the reads that fail, and of the puts to the output and to the notes, each with the bytes that it takes.
+#[derive(Clone, Copy, Drop)]
+struct Failing<'a> {
+    reads: &'a [u64],
+    puts: &'a [(u64, u64)],
+    notes: &'a [(u64, u64)],
+}
+
 // How a command ends on the files `p` and `e`, with this room for what it writes, and as much for its note.
 fn ended(
     alloc: Global,
@@ -29,12 +37,29 @@ fn ended(
     events: &[u8],
     room: u64,
 ) -> Result<Ending, Fail> {
+    let none = Failing {
+        reads: &[],
+        puts: &[],
+        notes: &[],
+    };
+    ended_failing(alloc, words, page, events, room, none)
+}
+
+// The same with calls that fail.
+fn ended_failing(
+    alloc: Global,
+    words: &[&str],
+    page: &[u8],
+    events: &[u8],
+    room: u64,
+    failing: Failing<'_>,
+) -> Result<Ending, Fail> {
     let mut held = Vec::new(alloc);
     held.push((String::from_str(alloc, "p")?, page.to_vec(alloc)?))?;
     held.push((String::from_str(alloc, "e")?, events.to_vec(alloc)?))?;
-    let mut files = MemoryFiles::new(held, Vec::new(alloc));
-    let mut out = MemorySink::new(alloc, room, Vec::new(alloc))?;
-    let mut notes = MemorySink::new(alloc, room, Vec::new(alloc))?;
+    let mut files = MemoryFiles::new(held, failing.reads.to_vec(alloc)?);
+    let mut out = MemorySink::new(alloc, room, failing.puts.to_vec(alloc)?)?;
+    let mut notes = MemorySink::new(alloc, room, failing.notes.to_vec(alloc)?)?;
     let mut keeper = MemoryKeeper::new(alloc, Vec::new(alloc));
     let mut line = Vec::new(alloc);
     for word in words {
@@ -83,6 +108,16 @@ fn replay_writes_the_lines_of_the_page_and_its_events(rt: HostRuntime) -> Result
             "[]",
             "log 1\nuncaught RangeError: number out of range\n",
         ),
+        (
+            "var n=0;function f(){n=n+1;f();}function t(){console.log(n);}",
+            r#"[{"call":"f"},{"call":"t"}]"#,
+            "uncaught RangeError: too deep\nlog 1000\n",
+        ),
+        (
+            "f();console.log(2);function f(){console.log(1);g();}function g(){console.log(0);}",
+            "[]",
+            "log 1\nlog 0\nlog 2\n",
+        ),
     ];
     for (items, events, lines) in rows {
         let page = page(rt.alloc(), items)?;
@@ -109,6 +144,12 @@ fn a_saved_page_goes_on_as_if_it_had_never_moved(rt: HostRuntime) -> Result<(), 
             "[]",
             "var a;var b=0-5;var c=NaN;function t(){console.log(b);b=b-c;}",
             "log -5\n",
+        ),
+        (
+            "var n=0;function f ( ) { n=n+1; f ( ) ; } function t(){console.log(n);}",
+            r#"[{"call":"f"}]"#,
+            "var n=1000;function f(){n=n+1;f();}function t(){console.log(n);}",
+            "log 1000\n",
         ),
     ];
     for (items, events, kept, line) in rows {
@@ -229,6 +270,89 @@ fn words_files_and_output_have_their_statuses(rt: HostRuntime) -> Result<(), Fai
         assert_eq!(rt; ended.status, status);
         assert!(rt; ended.text.as_slice() == written.as_bytes());
         assert!(rt; ended.note.as_slice() == note.as_bytes());
+    }
+    Ok(())
+}
+
+// Each of these functions but the last calls the next one twice.
+fn doubling_calls(alloc: Global, functions: u32) -> Result<String, Fail> {
+    let mut items = String::from_str(alloc, "var n=0;function t(){console.log(n);}a0();")?;
+    for k in 1..functions {
+        let item = format!(in alloc; "function a{}(){{n=n+1;a{k}();a{k}();}}", k - 1)?;
+        items.push_str(item.as_str())?;
+    }
+    let last = format!(in alloc; "function a{}(){{n=n+1;}}", functions.saturating_sub(1))?;
+    items.push_str(last.as_str())?;
+    Ok(items)
+}
+
+#[test]
+fn a_script_that_takes_too_many_steps_is_stopped(rt: HostRuntime) -> Result<(), Fail> {
+    for (functions, lines) in [(10, "log 1023\n"), (20, "stopped\nlog 1000000\n")] {
+        let items = doubling_calls(rt.alloc(), functions)?;
+        let page = page(rt.alloc(), items.as_str())?;
+        let ended = replayed(rt.alloc(), page.as_bytes(), r#"[{"call":"t"}]"#)?;
+        assert!(rt; ended.text.as_slice() == lines.as_bytes(), "{functions}");
+    }
+    Ok(())
+}
+
+// How a command on the counter page and two calls ends with calls that fail.
+fn counter_failing(alloc: Global, command: &str, failing: Failing<'_>) -> Result<Ending, Fail> {
+    let page = page(alloc, COUNTER)?;
+    let events = r#"[{"call":"t"},{"call":"t"}]"#;
+    ended_failing(
+        alloc,
+        &[command, "p", "e"],
+        page.as_bytes(),
+        events.as_bytes(),
+        1000,
+        failing,
+    )
+}
+
+#[test]
+fn each_call_that_fails_has_its_status(rt: HostRuntime) -> Result<(), Fail> {
+    let texts = [
+        ("replay", "log 1\nlog 2\n"),
+        (
+            "save",
+            "<!--imagen 1--><html><script>\"use strict\";var n=2;function t(){n=n+1;console.log(n);}</script></html>",
+        ),
+    ];
+    for (command, text) in texts {
+        let half = text.len() / 2;
+        let rows: [(&[u64], &[(u64, u64)], &[(u64, u64)], Status, usize, &str); 8] = [
+            (&[], &[], &[(1, 0)], Status::Ok, text.len(), ""),
+            (&[1], &[], &[], Status::ReadFault, 0, "read fault\n"),
+            (&[2], &[], &[], Status::ReadFault, 0, "read fault\n"),
+            (&[2], &[], &[(1, 0)], Status::ReadFault, 0, ""),
+            (&[], &[(1, 0)], &[], Status::WriteFault, 0, "write fault\n"),
+            (
+                &[],
+                &[(1, half as u64)],
+                &[],
+                Status::WriteFault,
+                half,
+                "write fault\n",
+            ),
+            (
+                &[],
+                &[(1, half as u64)],
+                &[(1, 5)],
+                Status::WriteFault,
+                half,
+                "write",
+            ),
+            (&[3], &[(2, 0)], &[(1, 0)], Status::Ok, text.len(), ""),
+        ];
+        for (reads, puts, notes, status, taken, note) in rows {
+            let failing = Failing { reads, puts, notes };
+            let ended = counter_failing(rt.alloc(), command, failing)?;
+            assert_eq!(rt; ended.status, status);
+            assert!(rt; ended.text.as_slice() == &text.as_bytes()[..taken]);
+            assert!(rt; ended.note.as_slice() == note.as_bytes());
+        }
     }
     Ok(())
 }
