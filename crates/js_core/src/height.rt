@@ -1,5 +1,8 @@
 //! How high a tree is: an expression without parts is 1, and any other node is 1 more than its highest part. A
 //! function expression is 1 more than its highest statement, and a function declaration 3 more.
+//!
+//! What is nested is recursed into, and that is at most 1000 deep. A list is gone over in a loop, so that a long one
+//! takes no more of the machine's stack than a short one.
 
 ghost use Rattle.std.specs.Prelude.{◌≡◌, ◌≤◌, ◌<◌, ◌+◌, max, IfOk, option_map};
 ghost use Rattle.js_core.specs.Tree.{exprs_of, maybe_expr, holes_of, fields_of, stmts_of, maybe_stmts};
@@ -124,10 +127,11 @@ fn exprs_height(es: &[Expr]) -> u64
     requires { spec.exprs_height (exprs_of es.now) ≤ 1000 }
     ensures { result ≡ spec.exprs_height (exprs_of es.now) }
 {
-    match es {
-        [] => 0,
-        [e, rest @ ..] => e.height().max(exprs_height(rest)),
+    let mut highest = 0;
+    for e in es {
+        highest = highest.max(e.height());
     }
+    highest
 }
 
 #[cycle(height)]
@@ -146,11 +150,11 @@ fn holes_height(es: &[Option<Expr>]) -> u64
     requires { spec.holes_height (holes_of es.now) ≤ 1000 }
     ensures { result ≡ spec.holes_height (holes_of es.now) }
 {
-    match es {
-        [] => 0,
-        [None, rest @ ..] => holes_height(rest),
-        [Some(e), rest @ ..] => e.height().max(holes_height(rest)),
+    let mut highest = 0;
+    for e in es {
+        highest = highest.max(maybe_expr_height(e));
     }
+    highest
 }
 
 #[cycle(height)]
@@ -158,10 +162,11 @@ fn fields_height(fs: &[(Units, Expr)]) -> u64
     requires { spec.fields_height (fields_of fs.now) ≤ 1000 }
     ensures { result ≡ spec.fields_height (fields_of fs.now) }
 {
-    match fs {
-        [] => 0,
-        [(_, e), rest @ ..] => e.height().max(fields_height(rest)),
+    let mut highest = 0;
+    for (_, e) in fs {
+        highest = highest.max(e.height());
     }
+    highest
 }
 
 #[cycle(height)]
@@ -169,10 +174,11 @@ fn stmts_height(ss: &[Stmt]) -> u64
     requires { spec.stmts_height (stmts_of ss.now) ≤ 1000 }
     ensures { result ≡ spec.stmts_height (stmts_of ss.now) }
 {
-    match ss {
-        [] => 0,
-        [s, rest @ ..] => s.height().max(stmts_height(rest)),
+    let mut highest = 0;
+    for s in ss {
+        highest = highest.max(s.height());
     }
+    highest
 }
 
 #[cycle(height)]
@@ -191,10 +197,11 @@ fn declarators_height(ds: &[Declarator]) -> u64
     requires { spec.declarators_height (declarators_of ds.now) ≤ 1000 }
     ensures { result ≡ spec.declarators_height (declarators_of ds.now) }
 {
-    match ds {
-        [] => 0,
-        [d, rest @ ..] => (maybe_expr_height(&d.value) + 1).max(declarators_height(rest)),
+    let mut highest = 0;
+    for d in ds {
+        highest = highest.max(maybe_expr_height(&d.value) + 1);
     }
+    highest
 }
 
 #[cycle(height)]
@@ -225,13 +232,12 @@ fn cases_height(cases: &[Case]) -> u64
     requires { spec.cases_height (cases_of cases.now) ≤ 1000 }
     ensures { result ≡ spec.cases_height (cases_of cases.now) }
 {
-    match cases {
-        [] => 0,
-        [case, rest @ ..] => {
-            let this = maybe_expr_height(&case.test).max(stmts_height(case.body.as_slice()));
-            this.max(cases_height(rest))
-        }
+    let mut highest = 0;
+    for case in cases {
+        let this = maybe_expr_height(&case.test).max(stmts_height(case.body.as_slice()));
+        highest = highest.max(this);
     }
+    highest
 }
 
 #[cfg(test)]
