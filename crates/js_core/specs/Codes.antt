@@ -1,5 +1,5 @@
 -- How the logic stores a tree.
-use Rattle.std.proofs.Common.{◌≡◌, ℕ, Bool, List, Option, ap, refl, sym, ◌∙◌, true≢false}
+use Rattle.std.proofs.Common.{◌≡◌, ℕ, List, Option, ap, refl, sym, ◌∙◌, true≢false}
 use Rattle.std.proofs.lemmas.Bool.{eq-eqb}
 use Rattle.std.specs.Coded.{Coded, coded_ℕ, coded_ℤ, coded_bool, coded_list, coded_option}
 use Rattle.std.specs.Prelude.{ℤ, IsTrue, not, ◌==◌}

@@ -1,5 +1,5 @@
 -- Sizes of trees.
-use Rattle.std.specs.Prelude.{ℕ, suc, ◌+◌}
+use Rattle.std.specs.Prelude.{ℕ, ◌+◌}
 use Rattle.js_core.specs.Tree.{Expr, Exprs, MaybeExpr, Holes, Fields, Code, Stmt, Stmts, MaybeStmts, Declarators, ForInit, MaybeCatch, Cases, name, num, text, bool, null, this, list, literal, func, member, index, call, construct, unary, update, binary, logical_and, logical_or, conditional, assign, comma, no_exprs, then_expr, no_expr, one_expr, no_holes, then_hole, no_fields, then_field, code, var, function, expr, empty, block, if_else, do_while, while, for, for_in, continue, break, return, throw, try, switch, no_stmts, then_stmt, no_body, one_body, no_declarators, then_declarator, no_init, init_var, init_expr, no_catch, one_catch, no_cases, then_case}
 
 abbrev mutual
