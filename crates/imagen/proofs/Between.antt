@@ -1,5 +1,5 @@
 -- What stands between a head and a tail.
-use Rattle.std.proofs.Common.{◌≡◌, ℕ, ◌+◌, ◌-◌, ◌≤◌, List, ◌++◌, length, take, drop, Bool, true, false, Bor, Option, Some, None, refl, sym, ◌∙◌, ap, append_assoc, bytes_eq, true≢false, arith}
+use Rattle.std.proofs.Common.{◌≡◌, ℕ, ◌+◌, ◌-◌, List, ◌++◌, length, take, drop, true, false, Bor, Option, Some, None, sym, ◌∙◌, ap, append_assoc, bytes_eq, true≢false, arith}
 use Rattle.std.specs.Prelude.{MatchOption}
 use Rattle.std.proofs.lemmas.List.{take-append-drop, length-append}
 use Rattle.std.proofs.Math.Seq.{take-append_seam, drop-append_seam}

@@ -1,13 +1,11 @@
 -- The events that bytes hold, from what was read.
-use Rattle.std.proofs.Common.{◌≡◌, ℕ, List, Bool, true, false, Option, Some, None, Result, Ok, Err, refl, sym, ap, ◌∙◌, subst, cond, true≢false}
-use Rattle.std.specs.Prelude.{option_and_then}
+use Rattle.std.proofs.Common.{◌≡◌, ℕ, List, Bool, true, false, Some, None, Err, refl}
 use Rattle.std.specs.Str.{IsUtf8, is_utf8}
 use Rattle.std.proofs.lemmas.Str.{IsUtf8-from_is_utf8, is_utf8-from_IsUtf8}
 use Rattle.serde_json.specs.Data.{Data, Items}
 use Rattle.serde_json.specs.Find.{as_array}
 use Rattle.serde_json.specs.Read.{read}
-use Rattle.js_machine.specs.declared.event.Event.{Event}
-use Rattle.imagen.specs.Events.{events_of, events_of_array, events_from}
+use Rattle.imagen.specs.Events.{events_of, events_from}
 
 -- bytes that are no JSON hold none
 pub not_json : (bytes : List ℕ) → (IsUtf8 bytes → read bytes ≡ None) → events_of bytes ≡ Err 0

@@ -1,9 +1,9 @@
 -- The events of the items so far, before those of the others.
-use Rattle.std.proofs.Common.{◌≡◌, ℕ, suc, ◌+◌, ◌<◌, ◌≤◌, List, [], ◌∷◌, ◌++◌, length, Option, Some, None, Result, Ok, Err, refl, sym, ap, ◌∙◌, append_assoc, drop, get_or, drop-cons, add-one, arith, nat_le, true, false}
+use Rattle.std.proofs.Common.{◌≡◌, ℕ, suc, ◌+◌, ◌<◌, List, [], ◌∷◌, ◌++◌, length, Some, None, Result, Ok, Err, refl, sym, ap, ◌∙◌, append_assoc, drop, get_or, drop-cons, add-one}
 use Rattle.serde_json.specs.declared.value.Value.{Value}
 use Rattle.serde_json.specs.View.{view, items_view}
 use Rattle.js_machine.specs.declared.event.Event.{Event}
-use Rattle.imagen.specs.Events.{event_of, event_at, events_from, with_event}
+use Rattle.imagen.specs.Events.{event_at, events_from, with_event}
 
 -- behind events that were found before
 abbrev pub behind : List Event → Result (List Event) ℕ → Result (List Event) ℕ

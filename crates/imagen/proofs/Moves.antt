@@ -1,20 +1,16 @@
 -- A saved page is accepted, and goes on as the page that was saved.
-use Rattle.std.proofs.Common.{◌≡◌, ℕ, ◌<◌, List, [], ◌∷◌, ◌++◌, Bool, true, false, refl, sym, ap, ◌∙◌, subst, true≢false, length, arith}
+use Rattle.std.proofs.Common.{◌≡◌, ℕ, ◌<◌, List, [], ◌∷◌, ◌++◌, Bool, true, false, refl, sym, ap, ◌∙◌, subst, true≢false, arith}
 use Rattle.std.specs.Prelude.{codes, ◌&&◌, nat_lt}
 use Rattle.std.specs.List.{All, list_all, flat_map}
-use Rattle.std.specs.Str.{chars, IsUtf8, IsAscii}
 use Rattle.std.specs.Char.Escape.{encode_utf16}
 use Rattle.js_core.specs.Text.{utf16_of}
-use Rattle.js_core.specs.Tree as tree
-use Rattle.js_parser.specs.Items.{AreItems, IsFirst, items_of, with_directive}
+use Rattle.js_parser.specs.Items.{IsFirst}
 use Rattle.js_parser.specs.First.{FirstText}
-use Rattle.js_parser.specs.Spelling.{items_tokens}
-use Rattle.js_parser.specs.Words.{tokens_of}
-use Rattle.js_parser.specs.Printing.{items_text, PrintedIsReadBack, PrintedIsAscii}
+use Rattle.js_parser.specs.Printing.{items_text}
 use Rattle.js_machine.specs.Act.{Store}
 use Rattle.js_machine.specs.declared.event.Event.{Event}
 use Rattle.js_machine.specs.Run.{run_of}
-use Rattle.js_machine.specs.Saved.{saved_items, saved_script, GoesOnAs, SavedIsFirst, SavedGoesOn}
+use Rattle.js_machine.specs.Saved.{saved_items, saved_script}
 use Rattle.imagen.specs.declared.page.Kind.TheVariants.{Form}
 use Rattle.imagen.specs.declared.page.Accepted.{Accepted}
 use Rattle.imagen.specs.Page.{page_head, page_tail, IsPageText, IsAccepted}

@@ -1,11 +1,10 @@
 -- Pieces that are put one after another.
-use Rattle.std.proofs.Common.{◌≡◌, ℕ, zero, suc, ◌+◌, ◌-◌, ◌≤◌, List, [], ◌∷◌, ◌++◌, length, take, Option, Some, None, Result, Ok, Err, refl, sym, ap, ◌∙◌, append_assoc, arith, min}
-use Rattle.std.specs.Prelude.{OnOk, OnErr, ◌⊎◌}
+use Rattle.std.proofs.Common.{◌≡◌, ℕ, zero, suc, List, [], ◌∷◌, ◌++◌, length, take, Option, Some, None, Result, Ok, Err, refl, ap, ◌∙◌, append_assoc}
+use Rattle.std.specs.Prelude.{OnOk, OnErr}
 use Rattle.std.proofs.Common.{inl, inr}
-use Rattle.std.proofs.lemmas.List.{take-append-le, take-append-drop, length-append}
 use Rattle.page_io.specs.declared.sink.PutFault.{PutFault}
 use Rattle.page_io.specs.declared.sink.PutFault.TheVariants.{Failed}
-use Rattle.page_io.specs.Faults.{Rose, CountsFaults}
+use Rattle.page_io.specs.Faults.{CountsFaults}
 use Rattle.page_io.specs.Taken.{Takes, TakesFront}
 use Rattle.std.specs.Fmt.{decimal}
 use Rattle.std.specs.Prelude.{codes}

@@ -1,12 +1,12 @@
 -- The items of a saved page, one after another.
-use Rattle.std.proofs.Common.{◌≡◌, ℕ, suc, ◌+◌, ◌≤◌, ◌<◌, List, [], ◌∷◌, ◌++◌, Option, Some, None, length, drop, refl, sym, ap, ◌∙◌, arith, max}
+use Rattle.std.proofs.Common.{◌≡◌, ℕ, suc, ◌+◌, ◌≤◌, ◌<◌, List, [], ◌∷◌, ◌++◌, Some, None, length, drop, refl, sym, ap, ◌∙◌, arith}
 use Rattle.std.specs.Prelude.{slice_get, codes, ◌⊎◌}
 use Rattle.std.proofs.Common.{inl, inr, add-one, get_or, drop-cons, map}
 use Rattle.std.proofs.Math.ListN.{drop_of_length-le}
 use Rattle.std.proofs.lemmas.Option.{slice_get_within, get_or_from_slice_get, slice_get_cases}
 use Rattle.std.specs.Str.{chars}
 use Rattle.js_core.specs.Text.{utf16_of}
-use Rattle.js_core.specs.Height.{stmt_height, stmts_height}
+use Rattle.js_core.specs.Height.{stmts_height}
 use Rattle.js_core.specs.Tree as tree
 use Rattle.js_core.specs.Tree.{no_stmts, then_stmt, stmts_of, function}
 use Rattle.js_machine.specs.declared.cell.Cell.{Cell}

@@ -1,5 +1,5 @@
 -- What a command writes for the files that it read.
-use Rattle.std.proofs.Common.{◌≡◌, ℕ, List, Option, Some, None, sym, subst}
+use Rattle.std.proofs.Common.{ℕ, List, Some, None, sym, subst}
 use Rattle.page_io.specs.Content.{Told}
 use Rattle.js_machine.specs.declared.event.Event.{Event}
 use Rattle.js_parser.specs.Items.{IsFirst}

@@ -1,5 +1,5 @@
 -- What `replay` writes.
-use Rattle.std.specs.Prelude.{◌≡◌, ℕ, ◌≤◌, List, length, Result, Ok}
+use Rattle.std.specs.Prelude.{◌≡◌, ℕ, ◌≤◌, List, length, Ok}
 use Rattle.js_core.specs.Line.{lines_text}
 use Rattle.js_machine.specs.declared.event.Event.{Event}
 use Rattle.js_machine.specs.Run.{lines_of_run}

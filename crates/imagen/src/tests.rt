@@ -356,3 +356,40 @@ fn each_call_that_fails_has_its_status(rt: HostRuntime) -> Result<(), Fail> {
     }
     Ok(())
 }
+
+// The text with its part repeated so often in the middle.
+fn repeated(alloc: Global, start: &str, part: &str, times: u32, end: &str) -> Result<String, Fail> {
+    let mut text = String::from_str(alloc, start)?;
+    for _ in 0..times {
+        text.push_str(part)?;
+    }
+    text.push_str(end)?;
+    Ok(text)
+}
+
+#[test]
+fn a_long_script_runs_and_moves(rt: HostRuntime) -> Result<(), Fail> {
+    let items = repeated(rt.alloc(), "var n=0;", "n=n+1;", 100_000, "console.log(n);")?;
+    let page = page(rt.alloc(), items.as_str())?;
+    let ended = replayed(rt.alloc(), page.as_bytes(), "[]")?;
+    assert!(rt; ended.text.as_slice() == b"log 100000\n");
+    let moved = saved(rt.alloc(), page.as_bytes(), "[]")?;
+    let form = b"<!--imagen 1--><html><script>\"use strict\";var n=100000;</script></html>";
+    assert!(rt; moved.text.as_slice() == form);
+    Ok(())
+}
+
+#[test]
+fn an_event_file_has_at_most_100000_items(rt: HostRuntime) -> Result<(), Fail> {
+    let page = page(rt.alloc(), "function t(){}")?;
+    for (items, status) in [
+        (99_999, Status::Ok),
+        (100_000, Status::EventsRefused(100_001)),
+    ] {
+        let item = "{\"call\":\"t\"},";
+        let events = repeated(rt.alloc(), "[", item, items, "{\"call\":\"t\"}]")?;
+        let ended = replayed(rt.alloc(), page.as_bytes(), events.as_str())?;
+        assert_eq!(rt; ended.status, status);
+    }
+    Ok(())
+}

@@ -1,5 +1,5 @@
 -- A script that is well declared is entered as its meaning says.
-use Rattle.std.proofs.Common.{◌≡◌, ℕ, ◌+◌, Bool, true, false, not, cond, ◌&&◌, ◌||◌, if◌then◌else◌, IsTrue, List, [], ◌∷◌, ◌++◌, map, Option, None, Some, is_some, refl, ap, sym, ◌∙◌, bytes_eq, append-nil, append_assoc}
+use Rattle.std.proofs.Common.{◌≡◌, ℕ, ◌+◌, Bool, true, false, not, cond, ◌&&◌, ◌||◌, List, [], ◌∷◌, ◌++◌, map, None, Some, is_some, refl, ap, sym, ◌∙◌, bytes_eq, append-nil, append_assoc}
 use Rattle.std.proofs.lemmas.Bool.{and_parts, or_parts, or_from, and_from, not-true, not_from_false, false_from_ne_true}
 use Rattle.std.proofs.lemmas.Slice.Eq.{bytes_eq-Decides}
 use Rattle.std.specs.List.{list_all, list_any}
@@ -8,11 +8,10 @@ use Rattle.indexmap.specs.IndexMap.{insert_entry}
 use Rattle.js_core.specs.Tree as tree
 use Rattle.js_core.specs.Tree.{code, function, var, no_stmts, then_stmt, then_declarator}
 use Rattle.js_parser.specs.Names.{is_one_of}
-use Rattle.js_parser.specs.Items.{IsFirst, with_directive, items_of, items_are_declared, are_distinct, functions_of, variables_of, is_well_declared}
+use Rattle.js_parser.specs.Items.{IsFirst, items_of, items_are_declared, are_distinct, functions_of, variables_of, is_well_declared}
 use Rattle.js_machine.specs.declared.cell.Cell.{Cell}
 use Rattle.js_machine.specs.declared.cell.Cell.TheVariants.{Undefined, Function}
-use Rattle.js_machine.specs.Act.{Store}
-use Rattle.js_machine.specs.Entry.{bind_function, bind_functions, bind_variable, bind_variables, bound}
+use Rattle.js_machine.specs.Entry.{bind_functions, bind_variables, bound}
 use Rattle.js_machine.specs.Run.{codes_of, function_names, first_ones, entered}
 
 bytes_eq_sym : (x y : List ℕ) → bytes_eq x y ≡ false → bytes_eq y x ≡ false

@@ -1,5 +1,5 @@
 -- The value of an expression is what the meaning gives.
-use Rattle.std.proofs.Common.{◌≡◌, ℕ, ℤ, Bool, true, false, List, [], ◌∷◌, ◌++◌, Option, None, Some, Result, Ok, Err, refl, ap, bytes_eq, codes, if◌then◌else◌}
+use Rattle.std.proofs.Common.{◌≡◌, ℕ, ℤ, Bool, true, false, List, [], ◌∷◌, ◌++◌, Option, None, Some, Result, Ok, Err, refl, bytes_eq, codes, if◌then◌else◌}
 use Rattle.js_core.specs.declared.operators.BinaryOp.TheVariants.{Add, Sub}
 use Rattle.js_core.specs.declared.line.LineKind.TheVariants.{Log}
 use Rattle.js_core.specs.declared.throw.Throw.{Throw}
@@ -11,10 +11,10 @@ use Rattle.js_machine.specs.declared.cell.Cell.TheVariants.{Undefined, Num}
 use Rattle.js_machine.specs.declared.machine.Next.TheVariants as next
 use Rattle.js_machine.specs.Act.{Store, Act, ret, bind}
 use Rattle.js_machine.specs.Globals.{World, held_by, with_name}
-use Rattle.js_machine.specs.Meaning.{or_raise, read_global, read_name, operate, eval}
+use Rattle.js_machine.specs.Meaning.{or_raise, read_global, operate, eval}
 use Rattle.js_machine.specs.Numbers.{whole_add, whole_sub, to_number, text_of}
 use Rattle.js_machine.specs.Rest.{store_of, answered, Assigns, Logs}
-use Rattle.js_machine.specs.Values.{found_or_error, value_of_name, number_or_error, operated, value_of}
+use Rattle.js_machine.specs.Values.{found_or_error, number_or_error, operated, value_of}
 
 number_is : (o : Option (Option ℤ)) (s : Store) (n : ℕ) → (bind (or_raise OutOfRange o) (λ k. ret (Num k))).run s n ≡ answered (number_or_error o) s n
 number_is None s n = refl

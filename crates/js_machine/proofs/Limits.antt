@@ -1,6 +1,5 @@
 -- The limits in numbers.
-use Rattle.std.specs.Prelude.{ℕ, ◌<◌, ◌^◌, ◌≡◌, refl}
-use Rattle.std.proofs.Common.{arith}
+use Rattle.std.specs.Prelude.{◌≡◌, refl}
 use Rattle.js_machine.specs.Run.{step_limit, depth_limit}
 
 pub step_limit_is : step_limit ≡ 1000000

@@ -1,5 +1,5 @@
 -- Global names.
-use Rattle.std.proofs.Common.{◌≡◌, refl, ap, sym, Bool, true, false, cond, List, [], ◌∷◌, None, Some}
+use Rattle.std.proofs.Common.{◌≡◌, refl, ap, Bool, true, false, List, [], ◌∷◌, None}
 use Rattle.std.specs.Map.{lookup, set_value}
 
 -- a name that is not there takes nothing

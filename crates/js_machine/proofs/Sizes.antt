@@ -1,5 +1,5 @@
 -- What the statements of the functions weigh.
-use Rattle.std.proofs.Common.{◌≡◌, ℕ, zero, suc, ◌+◌, ◌-◌, ◌*◌, ◌≤◌, ◌≢◌, List, [], ◌∷◌, length, refl, ap, slice_get, arith}
+use Rattle.std.proofs.Common.{◌≡◌, ℕ, zero, suc, ◌-◌, ◌≤◌, ◌≢◌, List, [], ◌∷◌, length, refl, ap, slice_get, arith}
 use Rattle.js_core.specs.Tree as tree
 use Rattle.js_core.specs.Tree.{code, no_stmts, then_stmt, stmts_of}
 use Rattle.js_machine.specs.Meaning.{body_of}

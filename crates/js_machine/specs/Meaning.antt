@@ -1,7 +1,6 @@
 -- What scripts do (ECMA-262 5.1 sections 10 to 14), on the trees that run so far.
 use Rattle.std.specs.Prelude.{ℕ, ℤ, zero, suc, ◌++◌, List, [], ◌∷◌, Option, Some, None, if◌then◌else◌, codes, bytes_eq, slice_get}
 use Rattle.js_core.specs.declared.operators.BinaryOp.TheVariants.{Add, Sub}
-use Rattle.js_core.specs.declared.line.Line.{Line}
 use Rattle.js_core.specs.declared.line.LineKind.{LineKind}
 use Rattle.js_core.specs.declared.line.LineKind.TheVariants.{Log}
 use Rattle.js_core.specs.declared.throw.Throw.{Throw}

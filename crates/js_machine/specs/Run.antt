@@ -1,5 +1,5 @@
 -- What a page does when it is loaded, and under host events.
-use Rattle.std.specs.Prelude.{ℕ, ◌≡◌, ◌+◌, ◌++◌, List, [], ◌∷◌, Option, Some, None, if◌then◌else◌, length, map, drop}
+use Rattle.std.specs.Prelude.{ℕ, ◌≡◌, ◌+◌, ◌++◌, List, [], ◌∷◌, Some, None, if◌then◌else◌, length, map, drop}
 use Rattle.js_core.specs.declared.line.Line.{Line}
 use Rattle.js_core.specs.declared.line.LineKind.TheVariants.{Uncaught, Stopped as StoppedLine}
 use Rattle.js_core.specs.Throw.{thrown_text}

@@ -1,6 +1,4 @@
 use Rattle.std.proofs.Common.{sym, ◌∙◌, true≢false}
-use Rattle.serde_json.specs.View.{items_view}
-use Rattle.imagen.specs.Events.{Finds}
 use Rattle.imagen.proofs.Found.{not_json, of_array}
 use Rattle.imagen.proofs.events.events.Goals as goal
 

@@ -1,4 +1,3 @@
-use Rattle.std.proofs.Common.{nat_eq, ap, ◌∙◌}
 use Rattle.imagen.proofs.OneMember.{one_member}
 use Rattle.imagen.proofs.events.has_one_member.Goals as goal
 

@@ -1,4 +1,3 @@
-use Rattle.std.proofs.Common.{length, ◌≡◌, ◌++◌}
 use Rattle.imagen.proofs.Between.{no_head, after_head, before_tail}
 use Rattle.imagen.proofs.page.between.Goals as goal
 

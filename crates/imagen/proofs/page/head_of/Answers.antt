@@ -1,4 +1,3 @@
-use Rattle.std.proofs.Common.{◌∙◌, sym}
 use Rattle.imagen.proofs.Heads.{plain_with_body, plain_without_body, form_with_body, form_without_body}
 use Rattle.imagen.proofs.page.head_of.Goals as goal
 

@@ -1,8 +1,6 @@
-use Rattle.std.proofs.Common.{◌≡◌, ◌≤◌, ◌<◌, ◌+◌, sym, ap, ◌∙◌, drop, map, length, arith, rules}
+use Rattle.std.proofs.Common.{◌≡◌, ◌<◌, sym, ap, ◌∙◌, length, arith, rules}
 use Rattle.std.proofs.Math.ListN.{drop_of_length-le}
 use Rattle.std.specs.Rc.{rc_value}
-use Rattle.js_core.specs.Tree as tree
-use Rattle.js_machine.specs.Saved.{saved_functions}
 use Rattle.imagen.specs.Saving.{before}
 use Rattle.imagen.proofs.SavedItems.{before_push, before_none, next_function}
 use Rattle.imagen.proofs.saving.push_functions.Goals as goal

@@ -1,4 +1,4 @@
-use Rattle.std.proofs.Common.{◌≡◌, ◌+◌, sym, ap, ◌∙◌, drop, List, ℕ}
+use Rattle.std.proofs.Common.{◌+◌, sym, ap, ◌∙◌, drop, List, ℕ}
 use Rattle.js_machine.specs.declared.cell.Cell.{Cell}
 use Rattle.js_machine.specs.Saved.{saved_variables}
 use Rattle.imagen.specs.Saving.{before}

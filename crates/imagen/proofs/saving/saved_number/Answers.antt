@@ -1,4 +1,4 @@
-use Rattle.std.proofs.Common.{◌≡◌, sym, ap, ◌∙◌, None}
+use Rattle.std.proofs.Common.{sym, ap, ◌∙◌}
 use Rattle.js_core.specs.Tree as tree
 use Rattle.js_machine.specs.Saved.{saved_number}
 use Rattle.imagen.proofs.SavedItems.{nan_units}

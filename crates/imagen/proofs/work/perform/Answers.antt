@@ -1,8 +1,8 @@
-use Rattle.std.proofs.Common.{rules, ◌≡◌, IfOk, ℕ, ◌+◌, ◌-◌, ◌*◌, ◌<◌, ◌≤◌, length, ◌/◌, ◌%◌, Bool, true, false, nat_eq, nat_lt, List, [], ◌∷◌, ◌++◌, slice_index_or, slice_set, bit_and, bit_or, Fits, w8, w32, w64, Bor, MutBor, subst}
+use Rattle.std.proofs.Common.{rules, ℕ, List, subst}
 use Rattle.page_io.specs.Content.{Told}
 use Rattle.page_io.specs.Taken.{Takes, TakesFront}
 use Rattle.imagen.specs.Replay.{IsEventFile}
-use Rattle.imagen.specs.Ending.{Of, Ends, IsTextOf}
+use Rattle.imagen.specs.Ending.{Of, IsTextOf}
 use Rattle.imagen.proofs.Works.{told_writes}
 use Rattle.imagen.proofs.work.perform.Goals as goal
 

@@ -1,4 +1,4 @@
-use Rattle.std.proofs.Common.{◌≡◌, ℕ, ◌+◌, reverse, map}
+use Rattle.std.proofs.Common.{◌+◌, reverse, map}
 use Rattle.js_core.specs.Tree.{stmts_of}
 use Rattle.js_machine.specs.Meaning.{exec_all, call_name}
 use Rattle.js_machine.specs.Rest.{store_of, weigh_all, load}

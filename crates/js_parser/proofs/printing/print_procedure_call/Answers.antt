@@ -1,4 +1,4 @@
-use Rattle.std.proofs.Common.{◌≡◌, ◌∙◌, sym, ap, ◌++◌}
+use Rattle.std.proofs.Common.{◌∙◌, sym, ap, ◌++◌}
 use Rattle.std.proofs.lemmas.List.{append-nil}
 use Rattle.js_parser.proofs.PrintingCalls.{some_argument}
 use Rattle.js_parser.proofs.printing.print_procedure_call.Goals as goal
