@@ -372,10 +372,10 @@ fn a_long_script_runs_and_moves(rt: HostRuntime) -> Result<(), Fail> {
     let items = repeated(rt.alloc(), "var n=0;", "n=n+1;", 100_000, "console.log(n);")?;
     let page = page(rt.alloc(), items.as_str())?;
     let ended = replayed(rt.alloc(), page.as_bytes(), "[]")?;
-    assert!(rt; ended.text.as_slice() == b"log 100000\n");
+    assert!(rt; ended.text.as_slice() == "log 100000\n".as_bytes());
     let moved = saved(rt.alloc(), page.as_bytes(), "[]")?;
-    let form = b"<!--imagen 1--><html><script>\"use strict\";var n=100000;</script></html>";
-    assert!(rt; moved.text.as_slice() == form);
+    let form = "<!--imagen 1--><html><script>\"use strict\";var n=100000;</script></html>";
+    assert!(rt; moved.text.as_slice() == form.as_bytes());
     Ok(())
 }
 
