@@ -4,6 +4,7 @@ use page_io::memory_files::MemoryFiles;
 use page_io::memory_keeper::MemoryKeeper;
 use page_io::memory_sink::MemorySink;
 use std::alloc::Global;
+use std::process::Abort;
 use std::test::Fail;
 
 const COUNTER: &str = "var n=0;function t(){n=n+1;console.log(n);}";
@@ -311,50 +312,60 @@ fn counter_failing(alloc: Global, command: &str, failing: Failing<'_>) -> Result
     )
 }
 
-#[test]
-fn each_call_that_fails_has_its_status(rt: HostRuntime) -> Result<(), Fail> {
-    let texts = [
-        ("replay", "log 1\nlog 2\n"),
+// The command writes this text where no call fails, and else ends as the table says.
+fn fails_as_listed(rt: &(impl Abort + AllocGlobal), command: &str, text: &str) -> Result<(), Fail> {
+    let whole = text.as_bytes();
+    let half = &whole[..whole.len() / 2];
+    let taken = half.len() as u64;
+    let rows: [(&[u64], &[(u64, u64)], &[(u64, u64)], Status, &[u8], &str); 8] = [
+        (&[], &[], &[(1, 0)], Status::Ok, whole, ""),
+        (&[1], &[], &[], Status::ReadFault, &[], "read fault\n"),
+        (&[2], &[], &[], Status::ReadFault, &[], "read fault\n"),
+        (&[2], &[], &[(1, 0)], Status::ReadFault, &[], ""),
         (
-            "save",
-            "<!--imagen 1--><html><script>\"use strict\";var n=2;function t(){n=n+1;console.log(n);}</script></html>",
+            &[],
+            &[(1, 0)],
+            &[],
+            Status::WriteFault,
+            &[],
+            "write fault\n",
         ),
+        (
+            &[],
+            &[(1, taken)],
+            &[],
+            Status::WriteFault,
+            half,
+            "write fault\n",
+        ),
+        (
+            &[],
+            &[(1, taken)],
+            &[(1, 5)],
+            Status::WriteFault,
+            half,
+            "write",
+        ),
+        (&[3], &[(2, 0)], &[(1, 0)], Status::Ok, whole, ""),
     ];
-    for (command, text) in texts {
-        let half = text.len() / 2;
-        let rows: [(&[u64], &[(u64, u64)], &[(u64, u64)], Status, usize, &str); 8] = [
-            (&[], &[], &[(1, 0)], Status::Ok, text.len(), ""),
-            (&[1], &[], &[], Status::ReadFault, 0, "read fault\n"),
-            (&[2], &[], &[], Status::ReadFault, 0, "read fault\n"),
-            (&[2], &[], &[(1, 0)], Status::ReadFault, 0, ""),
-            (&[], &[(1, 0)], &[], Status::WriteFault, 0, "write fault\n"),
-            (
-                &[],
-                &[(1, half as u64)],
-                &[],
-                Status::WriteFault,
-                half,
-                "write fault\n",
-            ),
-            (
-                &[],
-                &[(1, half as u64)],
-                &[(1, 5)],
-                Status::WriteFault,
-                half,
-                "write",
-            ),
-            (&[3], &[(2, 0)], &[(1, 0)], Status::Ok, text.len(), ""),
-        ];
-        for (reads, puts, notes, status, taken, note) in rows {
-            let failing = Failing { reads, puts, notes };
-            let ended = counter_failing(rt.alloc(), command, failing)?;
-            assert_eq!(rt; ended.status, status);
-            assert!(rt; ended.text.as_slice() == &text.as_bytes()[..taken]);
-            assert!(rt; ended.note.as_slice() == note.as_bytes());
-        }
+    for (reads, puts, notes, status, written, note) in rows {
+        let failing = Failing { reads, puts, notes };
+        let ended = counter_failing(rt.alloc(), command, failing)?;
+        assert_eq!(rt; ended.status, status);
+        assert!(rt; ended.text.as_slice() == written);
+        assert!(rt; ended.note.as_slice() == note.as_bytes());
     }
     Ok(())
+}
+
+#[test]
+fn each_call_that_fails_has_its_status(rt: HostRuntime) -> Result<(), Fail> {
+    fails_as_listed(&rt, "replay", "log 1\nlog 2\n")?;
+    fails_as_listed(
+        &rt,
+        "save",
+        "<!--imagen 1--><html><script>\"use strict\";var n=2;function t(){n=n+1;console.log(n);}</script></html>",
+    )
 }
 
 // The text with its part repeated so often in the middle.
