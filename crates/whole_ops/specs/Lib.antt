@@ -1,0 +1,6 @@
+pub mod Arithmetic
+pub mod Bits
+pub mod Equality
+pub mod Numeral
+pub mod Order
+pub mod Power

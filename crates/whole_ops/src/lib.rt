@@ -1,0 +1,10 @@
+//! The operators on numbers, equality of values, and numbers as texts: what the language does to whole numbers.
+#![tactic(auto)]
+
+pub mod arithmetic;
+pub mod bits;
+pub mod equality;
+pub mod fault;
+pub mod numeral;
+pub mod order;
+pub mod power;
