@@ -12,7 +12,8 @@ use Rattle.std.proofs.lemmas.List.Folds.{list_all-append}
 use Rattle.std.proofs.lemmas.Str.Parse.{IsDigitsTest, IsNumeralModel, numerals_by_value, digit_from_value}
 use Rattle.js_core.specs.Whole.{largest}
 use Rattle.whole_ops.specs.Arithmetic.{Outcome, whole_or_outside}
-use Rattle.whole_ops.specs.Numeral.{is_white_space, trimmed, behind, behind_hex_prefix, decimal_of, is_decimal, goes_on_as_decimal, is_exponent, literal_of, to_whole, text_of_whole}
+use Rattle.whole_ops.specs.WhiteSpace.{is_white_space, trimmed, behind}
+use Rattle.whole_ops.specs.Numeral.{behind_hex_prefix, decimal_of, is_decimal, goes_on_as_decimal, is_exponent, literal_of, to_whole, text_of_whole}
 
 -- ---- tests
 

@@ -4,3 +4,4 @@ pub mod Equality
 pub mod Numeral
 pub mod Order
 pub mod Power
+pub mod WhiteSpace

@@ -3,8 +3,13 @@
 
 pub mod arithmetic;
 pub mod bits;
+mod digits;
 pub mod equality;
 pub mod fault;
 pub mod numeral;
 pub mod order;
 pub mod power;
+#[cfg(test)]
+mod tests;
+pub mod text;
+pub mod white_space;

@@ -1,5 +1,5 @@
 use Rattle.whole_ops.proofs.Trims.{take_reversed}
-use Rattle.whole_ops.proofs.numeral.without_last_white_space.Goals as goal
+use Rattle.whole_ops.proofs.white_space.without_last_white_space.Goals as goal
 
 pub returns : goal.returns
 returns c =

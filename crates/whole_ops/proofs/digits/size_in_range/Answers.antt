@@ -1,6 +1,6 @@
 use Rattle.std.proofs.Common.{◌+◌, ◌*◌}
 use Rattle.whole_ops.proofs.NumeralDigits.{one_more, too_large}
-use Rattle.whole_ops.proofs.numeral.size_in_range.Goals as goal
+use Rattle.whole_ops.proofs.digits.size_in_range.Goals as goal
 
 pub returns-then-size-gt-LARGEST : goal.returns-then-size-gt-LARGEST
 returns-then-size-gt-LARGEST c =

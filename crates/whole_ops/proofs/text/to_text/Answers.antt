@@ -3,7 +3,7 @@ use Rattle.std.proofs.lemmas.Int.{to_z-of_z}
 use Rattle.whole_ops.specs.Numeral.{to_whole}
 use Rattle.whole_ops.proofs.Quotients.{abs_in_range}
 use Rattle.whole_ops.proofs.ReadBack.{reads_back, nan_reads_back, carry}
-use Rattle.whole_ops.proofs.numeral.to_text.Goals as goal
+use Rattle.whole_ops.proofs.text.to_text.Goals as goal
 
 pub returns-in-None-clause-read_back : goal.returns-in-None-clause-read_back
 returns-in-None-clause-read_back c =
