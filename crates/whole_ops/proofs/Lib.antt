@@ -1,5 +1,9 @@
+pub mod Agreement
+pub mod Conjunctions
+pub mod Finding
 pub mod NumeralDigits
 pub mod Powers
 pub mod Quotients
 pub mod ReadBack
+pub mod Spans
 pub mod Trims

@@ -1,6 +1,9 @@
 //! The number that a text writes.
 
 ghost use Rattle.std.specs.Prelude.{◌≡◌, option_copied};
+ghost use Rattle.js_core.specs.Whole.{nan};
+ghost use Rattle.whole_ops.specs.Arithmetic.{Outcome};
+ghost use Rattle.whole_ops.specs.Grammar.{Writes};
 ghost use Rattle.whole_ops.specs.Numeral as spec;
 
 use crate::arithmetic::whole_or_outside;
@@ -27,10 +30,13 @@ const INFINITY: [u16; 8] = [
 /// The number that the text writes (ECMA-262 5.1 section 9.3.1), in time linear in the text. White space round it does
 /// not count. The empty text is 0; an optional sign and decimal digits, or `0x` or `0X` and hexadecimal digits, are
 /// their number, or `Outside` where that is out of range; a decimal with a point, an exponent or `Infinity` is
-/// `Outside`, also where its value is whole; and all else is NaN. Where the standard has -0 it is 0.
+/// `Outside`, also where its value is whole; and all else is NaN. Where the standard has -0 it is 0. So it is what the
+/// grammar gives where the text is a StringNumericLiteral, and NaN where it is none.
 #[tactic(auto, unfolding(crate::specs::Numeral::to_whole))]
 pub fn to_number(text: &Units) -> Result<Whole, OpFault>
-    ensures { result ≡ spec.to_whole text.now }
+    ensures value { result ≡ spec.to_whole text.now }
+    ensures written { (gives : Outcome) → Writes text.now gives → result ≡ gives }
+    ensures nan { ((gives : Outcome) → Writes text.now gives → ⊥) → result ≡ Ok nan }
 {
     literal(trimmed(text.as_slice()))
 }

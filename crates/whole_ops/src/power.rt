@@ -2,7 +2,7 @@
 
 ghost use Rattle.std.specs.Prelude.{◌≡◌, ◌*◌, ◌^◌, ◌≤◌, unsigned_abs, SomeIff};
 ghost use Rattle.std.specs.Int.{int_pow};
-ghost use Rattle.js_core.specs.Whole.{InRange, largest};
+ghost use Rattle.js_core.specs.Whole.{largest};
 ghost use Rattle.whole_ops.specs.Power as spec;
 
 use crate::arithmetic::{quotient, whole_or_outside};
