@@ -1,4 +1,5 @@
--- Which text writes which number (ECMA-262 5.1 section 9.3.1), production by production. A decimal with a point or an exponent and `Infinity` are written well, and write no number of the language.
+-- Which text writes which number (ECMA-262 5.1 section 9.3.1), production by production.
+-- A decimal with a point or an exponent and `Infinity` are derived, and write no number of the language.
 use Rattle.std.specs.Prelude.{◌≡◌, ℕ, pos, ◌<◌, Bool, true, false, ◌⊎◌, List, [], ◌∷◌, ◌++◌, length, codes, Some, Ok, Err}
 use Rattle.std.specs.Char.{is_digit}
 use Rattle.std.specs.List.{list_all}

@@ -9,7 +9,7 @@ unfoldable pub power_of : ℤ → ℤ → Outcome
 power_of x (pos n) = whole_or_outside (int_pow x n)
 power_of x (negsuc n) = quotient_of (pos 1) (int_pow x (suc n))
 
--- what is no number to the power of 0 is 1 too
+-- NaN to the power of 0 is 1 too
 abbrev pub whole_pow : Option ℤ → Option ℤ → Outcome
 whole_pow a None = Ok nan
 whole_pow None (Some n) = if is_zero n then Ok (Some (pos 1)) else Ok nan

@@ -7,6 +7,9 @@ ghost use Rattle.whole_ops.specs.Arithmetic as spec;
 use crate::fault::OpFault;
 use js_core::whole::Whole;
 
+/// The size of the largest number.
+pub(crate) const LARGEST: u64 = Whole::LARGEST as u64;
+
 /// The sum (ECMA-262 5.1 section 11.6.3): NaN where one of the two is NaN, and `Outside` exactly where the sum is out
 /// of range.
 pub fn add(a: Whole, b: Whole) -> Result<Whole, OpFault>

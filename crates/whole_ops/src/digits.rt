@@ -7,10 +7,7 @@ ghost use Rattle.std.specs.Str.Parse.{digits_value};
 ghost use Rattle.js_core.specs.Whole.{largest};
 ghost use Rattle.whole_ops.specs.Numeral as spec;
 
-use js_core::whole::Whole;
-
-/// The largest number.
-const LARGEST: u64 = Whole::LARGEST as u64;
+use crate::arithmetic::LARGEST;
 
 /// The base of decimal digits.
 pub(crate) const DECIMAL: u64 = 10;

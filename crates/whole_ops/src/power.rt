@@ -5,16 +5,13 @@ ghost use Rattle.std.specs.Int.{int_pow};
 ghost use Rattle.js_core.specs.Whole.{largest};
 ghost use Rattle.whole_ops.specs.Power as spec;
 
-use crate::arithmetic::{quotient, whole_or_outside};
+use crate::arithmetic::{LARGEST, quotient, whole_or_outside};
 use crate::fault::OpFault;
 use js_core::whole::Whole;
 
-/// The largest number.
-const LARGEST: u64 = Whole::LARGEST as u64;
-
 /// The first to the power of the second (ECMA-262 5.1 section 15.8.2.13): NaN where the second is NaN, or the first is
 /// NaN and the second is not 0; and `Outside` exactly where the power is out of range, infinite or a fraction. Where the
-/// standard has -0 it is 0. It takes at most 54 products.
+/// standard has -0 it is 0. It takes at most 53 products.
 pub fn pow(a: Whole, b: Whole) -> Result<Whole, OpFault>
     ensures { result ≡ spec.whole_pow a b }
 {
