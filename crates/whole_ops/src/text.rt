@@ -4,6 +4,7 @@ ghost use Rattle.std.specs.Prelude.{◌≡◌, IfOk};
 ghost use Rattle.whole_ops.specs.Numeral as spec;
 
 use itoa::Buffer;
+use js_core::ascii::push_ascii;
 use js_core::memory::OutOfMemory;
 use js_core::units::Units;
 use js_core::whole::Whole;
@@ -26,8 +27,6 @@ fn ascii_text(alloc: Global, text: &[u8]) -> Result<Units, OutOfMemory>
     ensures { IfOk result (λ units. units ≡ text.now) }
 {
     let mut units = Vec::new(alloc);
-    for code in text {
-        units.push(u16::from(*code))?;
-    }
+    push_ascii(text, &mut units)?;
     Units::of(alloc, units.as_slice())
 }
