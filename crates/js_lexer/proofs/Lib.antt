@@ -1,0 +1,10 @@
+pub mod AllTokens
+pub mod Digits
+pub mod Firsts
+pub mod Gaps
+pub mod Literals
+pub mod Longest
+pub mod OneToken
+pub mod Pairs
+pub mod Prologue
+pub mod Runs

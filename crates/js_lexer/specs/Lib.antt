@@ -1,0 +1,9 @@
+pub mod Characters
+pub mod Directives
+pub mod Numbers
+pub mod Punctuators
+pub mod Reading
+pub mod ReservedWords
+pub mod Separators
+pub mod Strings
+pub mod Tokens
