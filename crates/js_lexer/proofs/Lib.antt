@@ -4,6 +4,7 @@ pub mod Firsts
 pub mod Gaps
 pub mod Literals
 pub mod Longest
+pub mod LongestToken
 pub mod OneToken
 pub mod Pairs
 pub mod Prologue

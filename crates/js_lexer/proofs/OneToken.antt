@@ -39,7 +39,7 @@ word_stands text units rest value n s e t d v =
 word_run : (text units rest : List ℕ) → WordAt text units rest → Run is_identifier_part text units rest
 word_run text units rest w = record { joined = w.joined; each = w.goes_on; ends = w.ends }
 
-word_class : (text units rest : List ℕ) → WordAt text units rest → class_of text ≡ Start
+pub word_class : (text units rest : List ℕ) → WordAt text units rest → class_of text ≡ Start
 word_class text units rest w = class_of_start text (rw w.joined (first_of_both is_identifier_start units rest w.starts))
 
 -- Numbers
@@ -94,7 +94,7 @@ behind_zero_parts (u ∷ us) value e = by_case ((u == 120) || (u == 88)) refl e
 zero_is_digit : (u : ℕ) → (u == 48) ≡ true → is_decimal_digit u ≡ true
 zero_is_digit u e = grind (arith, nat_tests)
 
-literal_parts : (units : List ℕ) (value : ℕ) → value_of units ≡ Some value → list_all is_literal_part units ≡ true
+pub literal_parts : (units : List ℕ) (value : ℕ) → value_of units ≡ Some value → list_all is_literal_part units ≡ true
 unfolding value_of
 literal_parts [] value e = refl
 literal_parts (u ∷ us) value e = by_case (u == 48) refl e
@@ -134,10 +134,10 @@ run_ends : (rest : List ℕ) → begins_with is_literal_part rest ≡ false → 
 run_ends [] e p = refl
 run_ends (u ∷ us) e p = refused_whole (is_decimal_digit u) (u == 46) (is_identifier_start u) e p
 
-number_run : (text rest : List ℕ) (value : ℕ) (n : NumberAt text rest value) → Run is_literal_part text n.units rest
+pub number_run : (text rest : List ℕ) (value : ℕ) (n : NumberAt text rest value) → Run is_literal_part text n.units rest
 number_run text rest value n = record { joined = n.joined; each = literal_parts n.units value n.writes; ends = (ends_run rest n.ends).0 }
 
-number_class : (text rest : List ℕ) (value : ℕ) → NumberAt text rest value → class_of text ≡ Digit
+pub number_class : (text rest : List ℕ) (value : ℕ) → NumberAt text rest value → class_of text ≡ Digit
 number_class text rest value n = class_of_digit text (rw n.joined (first_of_both is_decimal_digit n.units rest (literal_begins n.units value n.writes)))
 
 pub number_stands : (text units rest : List ℕ) (n : ℕ) (whole : Option ℤ) → n ≡ prefix_len is_literal_part text → units ≡ take n text → rest ≡ drop n text → Some whole ≡ whole_from (value_of units) → begins_with (λ u. u == 46) rest ≡ false → TokenAt text rest (Number whole)
@@ -179,19 +179,19 @@ pub record Spelled (text rest : List ℕ) (what : TokenKind) : Type 0 where
   pub at : StandsAt text rest punct
   pub is : what ≡ Punctuator punct
 
-string_class : (quote : ℕ) (behind : List ℕ) → is_quote quote ≡ true → class_of (quote ∷ behind) ≡ Quote
+pub string_class : (quote : ℕ) (behind : List ℕ) → is_quote quote ≡ true → class_of (quote ∷ behind) ≡ Quote
 string_class quote behind e = class_of_quote (quote ∷ behind) e
 
-punct_class : (text rest : List ℕ) (punct : Punct) → StandsAt text rest punct → class_of text ≡ Other
+pub punct_class : (text rest : List ℕ) (punct : Punct) → StandsAt text rest punct → class_of text ≡ Other
 punct_class text rest punct s = punctuator_is_other text rest punct s.spelled
 
-word_of : (text rest : List ℕ) (what : TokenKind) → class_of text ≡ Start → TokenAt text rest what → Worded text rest what
+pub word_of : (text rest : List ℕ) (what : TokenKind) → class_of text ≡ Start → TokenAt text rest what → Worded text rest what
 word_of text rest what c (word t units r w) = record { units = units; at = w; is = refl }
 word_of text rest what c (number t r value n) = absurd (let k = number_class t r value n in cc)
 word_of text rest what c (string quote behind r value q h) = absurd (let k = string_class quote behind q in cc)
 word_of text rest what c (punctuator t r punct s) = absurd (let k = punct_class t r punct s in cc)
 
-number_of : (text rest : List ℕ) (what : TokenKind) → class_of text ≡ Digit → TokenAt text rest what → Numbered text rest what
+pub number_of : (text rest : List ℕ) (what : TokenKind) → class_of text ≡ Digit → TokenAt text rest what → Numbered text rest what
 number_of text rest what c (word t units r w) = absurd (let k = word_class t units r w in cc)
 number_of text rest what c (number t r value n) = record { value = value; at = n; is = refl }
 number_of text rest what c (string quote behind r value q h) = absurd (let k = string_class quote behind q in cc)

@@ -1,9 +1,9 @@
 //! The tokens of a text.
 
-ghost use Rattle.std.specs.Prelude.{◌≡◌, ◌==◌, ◌<◌, ◌≤◌, ℕ, List, true, false, length, IfOk, IsErrOf};
+ghost use Rattle.std.specs.Prelude.{◌≡◌, ◌==◌, ◌+◌, ◌++◌, ◌<◌, ◌≤◌, [], ℕ, List, true, false, length, IfOk, IsErrOf};
 ghost use Rattle.std.specs.List.{prefix_len};
-ghost use Rattle.js_core.specs.declared.token.Token.{Token as Tok};
-ghost use Rattle.js_core.specs.declared.token.TokenKind.{TokenKind as Kind};
+ghost use Rattle.js_core.specs.declared.token.Token.{Token as PureToken};
+ghost use Rattle.js_core.specs.declared.token.TokenKind.{TokenKind as PureKind};
 ghost use Rattle.js_lexer.specs.Characters as characters;
 ghost use Rattle.js_lexer.specs.Tokens as spec;
 ghost use Rattle.js_lexer.specs.Tokens.{TokenAt, Tokens};
@@ -23,14 +23,14 @@ use std::alloc::Global;
 /// text has no such reading. The time is linear in the text.
 pub fn tokens(alloc: Global, text: &Units) -> Result<Vec<Token>, LexFault>
     ensures read { IfOk result (λ tokens. Tokens text.now tokens.items) }
-    ensures refused { IsErrOf result LexFault.NotTokens → (tokens : List Tok) → Tokens text.now tokens → ⊥ }
+    ensures refused { IsErrOf result LexFault.NotTokens → (tokens : List PureToken) → Tokens text.now tokens → ⊥ }
 {
     tokens_of(alloc, text.as_slice())
 }
 
 fn tokens_of(alloc: Global, text: &[u16]) -> Result<Vec<Token>, LexFault>
     ensures read { IfOk result (λ tokens. Tokens text.now tokens.items) }
-    ensures refused { IsErrOf result LexFault.NotTokens → (tokens : List Tok) → Tokens text.now tokens → ⊥ }
+    ensures refused { IsErrOf result LexFault.NotTokens → (tokens : List PureToken) → Tokens text.now tokens → ⊥ }
 {
     let mut tokens = Vec::new(alloc);
     let mut rest = text;
@@ -54,7 +54,7 @@ fn tokens_of(alloc: Global, text: &[u16]) -> Result<Vec<Token>, LexFault>
 fn token(alloc: Global, text: &[u16]) -> Result<(TokenKind, &[u16]), LexFault>
     ensures read { IfOk result (λ split. TokenAt text.now split.1.now split.0) }
     ensures shorter { IfOk result (λ split. length split.1.now < length text.now) }
-    ensures refused { IsErrOf result LexFault.NotTokens → (rest : List ℕ) (what : Kind) → TokenAt text.now rest what → ⊥ }
+    ensures refused { IsErrOf result LexFault.NotTokens → (rest : List ℕ) (what : PureKind) → TokenAt text.now rest what → ⊥ }
 {
     let [unit, ..] = text else {
         return Err(LexFault::NotTokens);
@@ -76,7 +76,7 @@ fn string_token(alloc: Global, text: &[u16]) -> Result<(TokenKind, &[u16]), LexF
     requires { characters.begins_with characters.is_quote text.now ≡ true }
     ensures read { IfOk result (λ split. TokenAt text.now split.1.now split.0) }
     ensures shorter { IfOk result (λ split. length split.1.now < length text.now) }
-    ensures refused { IsErrOf result LexFault.NotTokens → (rest : List ℕ) (what : Kind) → TokenAt text.now rest what → ⊥ }
+    ensures refused { IsErrOf result LexFault.NotTokens → (rest : List ℕ) (what : PureKind) → TokenAt text.now rest what → ⊥ }
 {
     let [quote, behind @ ..] = text else {
         return Err(LexFault::NotTokens);
@@ -111,7 +111,7 @@ fn number(text: &[u16]) -> Result<(TokenKind, &[u16]), LexFault>
     requires { characters.begins_with characters.is_decimal_digit text.now ≡ true }
     ensures read { IfOk result (λ split. TokenAt text.now split.1.now split.0) }
     ensures shorter { IfOk result (λ split. length split.1.now < length text.now) }
-    ensures refused { IsErrOf result LexFault.NotTokens → (rest : List ℕ) (what : Kind) → TokenAt text.now rest what → ⊥ }
+    ensures refused { IsErrOf result LexFault.NotTokens → (rest : List ℕ) (what : PureKind) → TokenAt text.now rest what → ⊥ }
     ensures memory { IsErrOf result LexFault.OutOfMemory → ⊥ }
 {
     let (literal, behind) = text.split_at(literal_len(text));
@@ -140,7 +140,7 @@ fn punctuator_token(text: &[u16]) -> Result<(TokenKind, &[u16]), LexFault>
     requires start { characters.begins_with characters.is_identifier_start text.now ≡ false }
     ensures read { IfOk result (λ split. TokenAt text.now split.1.now split.0) }
     ensures shorter { IfOk result (λ split. length split.1.now < length text.now) }
-    ensures refused { IsErrOf result LexFault.NotTokens → (rest : List ℕ) (what : Kind) → TokenAt text.now rest what → ⊥ }
+    ensures refused { IsErrOf result LexFault.NotTokens → (rest : List ℕ) (what : PureKind) → TokenAt text.now rest what → ⊥ }
     ensures memory { IsErrOf result LexFault.OutOfMemory → ⊥ }
 {
     match punctuator(text) {
@@ -151,5 +151,10 @@ fn punctuator_token(text: &[u16]) -> Result<(TokenKind, &[u16]), LexFault>
 
 /// No text has two lists of tokens.
 pub fn one_reading()
-    ensures { (text : List ℕ) (left right : List Tok) → Tokens text left → Tokens text right → left ≡ right }
+    ensures { (text : List ℕ) (left right : List PureToken) → Tokens text left → Tokens text right → left ≡ right }
+{}
+
+/// A token that is read is the longest that stands there: no longer front of the text is a token by itself.
+pub fn tokens_are_longest()
+    ensures { (text rest front behind : List ℕ) (what other : PureKind) → TokenAt text rest what → text ≡ front ++ behind → TokenAt front [] other → length front + length rest ≤ length text }
 {}

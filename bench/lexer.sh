@@ -1,0 +1,83 @@
+#!/bin/sh
+# Times the lexer on scripts of 10,000, 100,000 and 1,000,000 units: the best of five runs, the nanoseconds for each unit,
+# and their ratio to the smallest script's, which stays near 1 as the lexer is linear. Beside it stands, for orientation,
+# the time of `node --check` on the same script less that on an empty one, where there is a node.
+set -e
+top=$(cd "$(dirname "$0")/.." && pwd)
+work=$(mktemp -d)
+trap 'rm -rf "$work"' EXIT
+mkdir -p "$work/crates/lexer_bench/src"
+cp -r "$top/crates/js_core" "$top/crates/js_lexer" "$work/crates/"
+cp "$top/HANDLES" "$work/"
+printf 'js_core:\njs_lexer: js_core unicode_ident\nlexer_bench: js_core js_lexer\n' >"$work/crates.txt"
+cat >"$work/crates/lexer_bench/src/main.rt" <<'END'
+//! Prints for each file that is named how many units it has, and the nanoseconds in which its tokens are found.
+#![tactic(auto)]
+
+use js_core::units::Units;
+use js_lexer::tokens::tokens;
+use std::fs;
+use std::io;
+use std::time::Instant;
+
+fn time_file(rt: &HostRuntime, name: &str) -> io::Result<()> {
+    let text = fs::read_to_string(rt, name)?;
+    let Ok(units) = Units::from_utf8(rt.alloc(), text.as_str()) else {
+        return Ok(());
+    };
+    let start = Instant::now(rt)?;
+    let found = tokens(rt.alloc(), &units);
+    let spent = start.elapsed(rt)?;
+    match found {
+        Ok(_) => println!(rt; "{} {}", units.as_slice().len(), spent.as_nanos())?,
+        Err(_) => println!(rt; "refused")?,
+    }
+    Ok(())
+}
+
+fn main(rt: HostRuntime) -> io::Result<()> {
+    for word in std::env::args(&rt)?.skip(1) {
+        time_file(&rt, word.as_str())?;
+    }
+    Ok(())
+}
+END
+# A script of so many units, cut off in a comment.
+script() {
+    awk -v size="$1" 'BEGIN {
+        text = "\"use strict\";\n"
+        for (n = 0; length(text) < size - 1000; n++) {
+            text = text "function step_" n "(count, names) { // one step\n  var total = 0x1F + count * 3, i;\n"
+            text = text "  for (i = 0; i < names.length; i++) {\n    if (names[i] !== \"skip \\u0041\" && total >= 10) { total += names[i].size; }\n"
+            text = text "    else { total = total >>> 1 | 7; /* halve\n      it */ }\n  }\n  return { \"total\": total, name: 1 };\n}\n"
+        }
+        text = text "//"
+        printf "%s", text
+        for (left = size - length(text); left > 0; left--) printf "-"
+    }'
+}
+sizes='10000 100000 1000000'
+for size in $sizes; do script "$size" >"$work/$size.js"; done
+: >"$work/0.js"
+(cd "$work/crates/lexer_bench" && nice -n 10 rt run -- "$work/0.js") >"$work/build.log" 2>&1 || { cat "$work/build.log" >&2; exit 1; }
+# The least of five times of node, in nanoseconds.
+node_time() {
+    for _ in 1 2 3 4 5; do
+        begin=$(date +%s%N)
+        node --check "$1"
+        echo $(($(date +%s%N) - begin))
+    done | sort -n | head -n 1
+}
+empty=
+if command -v node >/dev/null; then empty=$(node_time "$work/0.js"); fi
+echo '| Units | ns | ns for each unit | ratio | node --check, ns for each unit |'
+echo '|---|---|---|---|---|'
+first=
+for size in $sizes; do
+    best=$(for _ in 1 2 3 4 5; do "$work/crates/lexer_bench/out/lexer_bench" "$work/$size.js"; done | sort -n -k 2 | head -n 1)
+    each=$(echo "$best" | awk '{ printf "%.2f", $2 / $1 }')
+    first=${first:-$each}
+    node=-
+    if [ -n "$empty" ]; then node=$(awk -v t="$(node_time "$work/$size.js")" -v e="$empty" -v s="$size" 'BEGIN { printf "%.2f", (t - e) / s }'); fi
+    awk -v b="$best" -v e="$each" -v f="$first" -v n="$node" 'BEGIN { split(b, p, " "); printf "| %d | %d | %s | %.2f | %s |\n", p[1], p[2], e, e / f, n }'
+done
