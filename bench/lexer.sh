@@ -1,7 +1,7 @@
 #!/bin/sh
 # Times the lexer on scripts of 10,000, 100,000 and 1,000,000 units: the best of five runs, the nanoseconds for each unit,
 # and their ratio to the smallest script's, which stays near 1 as the lexer is linear. Beside it stands, for orientation,
-# the time of `node --check` on the same script less that on an empty one, where there is a node.
+# the best time of `node --check` on the same script, its start included, where there is a node.
 set -e
 top=$(cd "$(dirname "$0")/.." && pwd)
 work=$(mktemp -d)
@@ -60,17 +60,15 @@ sizes='10000 100000 1000000'
 for size in $sizes; do script "$size" >"$work/$size.js"; done
 : >"$work/0.js"
 (cd "$work/crates/lexer_bench" && nice -n 10 rt run -- "$work/0.js") >"$work/build.log" 2>&1 || { cat "$work/build.log" >&2; exit 1; }
-# The least of five times of node, in nanoseconds.
+# The least of five times of node, in milliseconds.
 node_time() {
     for _ in 1 2 3 4 5; do
         begin=$(date +%s%N)
         node --check "$1"
-        echo $(($(date +%s%N) - begin))
+        echo $((($(date +%s%N) - begin) / 1000000))
     done | sort -n | head -n 1
 }
-empty=
-if command -v node >/dev/null; then empty=$(node_time "$work/0.js"); fi
-echo '| Units | ns | ns for each unit | ratio | node --check, ns for each unit |'
+echo '| Units | ns | ns for each unit | ratio | node --check, ms |'
 echo '|---|---|---|---|---|'
 first=
 for size in $sizes; do
@@ -78,6 +76,6 @@ for size in $sizes; do
     each=$(echo "$best" | awk '{ printf "%.2f", $2 / $1 }')
     first=${first:-$each}
     node=-
-    if [ -n "$empty" ]; then node=$(awk -v t="$(node_time "$work/$size.js")" -v e="$empty" -v s="$size" 'BEGIN { printf "%.2f", (t - e) / s }'); fi
+    if command -v node >/dev/null; then node=$(node_time "$work/$size.js"); fi
     awk -v b="$best" -v e="$each" -v f="$first" -v n="$node" 'BEGIN { split(b, p, " "); printf "| %d | %d | %s | %.2f | %s |\n", p[1], p[2], e, e / f, n }'
 done
