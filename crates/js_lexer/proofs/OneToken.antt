@@ -252,6 +252,9 @@ point_refused text units rest n d e t r point end what at =
     let some : begins_with (λ u. u == 46) end ≡ true = sym (ap (begins_with (λ u. u == 46)) same.1) ∙ point in
     absurd (cc)
 
+pub punct_refused : (text : List ℕ) → class_of text ≡ Other → ((rest : List ℕ) (punct : Punct) → StandsAt text rest punct → ⊥) → (end : List ℕ) (what : TokenKind) → TokenAt text end what → ⊥
+punct_refused text c none end what at = let o = punct_of text end what c at in none end o.punct o.at
+
 -- Lengths
 
 longer_by : (class : ℕ → Bool) (text units rest : List ℕ) → text ≡ units ++ rest → begins_with class units ≡ true → length rest < length text

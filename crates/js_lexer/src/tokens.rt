@@ -1,6 +1,6 @@
 //! The tokens of a text.
 
-ghost use Rattle.std.specs.Prelude.{◌≡◌, ◌==◌, ◌+◌, ◌++◌, ◌<◌, ◌≤◌, [], ℕ, List, true, false, length, IfOk, IsErrOf};
+ghost use Rattle.std.specs.Prelude.{◌≡◌, ◌==◌, ◌+◌, ◌++◌, ◌<◌, ◌≤◌, [], ℕ, List, true, false, length, IfOk, IfSome, IsErrOf, MatchOption};
 ghost use Rattle.std.specs.List.{prefix_len};
 ghost use Rattle.js_core.specs.declared.token.Token.{Token as PureToken};
 ghost use Rattle.js_core.specs.declared.token.TokenKind.{TokenKind as PureKind};
@@ -14,6 +14,7 @@ use crate::numbers::{literal_len, value_of};
 use crate::punctuators::punctuator;
 use crate::separators::behind_gap;
 use crate::strings::string;
+use js_core::memory::OutOfMemory;
 use js_core::token::{Token, TokenKind};
 use js_core::units::Units;
 use std::alloc::Global;
@@ -63,12 +64,12 @@ fn token(alloc: Global, text: &[u16]) -> Result<(TokenKind, &[u16]), LexFault>
         return string_token(alloc, text);
     }
     if is_decimal_digit(*unit) {
-        return number(text);
+        return number(text).ok_or(LexFault::NotTokens);
     }
     if is_identifier_start(*unit) {
-        return word(alloc, text);
+        return Ok(word(alloc, text)?);
     }
-    punctuator_token(text)
+    punctuator_token(text).ok_or(LexFault::NotTokens)
 }
 
 /// The string with which the text begins.
@@ -86,11 +87,10 @@ fn string_token(alloc: Global, text: &[u16]) -> Result<(TokenKind, &[u16]), LexF
 }
 
 /// The word with which the text begins.
-fn word(alloc: Global, text: &[u16]) -> Result<(TokenKind, &[u16]), LexFault>
+fn word(alloc: Global, text: &[u16]) -> Result<(TokenKind, &[u16]), OutOfMemory>
     requires { characters.begins_with characters.is_identifier_start text.now ≡ true }
     ensures read { IfOk result (λ split. TokenAt text.now split.1.now split.0) }
     ensures shorter { IfOk result (λ split. length split.1.now < length text.now) }
-    ensures accepted { IsErrOf result LexFault.NotTokens → ⊥ }
 {
     let (word, behind) = text.split_at(word_len(text));
     Ok((TokenKind::Word(Units::of(alloc, word)?), behind))
@@ -107,21 +107,17 @@ fn word_len(text: &[u16]) -> usize
 }
 
 /// The number with which the text begins.
-fn number(text: &[u16]) -> Result<(TokenKind, &[u16]), LexFault>
+fn number(text: &[u16]) -> Option<(TokenKind, &[u16])>
     requires { characters.begins_with characters.is_decimal_digit text.now ≡ true }
-    ensures read { IfOk result (λ split. TokenAt text.now split.1.now split.0) }
-    ensures shorter { IfOk result (λ split. length split.1.now < length text.now) }
-    ensures refused { IsErrOf result LexFault.NotTokens → (rest : List ℕ) (what : PureKind) → TokenAt text.now rest what → ⊥ }
-    ensures memory { IsErrOf result LexFault.OutOfMemory → ⊥ }
+    ensures read { MatchOption result ((rest : List ℕ) (what : PureKind) → TokenAt text.now rest what → ⊥) (λ split. TokenAt text.now split.1.now split.0) }
+    ensures shorter { IfSome result (λ split. length split.1.now < length text.now) }
 {
     let (literal, behind) = text.split_at(literal_len(text));
-    let Some(value) = value_of(literal) else {
-        return Err(LexFault::NotTokens);
-    };
+    let value = value_of(literal)?;
     if begins_with_point(behind) {
-        return Err(LexFault::NotTokens);
+        return None;
     }
-    Ok((TokenKind::Number(value), behind))
+    Some((TokenKind::Number(value), behind))
 }
 
 fn begins_with_point(text: &[u16]) -> bool
@@ -134,19 +130,15 @@ fn begins_with_point(text: &[u16]) -> bool
 }
 
 /// The punctuator with which the text begins.
-fn punctuator_token(text: &[u16]) -> Result<(TokenKind, &[u16]), LexFault>
+fn punctuator_token(text: &[u16]) -> Option<(TokenKind, &[u16])>
     requires quote { characters.begins_with characters.is_quote text.now ≡ false }
     requires digit { characters.begins_with characters.is_decimal_digit text.now ≡ false }
     requires start { characters.begins_with characters.is_identifier_start text.now ≡ false }
-    ensures read { IfOk result (λ split. TokenAt text.now split.1.now split.0) }
-    ensures shorter { IfOk result (λ split. length split.1.now < length text.now) }
-    ensures refused { IsErrOf result LexFault.NotTokens → (rest : List ℕ) (what : PureKind) → TokenAt text.now rest what → ⊥ }
-    ensures memory { IsErrOf result LexFault.OutOfMemory → ⊥ }
+    ensures read { MatchOption result ((rest : List ℕ) (what : PureKind) → TokenAt text.now rest what → ⊥) (λ split. TokenAt text.now split.1.now split.0) }
+    ensures shorter { IfSome result (λ split. length split.1.now < length text.now) }
 {
-    match punctuator(text) {
-        Some((punct, behind)) => Ok((TokenKind::Punct(punct), behind)),
-        None => Err(LexFault::NotTokens),
-    }
+    let (punct, behind) = punctuator(text)?;
+    Some((TokenKind::Punct(punct), behind))
 }
 
 /// No text has two lists of tokens.
