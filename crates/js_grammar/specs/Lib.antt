@@ -1,0 +1,15 @@
+pub mod Endings
+pub mod Examples
+pub mod ExpressionExamples
+pub mod ExpressionReader
+pub mod Expressions
+pub mod HeightExamples
+pub mod Operators
+pub mod Parser
+pub mod Phrases
+pub mod ScriptReader
+pub mod Scripts
+pub mod StatementExamples
+pub mod StatementReader
+pub mod Statements
+pub mod Symbols
