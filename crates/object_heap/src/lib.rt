@@ -1,0 +1,8 @@
+//! The heap of the language: objects with properties, arrays and environments (ECMA-262 5.1 sections 8.10, 8.12, 10.2 and
+//! 15.4.5.1).
+#![tactic(auto)]
+
+pub mod object;
+pub mod properties;
+pub mod property;
+pub mod values;

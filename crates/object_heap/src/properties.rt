@@ -1,0 +1,108 @@
+//! The properties of an object, in order of creation.
+
+ghost use Rattle.std.specs.Prelude.{◌≡◌, ◌++◌, ◌∷◌, [], None, IfOk, OnOk, OnErr, option_map, option_copied, slice_get, length};
+ghost use Rattle.std.specs.Map.{keys_of};
+ghost use Rattle.std.specs.Map.Iter.{deref_pair};
+ghost use Rattle.object_heap.specs.Property.{own_property, with_property, without_property, HasDistinctNames};
+
+use crate::property::Prop;
+use indexmap::IndexMap;
+use js_core::memory::OutOfMemory;
+use js_core::units::Units;
+use std::alloc::Global;
+use std::marker::Model;
+
+/// The named properties of an object, in order of creation. Contracts see the list of names with properties. No two
+/// have the same name.
+#[derive(Drop)]
+pub struct Properties {
+    table: IndexMap<Units, Prop>,
+}
+
+impl Model for Properties {
+    ghost use Rattle.object_heap.specs.Property.{Props};
+
+    ghost Value = { Props };
+
+    ghost view = { λ p. p.table.entries };
+}
+
+impl Properties {
+    /// No properties.
+    pub fn new(alloc: Global) -> Properties
+        ensures { result ≡ [] }
+    {
+        Properties {
+            table: IndexMap::new(alloc),
+        }
+    }
+
+    /// The property of the name, or `None` exactly where there is none (ECMA-262 5.1 section 8.12.1).
+    pub fn get(&self, name: &Units) -> Option<&Prop>
+        ensures { option_copied result ≡ own_property self.now name.now }
+    {
+        self.table.get(name)
+    }
+
+    /// The name and the property at the place, or `None` exactly past the end.
+    pub fn get_index(&self, index: usize) -> Option<(&Units, &Prop)>
+        ensures { option_map deref_pair result ≡ slice_get self.now index }
+    {
+        self.table.get_index(index)
+    }
+
+    /// The number of properties. No two have the same name.
+    pub fn len(&self) -> usize
+        ensures len { result ≡ length self.now }
+        ensures distinct { HasDistinctNames self.now }
+    {
+        self.table.len()
+    }
+
+    /// One more property, which is the last. After an error nothing has changed.
+    #[tactic(auto, using(crate::proofs::Entries::insert_absent))]
+    pub fn push(&mut self, name: &Units, prop: Prop) -> Result<(), OutOfMemory>
+        requires { own_property self.old name.now ≡ None }
+        ensures ok { OnOk result (self.new ≡ self.old ++ (name.now, prop) ∷ []) }
+        ensures err { OnErr result (self.new ≡ self.old) }
+    {
+        self.table.insert(name.clone()?, prop)?;
+        Ok(())
+    }
+
+    /// The property of the name becomes another, at its place. Nothing changes where there is none.
+    pub fn set(&mut self, name: &Units, prop: Prop)
+        ensures { self.new ≡ with_property self.old name.now prop }
+    {
+        set_entry(&mut self.table, name, prop);
+    }
+
+    /// The property of the name is gone. The others keep their order. Nothing changes where there is none.
+    pub fn remove(&mut self, name: &Units)
+        ensures { self.new ≡ without_property self.old name.now }
+    {
+        self.table.shift_remove(name);
+    }
+
+    /// The names, in order. No two are the same.
+    pub fn names(&self, alloc: Global) -> Result<Vec<Units>, OutOfMemory>
+        ensures names { IfOk result (λ names. names.items ≡ keys_of self.now) }
+        ensures distinct { HasDistinctNames self.now }
+    {
+        let mut names = Vec::new(alloc);
+        for name in self.table.keys() {
+            names.push(name.clone()?)?;
+        }
+        Ok(names)
+    }
+}
+
+#[tactic(auto, using(crate::proofs::Entries::set_value_absent))]
+fn set_entry(table: &mut IndexMap<Units, Prop>, name: &Units, prop: Prop)
+    ensures { table.new.entries ≡ with_property table.old.entries name.now prop }
+{
+    match table.get_mut(name) {
+        Some(held) => *held = prop,
+        None => {}
+    }
+}
