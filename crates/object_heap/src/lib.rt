@@ -2,6 +2,8 @@
 //! 15.4.5.1).
 #![tactic(auto)]
 
+pub mod define;
+pub mod fault;
 pub mod object;
 pub mod properties;
 pub mod property;
