@@ -4,6 +4,7 @@
 
 pub mod define;
 pub mod fault;
+pub mod index;
 pub mod object;
 pub mod properties;
 pub mod property;
