@@ -97,17 +97,17 @@ is_below end (Some i) = nat_lt i end
 abbrev pub elements_below : ℕ → Props → Props
 elements_below end props = filter (λ e. is_below end (index_of e.0)) props
 
--- the length that keeps this property
+-- the length that is left, with this property
 abbrev pub end_with : ℕ → Option ℕ → Bool → ℕ
 end_with end None configurable = end
 end_with end (Some i) true = end
 end_with end (Some i) false = max end (i + 1)
 
--- how far elements are deleted from the top when the length is to become `end`: to the last one that is not
+-- how far elements are deleted from the top when the length is to become `end`: down to the last one that is not
 -- configurable (15.4.5.1 step 3.l)
 abbrev pub end_kept : ℕ → Props → ℕ
 end_kept end [] = end
-end_kept end (e ∷ es) = end_with (end_kept end es) (index_of e.0) e.1.configurable
+end_kept end (e ∷ es) = end_kept (end_with end (index_of e.0) e.1.configurable) es
 
 -- the elements from `kept` up are gone and the length is that; it was to be `end`
 abbrev pub shrunk_to : Throw → Object → Prop → ℕ → ℕ → Attempt Object

@@ -1,8 +1,8 @@
 //! How a property of an object is defined (ECMA-262 5.1 sections 8.12.9 and 15.4.5.1).
 
-ghost use Rattle.std.specs.Prelude.{◌≡◌, Some, IfOk};
+ghost use Rattle.std.specs.Prelude.{◌≡◌, IfOk};
 ghost use Rattle.object_heap.specs.Attempt.{Follows};
-ghost use Rattle.object_heap.specs.Define.{define_ordinary, defined_over};
+ghost use Rattle.object_heap.specs.Define.{define_ordinary, with_value};
 ghost use Rattle.object_heap.specs.Property.{own_property, created, updated, may_update, keeps, keeps_value};
 ghost use Rattle.object_heap.specs.Refused.{throw_of};
 
@@ -15,7 +15,7 @@ use js_core::value::Value;
 
 impl Change {
     /// The new property that has what is asked for; all else is undefined or false.
-    fn created(&self) -> Result<Prop, OutOfMemory>
+    pub fn created(&self) -> Result<Prop, OutOfMemory>
         ensures { IfOk result (λ p. p ≡ created self.now) }
     {
         let value = match &self.value {
@@ -31,7 +31,7 @@ impl Change {
     }
 
     /// The property with what is asked for.
-    fn updated(&self, prop: &Prop) -> Result<Prop, OutOfMemory>
+    pub fn updated(&self, prop: &Prop) -> Result<Prop, OutOfMemory>
         ensures { IfOk result (λ p. p ≡ updated prop.now self.now) }
     {
         let value = match &self.value {
@@ -48,8 +48,20 @@ impl Change {
 }
 
 impl Prop {
+    /// The property with another value.
+    pub fn with_value(self, value: Value) -> Prop
+        ensures { result ≡ with_value self value }
+    {
+        Prop {
+            value,
+            writable: self.writable,
+            enumerable: self.enumerable,
+            configurable: self.configurable,
+        }
+    }
+
     /// Whether the property may be changed so.
-    fn may_update(&self, change: &Change) -> bool
+    pub fn may_update(&self, change: &Change) -> bool
         ensures { result ≡ may_update self.now change.now }
     {
         self.configurable
@@ -81,7 +93,7 @@ fn keeps_value_of(change: &Option<Value>, old: &Value) -> bool
 
 impl Object {
     /// Defines a property by section 8.12.9.
-    fn define_ordinary(
+    pub fn define_ordinary(
         &mut self,
         name: &Units,
         change: &Change,

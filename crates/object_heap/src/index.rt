@@ -1,6 +1,6 @@
 //! Array indices (ECMA-262 5.1 section 15.4).
 
-ghost use Rattle.std.specs.Prelude.{◌≡◌, Some, None, min, if◌then◌else◌};
+ghost use Rattle.std.specs.Prelude.{◌≡◌, ◌<◌, Some, IfSome, None, min, if◌then◌else◌};
 ghost use Rattle.std.specs.List.{list_all};
 ghost use Rattle.object_heap.specs.Index.{index_of, index_end, begins_well, is_digit, number_of};
 
@@ -15,7 +15,8 @@ const NINE: u16 = 57;
 /// The array index that the name is, from 0 to 4,294,967,294, or `None` exactly where it is none: where it is not what a
 /// number of that range is written as in decimal.
 pub fn array_index(name: &Units) -> Option<u64>
-    ensures { result ≡ index_of name.now }
+    ensures index { result ≡ index_of name.now }
+    ensures small { IfSome result (λ i. i < index_end) }
 {
     let units = name.as_slice();
     if !begins_well(units) {

@@ -2,6 +2,7 @@
 //! 15.4.5.1).
 #![tactic(auto)]
 
+pub mod array;
 pub mod define;
 pub mod fault;
 pub mod index;

@@ -1,10 +1,14 @@
 //! The properties of an object, in order of creation.
 
-ghost use Rattle.std.specs.Prelude.{◌≡◌, ◌++◌, ◌∷◌, [], None, IfOk, OnOk, OnErr, option_map, option_copied, slice_get, length};
+ghost use Rattle.std.specs.Prelude.{◌≡◌, ◌++◌, ◌∷◌, [], None, IfOk, OnOk, OnErr, option_map, option_copied, slice_get, length, ◌≤◌, ◌<◌, IfSome};
+ghost use Rattle.std.specs.Option.{ForSome};
+ghost use Rattle.object_heap.specs.Define.{end_kept, end_with, elements_below, is_below};
+ghost use Rattle.object_heap.specs.Index.{index_end, index_of};
 ghost use Rattle.std.specs.Map.{keys_of};
 ghost use Rattle.std.specs.Map.Iter.{deref_pair};
 ghost use Rattle.object_heap.specs.Property.{own_property, with_property, without_property, HasDistinctNames};
 
+use crate::index::array_index;
 use crate::property::Prop;
 use indexmap::IndexMap;
 use js_core::memory::OutOfMemory;
@@ -42,6 +46,20 @@ impl Properties {
         ensures { option_copied result ≡ own_property self.now name.now }
     {
         self.table.get(name)
+    }
+
+    /// The property whose name is this ASCII text, with the name, or `None` exactly where there is none. It is found at
+    /// once where it is the first.
+    pub fn find(&self, text: &[u8]) -> Option<(&Units, &Prop)>
+        ensures prop { option_map (λ p. p.1.now) result ≡ own_property self.now text.now }
+        ensures name { IfSome result (λ p. p.0.now ≡ text.now) }
+    {
+        for (name, prop) in self.table.iter() {
+            if name.spells(text) {
+                return Some((name, prop));
+            }
+        }
+        None
     }
 
     /// The name and the property at the place, or `None` exactly past the end.
@@ -84,6 +102,31 @@ impl Properties {
         self.table.shift_remove(name);
     }
 
+    /// How far elements are deleted from the top when an array's length is to become `end`: down to the last one that
+    /// is not configurable (ECMA-262 5.1 section 15.4.5.1 step 3.l).
+    pub fn end_kept(&self, end: u64) -> u64
+        requires { end ≤ index_end }
+        ensures end { result ≡ end_kept end self.now }
+        ensures small { end_kept end self.now ≤ index_end }
+    {
+        let mut kept = end;
+        for (name, prop) in self.table.iter() {
+            kept = end_with(kept, array_index(name), prop.configurable);
+        }
+        kept
+    }
+
+    /// Without the elements of an array from `end` up.
+    pub fn keep_elements_below(&mut self, end: u64)
+        ensures { self.new ≡ elements_below end self.old }
+    {
+        self.table.retain(
+            |name, prop|
+                ensures { (result ≡ is_below end (index_of name.now)) × (prop.new ≡ prop.old) }
+            { is_below(end, array_index(name)) },
+        );
+    }
+
     /// The names, in order. No two are the same.
     pub fn names(&self, alloc: Global) -> Result<Vec<Units>, OutOfMemory>
         ensures names { IfOk result (λ names. names.items ≡ keys_of self.now) }
@@ -104,5 +147,26 @@ fn set_entry(table: &mut IndexMap<Units, Prop>, name: &Units, prop: Prop)
     match table.get_mut(name) {
         Some(held) => *held = prop,
         None => {}
+    }
+}
+
+fn end_with(end: u64, index: Option<u64>, configurable: bool) -> u64
+    requires end { end ≤ index_end }
+    requires index { ForSome index (λ i. i < index_end) }
+    ensures end { result ≡ end_with end index configurable }
+    ensures small { result ≤ index_end }
+{
+    match index {
+        Some(index) if !configurable => end.max(index + 1),
+        _ => end,
+    }
+}
+
+fn is_below(end: u64, index: Option<u64>) -> bool
+    ensures { result ≡ is_below end index }
+{
+    match index {
+        Some(index) => index < end,
+        None => true,
     }
 }
