@@ -1,5 +1,7 @@
 pub mod Attempt
+pub mod Chain
 pub mod Define
+pub mod Environment
 pub mod Index
 pub mod Object
 pub mod Property

@@ -3,9 +3,12 @@
 #![tactic(auto)]
 
 pub mod array;
+pub mod chain;
 pub mod define;
+pub mod environment;
 pub mod fault;
 pub mod index;
+pub mod methods;
 pub mod object;
 pub mod properties;
 pub mod property;

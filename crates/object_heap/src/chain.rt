@@ -1,0 +1,49 @@
+//! Chains of prototypes.
+
+ghost use Rattle.std.specs.Prelude.{◌≡◌, ◌<◌, length};
+ghost use Rattle.std.specs.Option.{option_copied};
+ghost use Rattle.object_heap.specs.Chain.{AreOlder, can_put, get_property};
+
+use crate::object::Object;
+use crate::property::Prop;
+use js_core::ids::ObjId;
+use js_core::units::Units;
+
+/// The property of the name that the object has, or else its prototype, and so on (ECMA-262 5.1 section 8.12.2).
+#[tactic(auto, using(crate::proofs::Chains::step))]
+pub fn get_property<'a>(objects: &'a [Object], at: ObjId, name: &Units) -> Option<&'a Prop>
+    requires ages { AreOlder objects.now }
+    requires there { at.0 < length objects.now }
+    ensures { option_copied result ≡ get_property objects.now at.0 name.now }
+{
+    let mut at = at;
+    loop {
+        let object = &objects[at.0 as usize];
+        if let Some(prop) = object.props.get(name) {
+            return Some(prop);
+        }
+        let Some(proto) = object.proto else {
+            return None;
+        };
+        at = proto;
+    }
+}
+
+/// Whether the object may have a value put to its property of the name (ECMA-262 5.1 section 8.12.4).
+pub fn can_put(objects: &[Object], at: ObjId, name: &Units) -> bool
+    requires ages { AreOlder objects.now }
+    requires there { at.0 < length objects.now }
+    ensures { result ≡ can_put objects.now at.0 name.now }
+{
+    let object = &objects[at.0 as usize];
+    if let Some(prop) = object.props.get(name) {
+        return prop.writable;
+    }
+    let Some(proto) = object.proto else {
+        return object.extensible;
+    };
+    match get_property(objects, proto, name) {
+        Some(inherited) => object.extensible && inherited.writable,
+        None => object.extensible,
+    }
+}

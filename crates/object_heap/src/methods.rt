@@ -1,0 +1,95 @@
+//! The internal methods of one object (ECMA-262 5.1 section 8.12) but those that go up to its prototype.
+
+ghost use Rattle.std.specs.Prelude.{◌≡◌};
+ghost use Rattle.object_heap.specs.Attempt.{Follows};
+ghost use Rattle.object_heap.specs.Define.{define_own, delete_own, is_closed_at, prevented, put_change, put_own};
+ghost use Rattle.object_heap.specs.Property.{own_property};
+
+use crate::fault::{HeapFault, Refused};
+use crate::object::Object;
+use crate::property::Change;
+use js_core::global_names::is_global_name;
+use js_core::units::Units;
+use js_core::value::Value;
+
+impl Object {
+    /// Whether the property of the name may not be put, defined or deleted: the object is closed, or it is the global
+    /// object and the property is one of its built-in ones.
+    pub fn is_closed_at(&self, name: &Units) -> bool
+        ensures { result ≡ is_closed_at self.now name.now }
+    {
+        if self.closed {
+            return true;
+        }
+        self.class.is_window() && is_global_name(name) && self.props.get(name).is_some()
+    }
+
+    /// Defines a property (section 8.12.9, for arrays 15.4.5.1).
+    pub fn define_own(&mut self, name: &Units, change: &Change) -> Result<(), HeapFault>
+        ensures { Follows (define_own self.old name.now change.now) self.old self.new result }
+    {
+        if self.is_closed_at(name) {
+            return Err(HeapFault::Throw(Refused::Define.throw()));
+        }
+        self.define(name, change, Refused::Define)
+    }
+
+    /// Puts a value (section 8.12.5), where section 8.12.4 says whether it may be put.
+    pub fn put_own(&mut self, may_put: bool, name: &Units, value: Value) -> Result<(), HeapFault>
+        ensures { Follows (put_own may_put self.old name.now value) self.old self.new result }
+    {
+        if self.is_closed_at(name) || !may_put {
+            return Err(HeapFault::Throw(Refused::Put.throw()));
+        }
+        let change = self.put_change(name, value);
+        self.define(name, &change, Refused::Put)
+    }
+
+    // What becomes of the property to which the value is put.
+    fn put_change(&self, name: &Units, value: Value) -> Change
+        ensures { result ≡ put_change value (own_property self.now.props name.now) }
+    {
+        match self.props.get(name) {
+            Some(_) => Change {
+                value: Some(value),
+                writable: None,
+                enumerable: None,
+                configurable: None,
+            },
+            None => Change {
+                value: Some(value),
+                writable: Some(true),
+                enumerable: Some(true),
+                configurable: Some(true),
+            },
+        }
+    }
+
+    /// Deletes a property (section 8.12.7). The others keep their order.
+    pub fn delete_own(&mut self, name: &Units) -> Result<(), HeapFault>
+        ensures { Follows (delete_own self.old name.now) self.old self.new result }
+    {
+        if self.is_closed_at(name) {
+            return Err(HeapFault::Throw(Refused::Delete.throw()));
+        }
+        match self.props.get(name) {
+            Some(prop) if !prop.configurable => Err(HeapFault::Throw(Refused::Delete.throw())),
+            Some(_) => {
+                self.props.remove(name);
+                Ok(())
+            }
+            None => Ok(()),
+        }
+    }
+
+    /// From now on the object gets no new properties (section 15.2.3.10). The global object and closed ones refuse.
+    pub fn prevent_extensions(&mut self) -> Result<(), HeapFault>
+        ensures { Follows (prevented self.old) self.old self.new result }
+    {
+        if self.closed || self.class.is_window() {
+            return Err(HeapFault::Throw(Refused::Define.throw()));
+        }
+        self.extensible = false;
+        Ok(())
+    }
+}
