@@ -1,3 +1,6 @@
+pub mod Ages
 pub mod Bindings
 pub mod Chains
 pub mod Entries
+pub mod Kept
+pub mod Scopes

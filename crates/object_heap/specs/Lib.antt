@@ -2,6 +2,7 @@ pub mod Attempt
 pub mod Chain
 pub mod Define
 pub mod Environment
+pub mod Heap
 pub mod Index
 pub mod Object
 pub mod Property

@@ -161,8 +161,8 @@ impl Object {
     }
 }
 
-// The number as a value.
-fn number(n: u64) -> Value
+/// The number as a value.
+pub fn number(n: u64) -> Value
     requires { n ≤ index_end }
     ensures { result ≡ number n }
 {

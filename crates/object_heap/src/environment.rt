@@ -1,6 +1,7 @@
 //! Environments: the names that a function, a catch clause or a named function expression binds (ECMA-262 5.1 section 10.2).
 
-ghost use Rattle.std.specs.Prelude.{◌≡◌, IfOk};
+ghost use Rattle.std.specs.Prelude.{◌≡◌, ◌<◌, IfOk, length, option_map};
+ghost use Rattle.object_heap.specs.Heap.{AreInside, lookup};
 ghost use Rattle.std.specs.Option.{option_copied};
 ghost use Rattle.object_heap.specs.Environment.{value_of, with_value_of};
 
@@ -68,5 +69,30 @@ impl Bindings {
                 return;
             }
         }
+    }
+}
+
+/// The innermost environment from this one outwards that has the name, with the value, or `None` exactly where none has
+/// it (ECMA-262 5.1 section 10.2.2.1).
+#[tactic(auto, using(crate::proofs::Scopes::step))]
+pub fn lookup<'a>(
+    environments: &'a [Environment],
+    from: EnvId,
+    name: &Units,
+) -> Option<(EnvId, &'a Value)>
+    requires ages { AreInside environments.now }
+    requires there { from.0 < length environments.now }
+    ensures { option_map (λ found. (found.0, found.1.now)) result ≡ lookup environments.now from.0 name.now }
+{
+    let mut at = from;
+    loop {
+        let environment = &environments[at.0 as usize];
+        if let Some(value) = environment.names.get(name) {
+            return Some((at, value));
+        }
+        let Some(outer) = environment.outer else {
+            return None;
+        };
+        at = outer;
     }
 }

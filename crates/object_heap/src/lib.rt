@@ -7,6 +7,7 @@ pub mod chain;
 pub mod define;
 pub mod environment;
 pub mod fault;
+pub mod heap;
 pub mod index;
 pub mod methods;
 pub mod object;
