@@ -1,4 +1,6 @@
 pub mod Ages
+pub mod ArrayCalls
+pub mod Arrays
 pub mod Bindings
 pub mod Chains
 pub mod Entries

@@ -1,3 +1,4 @@
+pub mod Array
 pub mod Attempt
 pub mod Chain
 pub mod Define
