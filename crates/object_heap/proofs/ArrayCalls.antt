@@ -1,6 +1,6 @@
 -- Each call on an array leaves an array.
-use Rattle.std.proofs.Common.{◌≡◌, refl, sym, ap, subst, ◌∙◌, ℕ, ◌+◌, ◌<◌, ◌≤◌, Bool, true, false, ◌&&◌, ◌||◌, not, List, Option, Some, None, unwrap_or, pos, nat_lt, nat_le, bytes_eq, if◌then◌else◌, arith}
-use Rattle.std.proofs.lemmas.Bool.{le-leb, leb-true, lt-ltb, ltb-false, ltb-true}
+use Rattle.std.proofs.Common.{◌≡◌, refl, sym, ap, subst, ◌∙◌, ℕ, ◌+◌, ◌≤◌, Bool, true, false, ◌&&◌, ◌||◌, not, List, Option, Some, None, unwrap_or, pos, nat_lt, nat_le, bytes_eq, arith}
+use Rattle.std.proofs.lemmas.Bool.{leb-true, lt-ltb, ltb-false, ltb-true}
 use Rattle.std.proofs.lemmas.Slice.Eq.{bytes_eq-Decides}
 use Rattle.js_core.specs.declared.throw.Throw.{Throw}
 use Rattle.js_core.specs.declared.throw.Throw.TheVariants.{CannotDefine, CannotSet}
@@ -11,10 +11,10 @@ use Rattle.object_heap.specs.declared.property.Change.{Change}
 use Rattle.object_heap.specs.declared.property.Prop.{Prop}
 use Rattle.object_heap.specs.Array.{IsArray, IsLength, IsProper}
 use Rattle.object_heap.specs.Attempt.{Attempt}
-use Rattle.object_heap.specs.Define.{array_length, define, define_element, define_indexed, define_length, define_length_as, define_ordinary, define_own, defined_over, delete_own, deleted_over, end_kept, elements_below, grown, grown_over, has_writable_length, is_below, is_closed_at, length_in, length_name, number, number_in, prevented, put_change, put_own, shrunk, shrunk_to, valid_length, with_length, with_length_over, with_value}
+use Rattle.object_heap.specs.Define.{array_length, define, define_element, define_indexed, define_length, define_length_as, define_ordinary, define_own, defined_over, delete_own, deleted_over, end_kept, elements_below, grown, grown_over, has_writable_length, is_below, is_closed_at, length_in, length_name, number, number_in, prevented, put_change, put_own, shrunk, shrunk_to, valid_length, with_length_over, with_value}
 use Rattle.object_heap.specs.Index.{index_end, index_of}
 use Rattle.object_heap.specs.Object.{is_list, is_window, with_props}
-use Rattle.object_heap.specs.Property.{Props, may_update, own_property, updated}
+use Rattle.object_heap.specs.Property.{Props, may_update, own_property, updated, without_property}
 use Rattle.object_heap.proofs.Arrays.{array_if, above_more, end_kept_small, index_is_not_length, index_is_small, updated_length, with_new_length, with_number, within_elements, within_ordinary, within_removed, Within}
 use Rattle.object_heap.proofs.Kept.{define_keeps, define_own_keeps, delete_own_keeps, prevented_keeps, put_own_keeps}
 use Rattle.object_heap.proofs.Lists.{right_of}
@@ -150,3 +150,39 @@ define_proper t o name change h after =
     (λ yes. array_if (bytes_eq name length_name) _ _ (λ same. define_length_array t o change change.value (h list) refl)
       (λ other. indexed_array t o name change (index_of name) (h list) refl (flipped name other)))
     (λ no. cc (list, no))
+
+pub define_own_proper : (o : Object) (name : List ℕ) (change : Change) → IsProper o → IsProper (define_own o name change).after
+define_own_proper o name change h after =
+    let list : is_list o.class ≡ true = ap is_list (sym (define_own_keeps o name change).class) ∙ after in
+    array_if (is_closed_at o name) _ _ (λ yes. h list)
+    (λ no. define_proper CannotDefine o name change h (ap is_list (define_keeps CannotDefine o name change).class ∙ list))
+
+pub put_own_proper : (can : Bool) (o : Object) (name : List ℕ) (v : Value) → IsProper o → IsProper (put_own can o name v).after
+put_own_proper can o name v h after =
+    let change = put_change v (own_property o.props name) in
+    let list : is_list o.class ≡ true = ap is_list (sym (put_own_keeps can o name v).class) ∙ after in
+    array_if (not (is_closed_at o name) && can) _ _ (λ yes. define_proper CannotSet o name change h (ap is_list (define_keeps CannotSet o name change).class ∙ list))
+    (λ no. h list)
+
+deleted_array : (o : Object) (name : List ℕ) (own : Option Prop) → IsArray o.props → own_property o.props name ≡ own → IsArray (deleted_over o name own).after.props
+deleted_array o name None a e = a
+deleted_array o name (Some p) a e = array_if p.configurable _ _ (λ may. removed may) (λ no. a)
+  where
+    other : p.configurable ≡ true → (b : Bool) → bytes_eq length_name name ≡ b → bytes_eq length_name name ≡ false
+    other may false q = q
+    other may true q =
+        let same : Some p ≡ Some a.length = sym e ∙ ap (own_property o.props) (sym ((bytes_eq-Decides length_name name).0 q)) ∙ a.there in
+        let one : p ≡ a.length = cc same in
+        cc (sym may ∙ ap (λ (x : Prop). x.configurable) one ∙ a.is_length.configurable)
+    removed : p.configurable ≡ true → IsArray (with_props o (without_property o.props name)).props
+    removed may = array_of a.length _ a.is_length (within_removed (number_in a.length.value) a.length o.props name (within o.props a) (other may (bytes_eq length_name name) refl))
+
+pub delete_own_proper : (o : Object) (name : List ℕ) → IsProper o → IsProper (delete_own o name).after
+delete_own_proper o name h after =
+    let list : is_list o.class ≡ true = ap is_list (sym (delete_own_keeps o name).class) ∙ after in
+    array_if (is_closed_at o name) _ _ (λ yes. h list) (λ no. deleted_array o name (own_property o.props name) (h list) refl)
+
+pub prevented_proper : (o : Object) → IsProper o → IsProper (prevented o).after
+prevented_proper o h after =
+    let list : is_list o.class ≡ true = ap is_list (sym (prevented_keeps o).class) ∙ after in
+    array_if (o.closed || is_window o.class) _ _ (λ yes. h list) (λ no. h list)

@@ -1,16 +1,15 @@
 -- Arrays stay arrays.
-use Rattle.std.proofs.Common.{◌≡◌, refl, sym, ap, subst, ◌∙◌, ℕ, ◌+◌, ◌<◌, ◌≤◌, Bool, true, false, ◌&&◌, ◌||◌, not, List, [], ◌∷◌, ◌++◌, Option, Some, None, unwrap_or, max, nat_lt, nat_le, nat_eq, bytes_eq, if◌then◌else◌, arith}
-use Rattle.std.proofs.lemmas.Bool.{le-leb, leb-true, lt-ltb, ltb-false, ltb-true}
+use Rattle.std.proofs.Common.{◌≡◌, refl, sym, ap, ◌∙◌, ℕ, ◌<◌, ◌≤◌, Bool, true, false, ◌&&◌, not, List, [], ◌∷◌, ◌++◌, Option, Some, None, unwrap_or, nat_lt, bytes_eq, if◌then◌else◌, arith}
+use Rattle.std.proofs.lemmas.Bool.{lt-ltb, ltb-true}
 use Rattle.std.proofs.lemmas.Slice.Eq.{bytes_eq-Decides}
 use Rattle.std.specs.List.{list_all}
 use Rattle.js_core.specs.declared.throw.Throw.{Throw}
-use Rattle.js_core.specs.declared.value.Value.{Value}
 use Rattle.object_heap.specs.declared.object.Object.{Object}
 use Rattle.object_heap.specs.declared.property.Change.{Change}
 use Rattle.object_heap.specs.declared.property.Prop.{Prop}
 use Rattle.object_heap.specs.Array.{IsArray, IsLength}
 use Rattle.object_heap.specs.Attempt.{Attempt}
-use Rattle.object_heap.specs.Define.{array_length, define_ordinary, defined_over, elements_below, end_kept, end_with, is_below, length_name, number, number_in, with_value}
+use Rattle.object_heap.specs.Define.{define_ordinary, defined_over, elements_below, end_kept, end_with, is_below, length_name, number, number_in, with_value}
 use Rattle.object_heap.specs.Index.{index_end, index_of, is_decimal, number_of}
 use Rattle.object_heap.specs.Property.{Props, asks, keeps, may_update, own_property, updated, with_property, without_property}
 use Rattle.object_heap.proofs.Lists.{all_filter, all_last, all_remove, all_set, all_weaker, apart, left_of, lookup_before, lookup_filter, lookup_remove_other, lookup_set, lookup_set_other, right_of}

@@ -1,5 +1,5 @@
 -- Chains of prototypes end.
-use Rattle.std.proofs.Common.{◌≡◌, refl, sym, ap, ◌∙◌, length, slice_index_or, ℕ, zero, suc, ◌<◌, ◌≤◌, List, Option, Some, None, arith}
+use Rattle.std.proofs.Common.{◌≡◌, refl, sym, ap, ◌∙◌, length, slice_index_or, ℕ, zero, suc, ◌<◌, List, Option, Some, None, arith}
 use Rattle.std.proofs.lemmas.List.{get_or_default}
 use Rattle.std.specs.Option.{ForSome}
 use Rattle.js_core.specs.declared.ids.ObjId.{ObjId}

@@ -1,30 +1,22 @@
 -- What no call changes: an object's class and prototype.
-use Rattle.std.proofs.Common.{◌≡◌, refl, sym, ap, ◌∙◌, ℕ, ◌+◌, ◌<◌, Bool, true, false, List, Option, Some, None, Result, Ok, Err, length, slice_index_or, slice_set, if◌then◌else◌, not, ◌&&◌, ◌||◌, nat_lt, nat_le, bytes_eq}
-use Rattle.std.proofs.lemmas.List.{get_or_default}
-use Rattle.std.specs.Option.{ForSome}
+use Rattle.std.proofs.Common.{◌≡◌, refl, ℕ, ◌+◌, Bool, true, false, List, Option, Some, None, if◌then◌else◌, not, ◌&&◌, ◌||◌, nat_lt, nat_le, bytes_eq}
 use Rattle.js_core.specs.declared.throw.Throw.{Throw}
-use Rattle.js_core.specs.declared.throw.Throw.TheVariants.{CannotDefine, CannotDelete, CannotSet, InvalidLength}
+use Rattle.js_core.specs.declared.throw.Throw.TheVariants.{CannotDefine, CannotSet}
 use Rattle.js_core.specs.declared.value.Value.{Value}
-use Rattle.object_heap.specs.declared.environment.Environment.{Environment}
-use Rattle.object_heap.specs.declared.fault.HeapFault.{HeapFault}
-use Rattle.object_heap.specs.declared.fault.HeapFault.TheVariants as fault
 use Rattle.object_heap.specs.declared.object.Object.{Object}
 use Rattle.object_heap.specs.declared.property.Change.{Change}
 use Rattle.object_heap.specs.declared.property.Prop.{Prop}
-use Rattle.object_heap.specs.Attempt.{Attempt, Follows}
-use Rattle.object_heap.specs.Chain.{no_object, object_at}
-use Rattle.object_heap.specs.Define.{define, define_element, define_indexed, define_length, define_length_as, define_ordinary, define_own, defined_over, delete_own, deleted_over, grown, grown_over, is_closed_at, length_name, prevented, put_change, put_own, shrunk, valid_length, array_length, has_writable_length}
-use Rattle.object_heap.specs.Heap.{Contents, IsInOrder, no_environment, with_new_environment, with_new_object, with_object}
+use Rattle.object_heap.specs.Attempt.{Attempt}
+use Rattle.object_heap.specs.Define.{define, define_indexed, define_length, define_length_as, define_ordinary, define_own, defined_over, delete_own, deleted_over, grown_over, is_closed_at, length_name, prevented, put_change, put_own, shrunk, valid_length, array_length, has_writable_length}
 use Rattle.object_heap.specs.Index.{index_of}
 use Rattle.object_heap.specs.Object.{is_list, is_window}
 use Rattle.object_heap.specs.Property.{own_property, may_update}
-use Rattle.object_heap.proofs.Ages.{leads_push, leads_set}
 
 pub record Keeps (o p : Object) : Type 0 where
   pub class : p.class ≡ o.class
   pub proto : p.proto ≡ o.proto
 
-keeps : (o p : Object) → p.class ≡ o.class → p.proto ≡ o.proto → Keeps o p
+pub keeps : (o p : Object) → p.class ≡ o.class → p.proto ≡ o.proto → Keeps o p
 keeps o p c q = record { class = c; proto = q }
 
 one_of : (o : Object) (b : Bool) (x y : Attempt Object) → Keeps o x.after → Keeps o y.after → Keeps o (if b then x else y).after
@@ -83,34 +75,3 @@ delete_own_keeps o name = one_of o (is_closed_at o name) _ _ (keeps o _ refl ref
 
 pub prevented_keeps : (o : Object) → Keeps o (prevented o).after
 prevented_keeps o = one_of o (o.closed || is_window o.class) _ _ (keeps o _ refl refl) (keeps o _ refl refl)
-
--- what a call left of an object
-followed : (attempt : Attempt Object) (o p : Object) (result : Result (Unit {0}) HeapFault) → Follows attempt o p result → Keeps o attempt.after → Keeps o p
-followed attempt o p (Ok u) h k = keeps o p (ap (λ (x : Object). x.class) h.0 ∙ k.class) (ap (λ (x : Object). x.proto) h.0 ∙ k.proto)
-followed attempt o p (Err (fault.Throw t)) h k = keeps o p (ap (λ (x : Object). x.class) h.0 ∙ k.class) (ap (λ (x : Object). x.proto) h.0 ∙ k.proto)
-followed attempt o p (Err fault.OutOfMemory) h k = keeps o p (ap (λ (x : Object). x.class) h) (ap (λ (x : Object). x.proto) h)
-
--- ages stay in order where an object is changed by a call
-pub changed : (h : Contents) (k : ℕ) (o p : Object) (attempt : Attempt Object) (result : Result (Unit {0}) HeapFault)
-    → k < length h.objects → IsInOrder h → o ≡ slice_index_or h.objects k o → Follows attempt o p result → Keeps o attempt.after → IsInOrder (with_object h k p)
-changed h k o p attempt result there sound is follows kept =
-    let same = get_or_default h.objects k o no_object there in
-    let after = followed attempt o p result follows kept in
-    record {
-      prototypes = leads_set no_object (λ (x : Object). x.proto) (λ q. q.0) h.objects k p there sound.prototypes (after.proto ∙ ap (λ (x : Object). x.proto) (is ∙ same));
-      environments = sound.environments;
-    }
-
--- and where an object is made
-pub made : (h : Contents) (o : Object) → IsInOrder h → ForSome o.proto (λ q. q.0 < length h.objects) → IsInOrder (with_new_object h o)
-made h o sound older = record {
-  prototypes = leads_push no_object (λ (x : Object). x.proto) (λ q. q.0) refl h.objects o sound.prototypes older;
-  environments = sound.environments;
-}
-
--- and where an environment is made
-pub opened : (h : Contents) (e : Environment) → IsInOrder h → ForSome e.outer (λ q. q.0 < length h.environments) → IsInOrder (with_new_environment h e)
-opened h e sound older = record {
-  prototypes = sound.prototypes;
-  environments = leads_push no_environment (λ (x : Environment). x.outer) (λ q. q.0) refl h.environments e sound.environments older;
-}

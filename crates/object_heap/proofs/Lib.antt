@@ -7,3 +7,4 @@ pub mod Entries
 pub mod Kept
 pub mod Lists
 pub mod Scopes
+pub mod Sound

@@ -1,5 +1,5 @@
 -- Chains of environments end.
-use Rattle.std.proofs.Common.{◌≡◌, refl, ℕ, zero, suc, ◌<◌, ◌≤◌, List, Option, Some, None, arith}
+use Rattle.std.proofs.Common.{◌≡◌, refl, ℕ, zero, suc, ◌<◌, List, Option, Some, None, arith}
 use Rattle.std.specs.Option.{ForSome}
 use Rattle.js_core.specs.declared.ids.EnvId.{EnvId}
 use Rattle.js_core.specs.declared.value.Value.{Value}

@@ -1,5 +1,5 @@
 -- The heap: all objects and all environments, each a list by age, and what each call does to it.
-use Rattle.std.specs.Prelude.{ℕ, zero, suc, ◌<◌, Bool, true, false, List, [], ◌∷◌, ◌++◌, Option, Some, None, length, slice_index_or, slice_set, if◌then◌else◌}
+use Rattle.std.specs.Prelude.{ℕ, zero, suc, ◌<◌, Bool, true, false, List, [], ◌∷◌, ◌++◌, Option, Some, None, slice_index_or, slice_set, if◌then◌else◌}
 use Rattle.std.specs.Option.{ForSome}
 use Rattle.js_core.specs.declared.ids.EnvId.{EnvId}
 use Rattle.js_core.specs.declared.ids.ObjId.{ObjId}
@@ -10,12 +10,13 @@ use Rattle.object_heap.specs.declared.object.Class.TheVariants.{Event}
 use Rattle.object_heap.specs.declared.object.EventParts.{EventParts}
 use Rattle.object_heap.specs.declared.object.Object.{Object}
 use Rattle.object_heap.specs.declared.property.Change.{Change}
+use Rattle.object_heap.specs.Array.{AreProper}
 use Rattle.object_heap.specs.Attempt.{Attempt}
 use Rattle.object_heap.specs.Chain as chain
 use Rattle.object_heap.specs.Chain.{AreOlder, object_at}
 use Rattle.object_heap.specs.Define as object
 use Rattle.object_heap.specs.Define.{length_name, number}
-use Rattle.object_heap.specs.Environment.{Bound, value_of, with_value_of}
+use Rattle.object_heap.specs.Environment.{value_of, with_value_of}
 use Rattle.object_heap.specs.Object.{is_list}
 use Rattle.object_heap.specs.Property.{Props}
 
@@ -122,7 +123,8 @@ set h k name v =
 abbrev pub AreInside : List Environment → Type 0
 AreInside environments = (k : ℕ) → ForSome (environment_at environments k).outer (λ e. e.0 < k)
 
--- ages are in order
-pub record IsInOrder (h : Contents) : Type 0 where
+-- ages are in order, and arrays are arrays
+pub record IsSound (h : Contents) : Type 0 where
   pub prototypes : AreOlder h.objects
   pub environments : AreInside h.environments
+  pub arrays : AreProper h.objects

@@ -27,7 +27,7 @@ use std::alloc::Global;
 use std::marker::Model;
 
 /// All objects and all environments, each by age: an id is a place. A prototype is older than what has it, and an outer
-/// environment older than the inner one.
+/// environment older than the inner one. The length of an array is above the index of each element.
 #[derive(Drop)]
 pub struct Heap {
     objects: Vec<Object>,
@@ -35,13 +35,13 @@ pub struct Heap {
 }
 
 impl Model for Heap {
-    ghost use Rattle.object_heap.specs.Heap.{Contents, IsInOrder};
+    ghost use Rattle.object_heap.specs.Heap.{Contents, IsSound};
 
     ghost Value = { Contents };
 
     ghost view = { λ h. record { objects = h.objects.items; environments = h.environments.items } };
 
-    ghost invariant = { λ h. IsInOrder (record { objects = h.objects.items; environments = h.environments.items }) };
+    ghost invariant = { λ h. IsSound (record { objects = h.objects.items; environments = h.environments.items }) };
 }
 
 impl Heap {

@@ -1,4 +1,4 @@
-use Rattle.std.proofs.Common.{◌≡◌, ◌<◌, ℕ, length}
+use Rattle.std.proofs.Common.{◌≡◌, ◌<◌, length}
 use Rattle.object_heap.specs.Chain.{get_property}
 use Rattle.object_heap.proofs.chain.get_property.Given as goal
 

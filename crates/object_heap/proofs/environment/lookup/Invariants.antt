@@ -1,4 +1,4 @@
-use Rattle.std.proofs.Common.{◌≡◌, ◌<◌, ℕ, length}
+use Rattle.std.proofs.Common.{◌≡◌, ◌<◌, length}
 use Rattle.object_heap.specs.Heap.{lookup}
 use Rattle.object_heap.proofs.environment.lookup.Given as goal
 

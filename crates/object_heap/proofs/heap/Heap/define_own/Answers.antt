@@ -1,10 +1,12 @@
 use Rattle.std.proofs.Common.{◌<◌, ap, length, arith}
 use Rattle.object_heap.specs.Heap.{Contents}
-use Rattle.object_heap.proofs.Kept.{changed, define_own_keeps}
+use Rattle.object_heap.proofs.ArrayCalls.{define_own_proper}
+use Rattle.object_heap.proofs.Kept.{define_own_keeps}
+use Rattle.object_heap.proofs.Sound.{changed}
 use Rattle.object_heap.proofs.heap.Heap.define_own.Goals as goal
 
 pub invariant_of-self : goal.invariant_of-self
 invariant_of-self c =
     let h : Contents = record { objects = c.self.inside.objects.items; environments = c.self.inside.environments.items } in
     let there : c.args.at.0 < length h.objects = omega (arith, ap (λ (x : Contents). length x.objects) c.self.view_is) in
-    changed h c.args.at.0 _ _ _ _ there c.self.invariant c.index_mut.ensures.value c.define_own.ensures (define_own_keeps c.index_mut.result.now c.args.name.now c.args.change.now)
+    changed h c.args.at.0 _ _ _ _ there c.self.invariant c.index_mut.ensures.value c.define_own.ensures (define_own_keeps c.index_mut.result.now c.args.name.now c.args.change.now) (define_own_proper c.index_mut.result.now c.args.name.now c.args.change.now)

@@ -1,6 +1,6 @@
 use Rattle.std.proofs.Common.{ap, length, arith}
 use Rattle.object_heap.specs.Heap.{Contents}
-use Rattle.object_heap.proofs.Kept.{opened}
+use Rattle.object_heap.proofs.Sound.{opened}
 use Rattle.object_heap.proofs.heap.Heap.new_env.Goals as goal
 
 pub invariant_of-self-2 : goal.invariant_of-self-2
