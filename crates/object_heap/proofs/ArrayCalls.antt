@@ -69,6 +69,7 @@ element_array t o name change i a e =
   where
     other : bytes_eq length_name name ≡ false
     other = index_is_not_length name i e
+
     longer : nat_lt i (array_length o) ≡ false → IsArray (grown (i + 1) (define_ordinary t o name change)).after.props
     longer past =
         let long : number_in a.length.value ≤ i + 1 = omega (arith, ltb-false i (array_length o) past, same_length o a) in
@@ -148,7 +149,7 @@ define_proper t o name change h after =
     let list : is_list o.class ≡ true = ap is_list (sym (define_keeps t o name change).class) ∙ after in
     array_if (is_list o.class) _ _
     (λ yes. array_if (bytes_eq name length_name) _ _ (λ same. define_length_array t o change change.value (h list) refl)
-      (λ other. indexed_array t o name change (index_of name) (h list) refl (flipped name other)))
+    (λ other. indexed_array t o name change (index_of name) (h list) refl (flipped name other)))
     (λ no. cc (list, no))
 
 pub define_own_proper : (o : Object) (name : List ℕ) (change : Change) → IsProper o → IsProper (define_own o name change).after
@@ -174,6 +175,7 @@ deleted_array o name (Some p) a e = array_if p.configurable _ _ (λ may. removed
         let same : Some p ≡ Some a.length = sym e ∙ ap (own_property o.props) (sym ((bytes_eq-Decides length_name name).0 q)) ∙ a.there in
         let one : p ≡ a.length = cc same in
         cc (sym may ∙ ap (λ (x : Prop). x.configurable) one ∙ a.is_length.configurable)
+
     removed : p.configurable ≡ true → IsArray (with_props o (without_property o.props name)).props
     removed may = array_of a.length _ a.is_length (within_removed (number_in a.length.value) a.length o.props name (within o.props a) (other may (bytes_eq length_name name) refl))
 

@@ -126,7 +126,7 @@ end_kept_small end (e ∷ es) h = end_kept_small (end_with end (index_of e.0) e.
 pub within_elements : (n kept : ℕ) (l : Prop) (props : Props) → Within n l props → Within kept l (elements_below kept props)
 within_elements n kept l props w = record {
   there =
-    lookup_filter (bytes_eq length_name) (λ k. is_below kept (index_of k)) props (λ k same. ap (λ x. is_below kept (index_of x)) (sym ((bytes_eq-Decides length_name k).0 same))) ∙ w.there;
+      lookup_filter (bytes_eq length_name) (λ k. is_below kept (index_of k)) props (λ k same. ap (λ x. is_below kept (index_of x)) (sym ((bytes_eq-Decides length_name k).0 same))) ∙ w.there;
   above = all_filter (λ e. is_below kept (index_of e.0)) props;
 }
 

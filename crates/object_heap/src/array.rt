@@ -3,7 +3,16 @@
 ghost use Rattle.std.specs.Prelude.{◌≡◌, ◌≤◌, ◌<◌, IfOk, IfSome, is_some};
 ghost use Rattle.object_heap.specs.Attempt.{Follows};
 ghost use Rattle.object_heap.specs.Define.{
-  array_length, define, define_element, define_length, has_writable_length, length_name, number, number_in, shrunk, valid_length,
+  array_length,
+  define,
+  define_element,
+  define_length,
+  has_writable_length,
+  length_name,
+  number,
+  number_in,
+  shrunk,
+  valid_length,
   with_length,
 };
 ghost use Rattle.object_heap.specs.Index.{index_end};

@@ -8,7 +8,7 @@ ghost use Rattle.object_heap.specs.Refused.{throw_of};
 
 use crate::fault::{HeapFault, Refused};
 use crate::object::Object;
-use crate::property::{is_same_value, Change, Prop};
+use crate::property::{Change, Prop, is_same_value};
 use js_core::memory::OutOfMemory;
 use js_core::units::Units;
 use js_core::value::Value;

@@ -9,12 +9,27 @@ ghost use Rattle.object_heap.specs.Attempt.{Follows};
 ghost use Rattle.object_heap.specs.Environment.{value_of};
 ghost use Rattle.object_heap.specs.Property.{own_property, HasDistinctNames};
 ghost use Rattle.object_heap.specs.Heap.{
-  closed, environment_at, lookup, set, with_new_environment, define_own, delete, empty, first_props, is_event, new_object, prevent_extensions, put, with_event, with_new_object, with_object,
+  closed,
+  environment_at,
+  lookup,
+  set,
+  with_new_environment,
+  define_own,
+  delete,
+  empty,
+  first_props,
+  is_event,
+  new_object,
+  prevent_extensions,
+  put,
+  with_event,
+  with_new_object,
+  with_object,
 };
 
 use crate::array::number;
 use crate::chain::{can_put, get_property};
-use crate::environment::{lookup, Bindings, Environment};
+use crate::environment::{Bindings, Environment, lookup};
 use crate::fault::HeapFault;
 use crate::object::{Class, EventParts, Object};
 use crate::properties::Properties;

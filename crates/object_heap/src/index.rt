@@ -10,6 +10,7 @@ use js_core::units::Units;
 const INDEX_END: u64 = 4_294_967_295;
 
 const ZERO: u16 = 48;
+
 const NINE: u16 = 57;
 
 /// The array index that the name is, from 0 to 4,294,967,294, or `None` exactly where it is none: where it is not what a

@@ -18,7 +18,10 @@ pub enum Class {
     List,
     /// A function of a page, by its code and the environment round it, which is `None` at the top of a script
     /// (section 13.2).
-    Page { code: CodeId, env: Option<EnvId> },
+    Page {
+        code: CodeId,
+        env: Option<EnvId>,
+    },
     /// A bound function (section 15.3.4.5).
     Bound {
         target: ObjId,

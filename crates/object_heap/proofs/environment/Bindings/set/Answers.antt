@@ -12,7 +12,7 @@ returns-then-eq c =
     let there : place < length c.args.self.now = omega (arith, ap length same, ap length c.self.view_is) in
     let is : x ≡ slice_index_or c.args.self.now place x = c.index_mut.ensures.value ∙ ap (λ xs. slice_index_or xs place x) same in
     let read : c.index.result.now ≡ x =
-      c.index.ensures ∙ ap (λ xs. slice_index_or xs place c.index.result.now) same ∙ get_or_default c.args.self.now place c.index.result.now x there ∙ sym is
+    c.index.ensures ∙ ap (λ xs. slice_index_or xs place c.index.result.now) same ∙ get_or_default c.args.self.now place c.index.result.now x there ∙ sym is
     in
     let equal : bytes_eq c.args.name.now x.0 ≡ true = ap (λ y. bytes_eq c.args.name.now y.0) (sym read) ∙ sym c.eq.ensures ∙ c.if-eq.true in
     rw same (set_here c.args.self.now place x c.args.name.now c.args.value there is equal c.loop-place.invariant.past)

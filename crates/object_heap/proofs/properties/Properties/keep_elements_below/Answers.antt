@@ -7,6 +7,6 @@ use Rattle.object_heap.proofs.properties.Properties.keep_elements_below.Goals as
 pub returns : goal.returns
 returns c =
     let kept : c.retain.new.self.entries ≡ elements_below c.args.end c.self.inside.table.entries =
-      filter-RetainsPairs _ (λ e. is_below c.args.end (index_of e.0)) _ (λ k v b w g call. search rules) _ _ c.retain.ensures.filtered
+    filter-RetainsPairs _ (λ e. is_below c.args.end (index_of e.0)) _ (λ k v b w g call. search rules) _ _ c.retain.ensures.filtered
     in
     kept ∙ ap (elements_below c.args.end) c.self.view_is
