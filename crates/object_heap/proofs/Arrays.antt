@@ -90,14 +90,14 @@ with_new_length n l m props w is_length long = record {
 pub with_number : (l : Prop) (n : ℕ) → IsLength l → n ≤ index_end → IsLength (with_value l (number n))
 with_number l n h small = record { number = refl; small = small; enumerable = h.enumerable; configurable = h.configurable }
 
-keeps_same : (change : Option Bool) (old : Bool) → keeps change old ≡ true → unwrap_or change old ≡ old
+pub keeps_same : (change : Option Bool) (old : Bool) → keeps change old ≡ true → unwrap_or change old ≡ old
 keeps_same None old h = refl
 keeps_same (Some true) true h = refl
 keeps_same (Some true) false h = cc
 keeps_same (Some false) true h = cc
 keeps_same (Some false) false h = refl
 
-not_true : (b : Bool) → not b ≡ true → b ≡ false
+pub not_true : (b : Bool) → not b ≡ true → b ≡ false
 not_true true h = cc
 not_true false h = refl
 

@@ -4,6 +4,7 @@ pub mod Arrays
 pub mod Bindings
 pub mod Chains
 pub mod Entries
+pub mod Frozen
 pub mod Kept
 pub mod Lists
 pub mod Scopes

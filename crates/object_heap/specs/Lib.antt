@@ -5,6 +5,7 @@ pub mod Define
 pub mod Environment
 pub mod Heap
 pub mod Index
+pub mod Laws
 pub mod Object
 pub mod Property
 pub mod Refused

@@ -1,0 +1,68 @@
+-- What the calls on the heap keep, in the language's own words.
+use Rattle.std.specs.Prelude.{◌≡◌, ℕ, ◌<◌, Bool, IsTrue, true, false, List, [], ◌∷◌, Option, Some, None, IsSome, length, bytes_eq}
+use Rattle.js_core.specs.declared.value.Value.{Value}
+use Rattle.object_heap.specs.declared.object.Object.{Object}
+use Rattle.object_heap.specs.declared.property.Change.{Change}
+use Rattle.object_heap.specs.declared.property.Prop.{Prop}
+use Rattle.object_heap.specs.Chain.{get, object_at}
+use Rattle.object_heap.specs.Define as object
+use Rattle.object_heap.specs.Define.{array_length, length_name}
+use Rattle.object_heap.specs.Heap.{Contents, IsSound, define_own, delete, prevent_extensions, put}
+use Rattle.object_heap.specs.Index.{index_of}
+use Rattle.object_heap.specs.Object.{is_list}
+use Rattle.object_heap.specs.Property.{own_property}
+
+-- what a script does to objects: an object by its place, and a name
+pub data Step : Type 0 where
+  puts : ℕ → List ℕ → Value → Step
+  defines : ℕ → List ℕ → Change → Step
+  deletes : ℕ → List ℕ → Step
+  prevents : ℕ → Step
+
+abbrev pub after_step : Contents → Step → Contents
+after_step h (puts k name v) = (put h k name v).after
+after_step h (defines k name change) = (define_own h k name change).after
+after_step h (deletes k name) = (delete h k name).after
+after_step h (prevents k) = (prevent_extensions h k).after
+
+-- the heap after steps, also those that throw
+abbrev pub after_steps : Contents → List Step → Contents
+after_steps h [] = h
+after_steps h (s ∷ ss) = after_steps (after_step h s) ss
+
+-- what was put is got
+abbrev pub PutThenGet : Type 0
+PutThenGet =
+    (h : Contents) (k : ℕ) (name : List ℕ) (v : Value) → k < length h.objects → (put h k name v).thrown ≡ None
+    → get (put h k name v).after.objects k name ≡ Some v
+
+-- a property stays where another one is put, defined or deleted that is no array's length
+abbrev pub OthersStay : Type 0
+OthersStay =
+    (o : Object) (name other : List ℕ) → bytes_eq other name ≡ false → bytes_eq other length_name ≡ false → bytes_eq name length_name ≡ false
+    → ((can : Bool) (v : Value) → own_property (object.put_own can o name v).after.props other ≡ own_property o.props other)
+    × ((change : Change) → own_property (object.define_own o name change).after.props other ≡ own_property o.props other)
+    × (own_property (object.delete_own o name).after.props other ≡ own_property o.props other)
+
+-- ages stay in order, and arrays arrays
+abbrev pub StaysSound : Type 0
+StaysSound = (h : Contents) (steps : List Step) → IsSound h → IsSound (after_steps h steps)
+
+-- the length of an array is above the index of each element, after any steps
+abbrev pub LengthIsAbove : Type 0
+LengthIsAbove =
+    (h : Contents) (steps : List Step) (k : ℕ) (name : List ℕ) (i : ℕ) → IsSound h
+    → let o = object_at (after_steps h steps).objects k in
+      IsTrue (is_list o.class) → index_of name ≡ Some i → IsSome (own_property o.props name) → i < array_length o
+
+-- the object gets no new properties, and none that it has may be written or configured (15.2.3.9)
+pub record IsFrozen (o : Object) : Type 0 where
+  pub extensible : o.extensible ≡ false
+  pub configurable : (name : List ℕ) (p : Prop) → own_property o.props name ≡ Some p → p.configurable ≡ false
+  pub writable : (name : List ℕ) (p : Prop) → own_property o.props name ≡ Some p → p.writable ≡ false
+
+-- a frozen object never changes
+abbrev pub FrozenStays : Type 0
+FrozenStays =
+    (h : Contents) (steps : List Step) (k : ℕ) → IsFrozen (object_at h.objects k)
+    → object_at (after_steps h steps).objects k ≡ object_at h.objects k
