@@ -38,7 +38,7 @@ refused_over t u o name change None h = by_case o.extensible refl
 refused_over t u o name change (Some q) h = by_case (may_update q change) refl
   where
     by_case : (b : Bool) → may_update q change ≡ b → (defined_over t o name change (Some q)).after ≡ o
-    by_case true p = cc (rw p at h)
+    by_case true p = cc
     by_case false p = rw p refl
 
 flipped : (name : List ℕ) → bytes_eq name length_name ≡ false → bytes_eq length_name name ≡ false

@@ -9,3 +9,4 @@ pub mod Kept
 pub mod Lists
 pub mod Scopes
 pub mod Sound
+pub mod Steps
