@@ -96,7 +96,7 @@ length_array t o change a fits =
     (λ may. with_new_length (number_in a.length.value) a.length (updated a.length change) o.props (within o.props a) (updated_length a.length change a.is_length may fits.is fits.small) fits.long)
     (λ no. a))
 
-valid_number : (v : Value) (n : ℕ) → valid_length v ≡ Some n → (v ≡ number n) × (n ≤ index_end)
+pub valid_number : (v : Value) (n : ℕ) → valid_length v ≡ Some n → (v ≡ number n) × (n ≤ index_end)
 valid_number (Num (Some (pos m))) n h = by_case (nat_lt m 4294967296) refl
   where
     by_case : (b : Bool) → nat_lt m 4294967296 ≡ b → (Num (Some (pos m)) ≡ number n) × (n ≤ index_end)

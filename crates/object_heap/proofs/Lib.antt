@@ -5,8 +5,10 @@ pub mod Bindings
 pub mod Chains
 pub mod Entries
 pub mod Frozen
+pub mod Got
 pub mod Kept
 pub mod Lists
+pub mod Others
 pub mod Scopes
 pub mod Sound
 pub mod Steps

@@ -9,6 +9,7 @@ pub mod environment;
 pub mod fault;
 pub mod heap;
 pub mod index;
+pub mod laws;
 pub mod methods;
 pub mod object;
 pub mod properties;
