@@ -50,11 +50,11 @@ updated_same p change fixed locked may =
     let rest = right_of (not (asks change.configurable) && keeps change.enumerable p.enumerable) (not (asks change.writable) && keeps_value change.value p.value) asked in
     let value = keeps_value_same change.value p.value (right_of (not (asks change.writable)) (keeps_value change.value p.value) rest) in
     let writable : unwrap_or change.writable p.writable ≡ p.writable =
-      ap (unwrap_or change.writable) locked ∙ not_true (asks change.writable) (left_of (not (asks change.writable)) (keeps_value change.value p.value) rest) ∙ sym locked
+    ap (unwrap_or change.writable) locked ∙ not_true (asks change.writable) (left_of (not (asks change.writable)) (keeps_value change.value p.value) rest) ∙ sym locked
     in
     let enumerable = keeps_same change.enumerable p.enumerable (right_of (not (asks change.configurable)) (keeps change.enumerable p.enumerable) flags) in
     let configurable : unwrap_or change.configurable p.configurable ≡ p.configurable =
-      ap (unwrap_or change.configurable) fixed ∙ not_true (asks change.configurable) (left_of (not (asks change.configurable)) (keeps change.enumerable p.enumerable) flags) ∙ sym fixed
+    ap (unwrap_or change.configurable) fixed ∙ not_true (asks change.configurable) (left_of (not (asks change.configurable)) (keeps change.enumerable p.enumerable) flags) ∙ sym fixed
     in
     (λ j. record { value = value j; writable = writable j; enumerable = enumerable j; configurable = configurable j })
 
@@ -70,7 +70,7 @@ module _ (o : Object) (f : IsFrozen o) where
       by_case : (b : Bool) → may_update p change ≡ b → (defined_over t o name change (Some p)).after ≡ o
       by_case true q =
           let kept : with_property o.props name (updated p change) ≡ o.props =
-            ap (with_property o.props name) (updated_same p change (f.configurable name p e) (f.writable name p e) q) ∙ set_value_same (bytes_eq name) o.props p e
+          ap (with_property o.props name) (updated_same p change (f.configurable name p e) (f.writable name p e) q) ∙ set_value_same (bytes_eq name) o.props p e
           in
           rw q (ap (with_props o) kept)
       by_case false q = rw q refl

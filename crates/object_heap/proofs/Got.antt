@@ -76,8 +76,8 @@ indexed_holds t o name v change None value far = ordinary_holds t o name v chang
 indexed_holds t o name v change (Some i) value far =
     holds_if name v (nat_lt i (array_length o)) _ _ (λ b. ordinary_holds t o name v change value)
     (λ b. holds_if name v (has_writable_length o) _ _
-      (λ c. grown_holds (i + 1) name v (define_ordinary t o name change) (define_ordinary t o name change).thrown refl far (ordinary_holds t o name v change value))
-      (λ c h. cc h))
+    (λ c. grown_holds (i + 1) name v (define_ordinary t o name change) (define_ordinary t o name change).thrown refl far (ordinary_holds t o name v change value))
+    (λ c h. cc h))
 
 thrown_if : (t : Throw) (b : Bool) → (if b then None else Some t) ≡ None → b ≡ true
 thrown_if t true h = refl
@@ -88,17 +88,17 @@ shrunk_holds t o v change end None e is = λ h. cc h
 shrunk_holds t o v change end (Some l) e is =
     holds_if length_name v (l.writable && may_update l change) _ _
     (λ b h.
-      let kept = end_kept end o.props in
-      let p = with_value (updated l change) (number kept) in
-      let all : kept ≡ end = eqb-true kept end (thrown_if t (nat_eq kept end) h) in
-      let there : own_property (elements_below kept o.props) length_name ≡ Some l =
-        lookup_filter (bytes_eq length_name) (λ k. is_below kept (index_of k)) o.props (λ k same. ap (λ x. is_below kept (index_of x)) (sym ((bytes_eq-Decides length_name k).0 same))) ∙ e
-      in
-      record {
-        property = p;
-        there = lookup_set (bytes_eq length_name) (elements_below kept o.props) p l there;
-        value = ap number all ∙ sym is;
-      })
+    let kept = end_kept end o.props in
+    let p = with_value (updated l change) (number kept) in
+    let all : kept ≡ end = eqb-true kept end (thrown_if t (nat_eq kept end) h) in
+    let there : own_property (elements_below kept o.props) length_name ≡ Some l =
+    lookup_filter (bytes_eq length_name) (λ k. is_below kept (index_of k)) o.props (λ k same. ap (λ x. is_below kept (index_of x)) (sym ((bytes_eq-Decides length_name k).0 same))) ∙ e
+    in
+    record {
+      property = p;
+      there = lookup_set (bytes_eq length_name) (elements_below kept o.props) p l there;
+      value = ap number all ∙ sym is;
+    })
     (λ b h. cc h)
 
 length_as_holds : (t : Throw) (o : Object) (v : Value) (change : Change) (end : Option ℕ) → change.value ≡ Some v → valid_length v ≡ end → HoldsOrThrew length_name v (define_length_as t o change end)
@@ -117,8 +117,8 @@ define_holds : (t : Throw) (o : Object) (name : List ℕ) (v : Value) (change : 
 define_holds t o name v change value =
     holds_if name v (is_list o.class) _ _
     (λ b. holds_if name v (bytes_eq name length_name) _ _
-      (λ same. subst (λ x. HoldsOrThrew x v (define_length t o change change.value)) (sym ((bytes_eq-Decides name length_name).0 same)) (length_holds t o v change change.value value value))
-      (λ far. indexed_holds t o name v change (index_of name) value far))
+    (λ same. subst (λ x. HoldsOrThrew x v (define_length t o change change.value)) (sym ((bytes_eq-Decides name length_name).0 same)) (length_holds t o v change change.value value value))
+    (λ far. indexed_holds t o name v change (index_of name) value far))
     (λ b. ordinary_holds t o name v change value)
 
 put_value : (v : Value) (own : Option Prop) → (put_change v own).value ≡ Some v

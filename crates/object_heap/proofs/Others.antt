@@ -44,7 +44,7 @@ indexed_stays t o name other change None far long = ordinary_stays t o name othe
 indexed_stays t o name other change (Some i) far long =
     stays_if o other (nat_lt i (array_length o)) _ _ (λ b. ordinary_stays t o name other change far)
     (λ b. stays_if o other (has_writable_length o) _ _
-      (λ c. grown_stays o other (i + 1) (define_ordinary t o name change) (define_ordinary t o name change).thrown long (ordinary_stays t o name other change far)) (λ c. refl))
+    (λ c. grown_stays o other (i + 1) (define_ordinary t o name change) (define_ordinary t o name change).thrown long (ordinary_stays t o name other change far)) (λ c. refl))
 
 define_stays : (t : Throw) (o : Object) (name other : List ℕ) (change : Change) → bytes_eq other name ≡ false → bytes_eq other length_name ≡ false → bytes_eq name length_name ≡ false → Stays o other (define t o name change)
 define_stays t o name other change far long short =
@@ -60,7 +60,7 @@ deleted_stays o name other (Some p) far =
 pub others_stay : OthersStay
 others_stay o name other far long short = (
   λ can v. stays_if o other (not (is_closed_at o name) && can) _ _
-    (λ b. define_stays CannotSet o name other (put_change v (own_property o.props name)) far long short) (λ b. refl),
+      (λ b. define_stays CannotSet o name other (put_change v (own_property o.props name)) far long short) (λ b. refl),
   λ change. stays_if o other (is_closed_at o name) _ _ (λ b. refl) (λ b. define_stays CannotDefine o name other change far long short),
   stays_if o other (is_closed_at o name) _ _ (λ b. refl) (λ b. deleted_stays o name other (own_property o.props name) far),
 )

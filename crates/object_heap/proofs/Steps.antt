@@ -61,7 +61,7 @@ holds_at f (e ∷ es) name all there = by_case (bytes_eq name e.0) refl (holds_a
 below_length : (o : Object) (name : List ℕ) (i : ℕ) → IsArray o.props → index_of name ≡ Some i → IsSome (own_property o.props name) → i < array_length o
 below_length o name i a e there =
     let below : is_below (number_in a.length.value) (index_of name) ≡ true =
-      holds_at (λ k. is_below (number_in a.length.value) (index_of k)) o.props name a.above there
+    holds_at (λ k. is_below (number_in a.length.value) (index_of k)) o.props name a.above there
     in
     let less : i < number_in a.length.value = ltb-true i (number_in a.length.value) (rw e at below) in
     subst (λ n. i < n) (sym (ap length_in a.there)) less

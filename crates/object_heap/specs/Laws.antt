@@ -53,7 +53,7 @@ abbrev pub LengthIsAbove : Type 0
 LengthIsAbove =
     (h : Contents) (steps : List Step) (k : ℕ) (name : List ℕ) (i : ℕ) → IsSound h
     → let o = object_at (after_steps h steps).objects k in
-      IsTrue (is_list o.class) → index_of name ≡ Some i → IsSome (own_property o.props name) → i < array_length o
+    IsTrue (is_list o.class) → index_of name ≡ Some i → IsSome (own_property o.props name) → i < array_length o
 
 -- the object gets no new properties, and none that it has may be written or configured (15.2.3.9)
 pub record IsFrozen (o : Object) : Type 0 where

@@ -28,12 +28,13 @@ use js_core::throw::Throw;
 use js_core::units::Units;
 use js_core::value::Value;
 use js_core::whole::Whole;
+use std::alloc::Global;
 
 const LENGTH: &[u8] = b"length";
 
 impl Object {
     /// Defines a property: of an array by section 15.4.5.1, of another object by section 8.12.9.
-    pub fn define(
+    pub(crate) fn define(
         &mut self,
         name: &Units,
         change: &Change,
@@ -170,8 +171,16 @@ impl Object {
     }
 }
 
+/// The name of an array's length.
+pub(crate) fn length_name(alloc: Global) -> Result<Units, OutOfMemory>
+    ensures { IfOk result (λ name. name ≡ length_name) }
+{
+    let units = [b'l', b'e', b'n', b'g', b't', b'h'].map(u16::from);
+    Units::of(alloc, &units)
+}
+
 /// The number as a value.
-pub fn number(n: u64) -> Value
+pub(crate) fn number(n: u64) -> Value
     requires { n ≤ index_end }
     ensures { result ≡ number n }
 {

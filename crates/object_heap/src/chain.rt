@@ -11,7 +11,7 @@ use js_core::units::Units;
 
 /// The property of the name that the object has, or else its prototype, and so on (ECMA-262 5.1 section 8.12.2).
 #[tactic(auto, using(crate::proofs::Chains::step))]
-pub fn get_property<'a>(objects: &'a [Object], at: ObjId, name: &Units) -> Option<&'a Prop>
+pub(crate) fn get_property<'a>(objects: &'a [Object], at: ObjId, name: &Units) -> Option<&'a Prop>
     requires ages { AreOlder objects.now }
     requires there { at.0 < length objects.now }
     ensures { option_copied result ≡ get_property objects.now at.0 name.now }
@@ -30,7 +30,7 @@ pub fn get_property<'a>(objects: &'a [Object], at: ObjId, name: &Units) -> Optio
 }
 
 /// Whether the object may have a value put to its property of the name (ECMA-262 5.1 section 8.12.4).
-pub fn can_put(objects: &[Object], at: ObjId, name: &Units) -> bool
+pub(crate) fn can_put(objects: &[Object], at: ObjId, name: &Units) -> bool
     requires ages { AreOlder objects.now }
     requires there { at.0 < length objects.now }
     ensures { result ≡ can_put objects.now at.0 name.now }

@@ -15,7 +15,7 @@ use js_core::value::Value;
 
 impl Change {
     /// The new property that has what is asked for; all else is undefined or false.
-    pub fn created(&self) -> Result<Prop, OutOfMemory>
+    pub(crate) fn created(&self) -> Result<Prop, OutOfMemory>
         ensures { IfOk result (λ p. p ≡ created self.now) }
     {
         let value = match &self.value {
@@ -31,7 +31,7 @@ impl Change {
     }
 
     /// The property with what is asked for.
-    pub fn updated(&self, prop: &Prop) -> Result<Prop, OutOfMemory>
+    pub(crate) fn updated(&self, prop: &Prop) -> Result<Prop, OutOfMemory>
         ensures { IfOk result (λ p. p ≡ updated prop.now self.now) }
     {
         let value = match &self.value {
@@ -49,7 +49,7 @@ impl Change {
 
 impl Prop {
     /// The property with another value.
-    pub fn with_value(self, value: Value) -> Prop
+    pub(crate) fn with_value(self, value: Value) -> Prop
         ensures { result ≡ with_value self value }
     {
         Prop {
@@ -61,7 +61,7 @@ impl Prop {
     }
 
     /// Whether the property may be changed so.
-    pub fn may_update(&self, change: &Change) -> bool
+    pub(crate) fn may_update(&self, change: &Change) -> bool
         ensures { result ≡ may_update self.now change.now }
     {
         self.configurable
@@ -93,7 +93,7 @@ fn keeps_value_of(change: &Option<Value>, old: &Value) -> bool
 
 impl Object {
     /// Defines a property by section 8.12.9.
-    pub fn define_ordinary(
+    pub(crate) fn define_ordinary(
         &mut self,
         name: &Units,
         change: &Change,

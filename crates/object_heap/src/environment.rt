@@ -36,7 +36,7 @@ pub struct Environment {
 
 impl Bindings {
     /// These names with these values.
-    pub fn of(alloc: Global, names: &[(Units, Value)]) -> Result<Bindings, OutOfMemory>
+    pub(crate) fn of(alloc: Global, names: &[(Units, Value)]) -> Result<Bindings, OutOfMemory>
         ensures { IfOk result (λ bindings. bindings ≡ names.now) }
     {
         let mut items = Vec::new(alloc);
@@ -48,7 +48,7 @@ impl Bindings {
 
     /// The value of the name, or `None` exactly where it is not there. Of two bindings of one name the first counts.
     #[tactic(auto, using(crate::proofs::Bindings::value_here, crate::proofs::Bindings::value_past))]
-    pub fn get(&self, name: &Units) -> Option<&Value>
+    pub(crate) fn get(&self, name: &Units) -> Option<&Value>
         ensures { option_copied result ≡ value_of self.now name.now }
     {
         for (bound, value) in &self.items {
@@ -60,7 +60,7 @@ impl Bindings {
     }
 
     /// The name takes the value. All else stays, and all stays where the name is not there.
-    pub fn set(&mut self, name: &Units, value: Value)
+    pub(crate) fn set(&mut self, name: &Units, value: Value)
         ensures { self.new ≡ with_value_of self.old name.now value }
     {
         for place in 0..self.items.len() {
@@ -75,7 +75,7 @@ impl Bindings {
 /// The innermost environment from this one outwards that has the name, with the value, or `None` exactly where none has
 /// it (ECMA-262 5.1 section 10.2.2.1).
 #[tactic(auto, using(crate::proofs::Scopes::step))]
-pub fn lookup<'a>(
+pub(crate) fn lookup<'a>(
     environments: &'a [Environment],
     from: EnvId,
     name: &Units,

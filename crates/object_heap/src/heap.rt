@@ -27,7 +27,7 @@ ghost use Rattle.object_heap.specs.Heap.{
   with_object,
 };
 
-use crate::array::number;
+use crate::array::{length_name, number};
 use crate::chain::{can_put, get_property};
 use crate::environment::{Bindings, Environment, lookup};
 use crate::fault::HeapFault;
@@ -275,7 +275,7 @@ fn first_props(alloc: Global, class: &Class) -> Result<Properties, OutOfMemory>
 {
     let mut props = Properties::new(alloc);
     if class.is_list() {
-        let name = Units::of(alloc, &[108, 101, 110, 103, 116, 104])?;
+        let name = length_name(alloc)?;
         let length = Prop {
             value: number(0),
             writable: true,

@@ -15,7 +15,7 @@ use js_core::value::Value;
 impl Object {
     /// Whether the property of the name may not be put, defined or deleted: the object is closed, or it is the global
     /// object and the property is one of its built-in ones.
-    pub fn is_closed_at(&self, name: &Units) -> bool
+    pub(crate) fn is_closed_at(&self, name: &Units) -> bool
         ensures { result ≡ is_closed_at self.now name.now }
     {
         if self.closed {
@@ -25,7 +25,7 @@ impl Object {
     }
 
     /// Defines a property (section 8.12.9, for arrays 15.4.5.1).
-    pub fn define_own(&mut self, name: &Units, change: &Change) -> Result<(), HeapFault>
+    pub(crate) fn define_own(&mut self, name: &Units, change: &Change) -> Result<(), HeapFault>
         ensures { Follows (define_own self.old name.now change.now) self.old self.new result }
     {
         if self.is_closed_at(name) {
@@ -35,7 +35,12 @@ impl Object {
     }
 
     /// Puts a value (section 8.12.5), where section 8.12.4 says whether it may be put.
-    pub fn put_own(&mut self, may_put: bool, name: &Units, value: Value) -> Result<(), HeapFault>
+    pub(crate) fn put_own(
+        &mut self,
+        may_put: bool,
+        name: &Units,
+        value: Value,
+    ) -> Result<(), HeapFault>
         ensures { Follows (put_own may_put self.old name.now value) self.old self.new result }
     {
         if self.is_closed_at(name) || !may_put {
@@ -66,7 +71,7 @@ impl Object {
     }
 
     /// Deletes a property (section 8.12.7). The others keep their order.
-    pub fn delete_own(&mut self, name: &Units) -> Result<(), HeapFault>
+    pub(crate) fn delete_own(&mut self, name: &Units) -> Result<(), HeapFault>
         ensures { Follows (delete_own self.old name.now) self.old self.new result }
     {
         if self.is_closed_at(name) {
@@ -83,7 +88,7 @@ impl Object {
     }
 
     /// From now on the object gets no new properties (section 15.2.3.10). The global object and closed ones refuse.
-    pub fn prevent_extensions(&mut self) -> Result<(), HeapFault>
+    pub(crate) fn prevent_extensions(&mut self) -> Result<(), HeapFault>
         ensures { Follows (prevented self.old) self.old self.new result }
     {
         if self.closed || self.class.is_window() {

@@ -33,7 +33,7 @@ impl Model for Properties {
 
 impl Properties {
     /// No properties.
-    pub fn new(alloc: Global) -> Properties
+    pub(crate) fn new(alloc: Global) -> Properties
         ensures { result ≡ [] }
     {
         Properties {
@@ -42,7 +42,7 @@ impl Properties {
     }
 
     /// The property of the name, or `None` exactly where there is none (ECMA-262 5.1 section 8.12.1).
-    pub fn get(&self, name: &Units) -> Option<&Prop>
+    pub(crate) fn get(&self, name: &Units) -> Option<&Prop>
         ensures { option_copied result ≡ own_property self.now name.now }
     {
         self.table.get(name)
@@ -50,7 +50,7 @@ impl Properties {
 
     /// The property whose name is this ASCII text, with the name, or `None` exactly where there is none. It is found at
     /// once where it is the first.
-    pub fn find(&self, text: &[u8]) -> Option<(&Units, &Prop)>
+    pub(crate) fn find(&self, text: &[u8]) -> Option<(&Units, &Prop)>
         ensures prop { option_map (λ p. p.1.now) result ≡ own_property self.now text.now }
         ensures name { IfSome result (λ p. p.0.now ≡ text.now) }
     {
@@ -63,14 +63,14 @@ impl Properties {
     }
 
     /// The name and the property at the place, or `None` exactly past the end.
-    pub fn get_index(&self, index: usize) -> Option<(&Units, &Prop)>
+    pub(crate) fn get_index(&self, index: usize) -> Option<(&Units, &Prop)>
         ensures { option_map deref_pair result ≡ slice_get self.now index }
     {
         self.table.get_index(index)
     }
 
     /// The number of properties. No two have the same name.
-    pub fn len(&self) -> usize
+    pub(crate) fn len(&self) -> usize
         ensures len { result ≡ length self.now }
         ensures distinct { HasDistinctNames self.now }
     {
@@ -79,7 +79,7 @@ impl Properties {
 
     /// One more property, which is the last. After an error nothing has changed.
     #[tactic(auto, using(crate::proofs::Entries::insert_absent))]
-    pub fn push(&mut self, name: &Units, prop: Prop) -> Result<(), OutOfMemory>
+    pub(crate) fn push(&mut self, name: &Units, prop: Prop) -> Result<(), OutOfMemory>
         requires { own_property self.old name.now ≡ None }
         ensures ok { OnOk result (self.new ≡ self.old ++ (name.now, prop) ∷ []) }
         ensures err { OnErr result (self.new ≡ self.old) }
@@ -89,14 +89,14 @@ impl Properties {
     }
 
     /// The property of the name becomes another, at its place. Nothing changes where there is none.
-    pub fn set(&mut self, name: &Units, prop: Prop)
+    pub(crate) fn set(&mut self, name: &Units, prop: Prop)
         ensures { self.new ≡ with_property self.old name.now prop }
     {
         set_entry(&mut self.table, name, prop);
     }
 
     /// The property of the name is gone. The others keep their order. Nothing changes where there is none.
-    pub fn remove(&mut self, name: &Units)
+    pub(crate) fn remove(&mut self, name: &Units)
         ensures { self.new ≡ without_property self.old name.now }
     {
         self.table.shift_remove(name);
@@ -104,7 +104,7 @@ impl Properties {
 
     /// How far elements are deleted from the top when an array's length is to become `end`: down to the last one that
     /// is not configurable (ECMA-262 5.1 section 15.4.5.1 step 3.l).
-    pub fn end_kept(&self, end: u64) -> u64
+    pub(crate) fn end_kept(&self, end: u64) -> u64
         requires { end ≤ index_end }
         ensures end { result ≡ end_kept end self.now }
         ensures small { end_kept end self.now ≤ index_end }
@@ -117,7 +117,7 @@ impl Properties {
     }
 
     /// Without the elements of an array from `end` up.
-    pub fn keep_elements_below(&mut self, end: u64)
+    pub(crate) fn keep_elements_below(&mut self, end: u64)
         ensures { self.new ≡ elements_below end self.old }
     {
         self.table.retain(
@@ -128,7 +128,7 @@ impl Properties {
     }
 
     /// The names, in order. No two are the same.
-    pub fn names(&self, alloc: Global) -> Result<Vec<Units>, OutOfMemory>
+    pub(crate) fn names(&self, alloc: Global) -> Result<Vec<Units>, OutOfMemory>
         ensures names { IfOk result (λ names. names.items ≡ keys_of self.now) }
         ensures distinct { HasDistinctNames self.now }
     {

@@ -167,7 +167,11 @@ fn properties_are_as_the_standard_says(rt: HostRuntime) -> Result<(), Fail> {
             answers.extend_from_slice(step(alloc, &mut heap, at, line)?.as_bytes())?;
         }
         assert_eq!(rt; answers.as_slice(), ends.trim_end().as_bytes(), "{row}");
-        assert_eq!(rt; properties(alloc, &heap, at)?.as_slice(), left.trim().as_bytes(), "{row}");
+        assert_eq!(rt;
+            properties(alloc, &heap, at)?.as_slice(),
+            left.trim().as_bytes(),
+            "{row}"
+        );
     }
     Ok(())
 }
