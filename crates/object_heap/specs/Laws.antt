@@ -1,14 +1,16 @@
 -- What the calls on the heap keep, in the language's own words.
-use Rattle.std.specs.Prelude.{◌≡◌, ℕ, ◌<◌, Bool, IsTrue, true, false, List, [], ◌∷◌, Option, Some, None, IsSome, length, bytes_eq}
+use Rattle.std.specs.Prelude.{◌≡◌, ◌↔◌, ℕ, ◌<◌, Bool, IsTrue, true, false, List, [], ◌∷◌, Option, Some, None, IsSome, length, bytes_eq}
+use Rattle.std.specs.Fmt.{decimal}
 use Rattle.js_core.specs.declared.value.Value.{Value}
 use Rattle.object_heap.specs.declared.object.Object.{Object}
 use Rattle.object_heap.specs.declared.property.Change.{Change}
 use Rattle.object_heap.specs.declared.property.Prop.{Prop}
-use Rattle.object_heap.specs.Chain.{get, object_at}
+use Rattle.object_heap.specs.Chain.{first_found, get, get_property, object_at}
 use Rattle.object_heap.specs.Define as object
 use Rattle.object_heap.specs.Define.{array_length, length_name}
-use Rattle.object_heap.specs.Heap.{Contents, IsSound, define_own, delete, prevent_extensions, put}
-use Rattle.object_heap.specs.Index.{index_of}
+use Rattle.object_heap.specs.Environment.{value_of}
+use Rattle.object_heap.specs.Heap.{Contents, IsSound, define_own, delete, environment_at, first_bound, lookup, prevent_extensions, put}
+use Rattle.object_heap.specs.Index.{index_end, index_of}
 use Rattle.object_heap.specs.Object.{is_list}
 use Rattle.object_heap.specs.Property.{own_property}
 
@@ -43,6 +45,20 @@ OthersStay =
     → ((can : Bool) (v : Value) → own_property (object.put_own can o name v).after.props other ≡ own_property o.props other)
     × ((change : Change) → own_property (object.define_own o name change).after.props other ≡ own_property o.props other)
     × (own_property (object.delete_own o name).after.props other ≡ own_property o.props other)
+
+-- a name is an array index exactly where it is what a number below 2^32 - 1 is written as (15.4)
+abbrev pub IndicesAreDecimal : Type 0
+IndicesAreDecimal = (name : List ℕ) (i : ℕ) → (index_of name ≡ Some i) ↔ ((name ≡ decimal i) × (i < index_end))
+
+-- [[GetProperty]] is an object's own property, or else its prototype's (8.12.2), and a name is bound in an environment, or
+-- else outwards (10.2.2.1)
+abbrev pub LooksOn : Type 0
+LooksOn =
+    (h : Contents) (k : ℕ) (name : List ℕ) → IsSound h
+    → (get_property h.objects k name
+      ≡ first_found (own_property (object_at h.objects k).props name) (object_at h.objects k).proto (λ q. get_property h.objects q name))
+    × (lookup h.environments k name
+      ≡ first_bound k (value_of (environment_at h.environments k).names name) (environment_at h.environments k).outer (λ q. lookup h.environments q name))
 
 -- ages stay in order, and arrays arrays
 abbrev pub StaysSound : Type 0

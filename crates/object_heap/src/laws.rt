@@ -2,7 +2,9 @@
 
 ghost use Rattle.object_heap.specs.Laws.{
   FrozenStays,
+  IndicesAreDecimal,
   LengthIsAbove,
+  LooksOn,
   OthersStay,
   PutThenGet,
   StaysSound,
@@ -18,8 +20,16 @@ pub fn properties_are_kept()
     ensures frozen_stays { FrozenStays }
 {}
 
+/// The laws of chains of prototypes and environments.
+pub fn chains_are_walked()
+    // What an object does not have itself is its prototype's, and a name that an environment does not bind is bound outwards.
+    ensures { LooksOn }
+{}
+
 /// The laws of arrays and ages.
 pub fn arrays_are_kept()
+    // An array index is what a number below 2^32 - 1 is written as.
+    ensures indices_are_decimal { IndicesAreDecimal }
     // Whatever is put, defined or deleted, the length of an array is above the index of each element.
     ensures length_is_above { LengthIsAbove }
     // And prototypes stay older than what has them.

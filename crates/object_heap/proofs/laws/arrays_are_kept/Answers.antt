@@ -1,5 +1,6 @@
+use Rattle.object_heap.proofs.Decimals.{indices_are_decimal}
 use Rattle.object_heap.proofs.Steps.{length_is_above, stays_sound}
 use Rattle.object_heap.proofs.laws.arrays_are_kept.Goals as goal
 
 pub returns : goal.returns
-returns c = record { length_is_above = length_is_above; stays_sound = stays_sound }
+returns c = record { indices_are_decimal = indices_are_decimal; length_is_above = length_is_above; stays_sound = stays_sound }
