@@ -1,5 +1,5 @@
 -- Array indices are what numbers are written as.
-use Rattle.std.proofs.Common.{◌≡◌, ◌↔◌, ◌⊎◌, inl, inr, refl, sym, ap, subst, ◌∙◌, ℕ, ◌+◌, ◌<◌, ◌≤◌, ◌^◌, Bool, true, false, ◌&&◌, not, List, [], ◌∷◌, Some, None, fold, length, slice_index_or, nat_eq, nat_lt, rules, arith}
+use Rattle.std.proofs.Common.{◌≡◌, ◌⊎◌, inl, inr, refl, sym, ap, ◌∙◌, ℕ, ◌<◌, ◌≤◌, Bool, true, false, ◌&&◌, List, [], ◌∷◌, Some, fold, length, slice_index_or, nat_lt, rules, arith}
 use Rattle.std.proofs.lemmas.Bool.{cases_lt, lt-ltb, ltb-true}
 use Rattle.std.proofs.lemmas.Bool.Decides.{nat_tests}
 use Rattle.std.proofs.lemmas.Fmt.{decimal-digits_value, decimal_digit, digits_decimal, digits_value-decimal, first_decimal}
@@ -42,8 +42,7 @@ reads name i h = by_case (is_decimal name && nat_lt (number_of name) index_end) 
         let small : number_of name < index_end = ltb-true (number_of name) index_end (right_of (is_decimal name) (nat_lt (number_of name) index_end) p) in
         let written = left_of (is_decimal name) (nat_lt (number_of name) index_end) p in
         let digits = right_of (begins_well name) (list_all is_digit name) written in
-        let front = begins name (left_of (begins_well name) (list_all is_digit name) written) in
-        (
+        let front = begins name (left_of (begins_well name) (list_all is_digit name) written) in (
           sym (decimal-digits_value own name digits front.0 front.1 (omega (arith, small))) ∙ ap decimal same,
           omega (arith, same, small),
         )

@@ -1,5 +1,5 @@
 -- What was put is got.
-use Rattle.std.proofs.Common.{◌≡◌, refl, sym, ap, subst, ◌∙◌, ℕ, ◌+◌, ◌<◌, Bool, true, false, ◌&&◌, not, List, [], ◌∷◌, ◌++◌, Option, Some, None, length, slice_set, option_map, unwrap_or, nat_eq, nat_le, nat_lt, bytes_eq, if◌then◌else◌, pos}
+use Rattle.std.proofs.Common.{◌≡◌, refl, sym, ap, subst, ◌∙◌, ℕ, ◌+◌, Bool, true, false, ◌&&◌, not, List, Option, Some, None, slice_set, option_map, unwrap_or, nat_eq, nat_le, nat_lt, bytes_eq, if◌then◌else◌}
 use Rattle.std.proofs.lemmas.Bool.{eqb-true}
 use Rattle.std.proofs.lemmas.List.{get_or-set_same}
 use Rattle.std.proofs.lemmas.Slice.Eq.{bytes_eq-Decides}
@@ -13,13 +13,12 @@ use Rattle.object_heap.specs.declared.property.Change.{Change}
 use Rattle.object_heap.specs.declared.property.Prop.{Prop}
 use Rattle.object_heap.specs.Attempt.{Attempt}
 use Rattle.object_heap.specs.Chain.{can_put, first_found, no_object, object_at, property_within}
-use Rattle.object_heap.specs.Define.{array_length, define, define_indexed, define_length, define_length_as, define_ordinary, defined_over, elements_below, end_kept, grown_over, has_writable_length, is_below, is_closed_at, length_name, number, put_change, put_own, shrunk, shrunk_to, valid_length, with_length_over, with_value}
+use Rattle.object_heap.specs.Define.{array_length, define, define_indexed, define_length, define_length_as, define_ordinary, defined_over, elements_below, end_kept, grown_over, has_writable_length, is_below, is_closed_at, length_name, number, put_change, put_own, shrunk, valid_length, with_length_over, with_value}
 use Rattle.object_heap.specs.Index.{index_of}
 use Rattle.object_heap.specs.Laws.{PutThenGet}
 use Rattle.object_heap.specs.Object.{is_list}
 use Rattle.object_heap.specs.Property.{Props, created, may_update, own_property, updated}
 use Rattle.object_heap.proofs.ArrayCalls.{valid_number}
-use Rattle.object_heap.proofs.Arrays.{index_is_not_length}
 use Rattle.object_heap.proofs.Lists.{apart, lookup_filter, lookup_last, lookup_set, lookup_set_other, same_key}
 
 -- the property of the name has the value

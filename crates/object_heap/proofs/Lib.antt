@@ -3,6 +3,7 @@ pub mod ArrayCalls
 pub mod Arrays
 pub mod Bindings
 pub mod Chains
+pub mod Counting
 pub mod Decimals
 pub mod Entries
 pub mod Frozen

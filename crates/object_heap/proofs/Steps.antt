@@ -1,5 +1,5 @@
 -- What any steps keep.
-use Rattle.std.proofs.Common.{◌≡◌, ◌⊎◌, inl, inr, refl, sym, ap, subst, ◌∙◌, ℕ, ◌<◌, ◌≤◌, Bool, IsTrue, true, false, List, [], ◌∷◌, Option, Some, None, length, slice_index_or, slice_set, bytes_eq}
+use Rattle.std.proofs.Common.{◌≡◌, ◌⊎◌, inl, inr, refl, sym, ap, subst, ◌∙◌, ℕ, ◌<◌, ◌≤◌, Bool, true, false, List, [], ◌∷◌, Some, length, slice_set, bytes_eq}
 use Rattle.std.proofs.lemmas.Bool.{cases_eq, cases_lt, ltb-true}
 use Rattle.std.proofs.lemmas.List.{get_or-set_other, set-get_or, set_past}
 use Rattle.std.proofs.lemmas.Slice.Eq.{bytes_eq-Decides}
@@ -15,7 +15,6 @@ use Rattle.object_heap.specs.Define.{array_length, is_below, length_in, number_i
 use Rattle.object_heap.specs.Heap.{Contents, IsSound, with_object}
 use Rattle.object_heap.specs.Index.{index_of}
 use Rattle.object_heap.specs.Laws.{FrozenStays, IsFrozen, LengthIsAbove, StaysSound, Step, after_step, after_steps, defines, deletes, prevents, puts}
-use Rattle.object_heap.specs.Object.{is_list}
 use Rattle.object_heap.specs.Property.{own_property}
 use Rattle.object_heap.proofs.Ages.{leads_set}
 use Rattle.object_heap.proofs.ArrayCalls.{define_own_proper, delete_own_proper, prevented_proper, put_own_proper}

@@ -1,5 +1,5 @@
 -- What the calls on the heap keep, in the language's own words.
-use Rattle.std.specs.Prelude.{◌≡◌, ◌↔◌, ℕ, ◌<◌, Bool, IsTrue, true, false, List, [], ◌∷◌, Option, Some, None, IsSome, length, bytes_eq}
+use Rattle.std.specs.Prelude.{◌≡◌, ◌↔◌, ℕ, ◌<◌, Bool, IsTrue, false, List, [], ◌∷◌, Some, None, IsSome, length, bytes_eq}
 use Rattle.std.specs.Fmt.{decimal}
 use Rattle.js_core.specs.declared.value.Value.{Value}
 use Rattle.object_heap.specs.declared.object.Object.{Object}
@@ -56,9 +56,9 @@ abbrev pub LooksOn : Type 0
 LooksOn =
     (h : Contents) (k : ℕ) (name : List ℕ) → IsSound h
     → (get_property h.objects k name
-      ≡ first_found (own_property (object_at h.objects k).props name) (object_at h.objects k).proto (λ q. get_property h.objects q name))
+    ≡ first_found (own_property (object_at h.objects k).props name) (object_at h.objects k).proto (λ q. get_property h.objects q name))
     × (lookup h.environments k name
-      ≡ first_bound k (value_of (environment_at h.environments k).names name) (environment_at h.environments k).outer (λ q. lookup h.environments q name))
+    ≡ first_bound k (value_of (environment_at h.environments k).names name) (environment_at h.environments k).outer (λ q. lookup h.environments q name))
 
 -- ages stay in order, and arrays arrays
 abbrev pub StaysSound : Type 0

@@ -1,6 +1,7 @@
 pub mod Array
 pub mod Attempt
 pub mod Chain
+pub mod Counted
 pub mod Define
 pub mod Environment
 pub mod Heap

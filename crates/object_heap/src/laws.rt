@@ -1,5 +1,6 @@
 //! What the calls on the heap keep, in the language's own words.
 
+ghost use Rattle.object_heap.specs.Counted.{ShrinksAsCounted};
 ghost use Rattle.object_heap.specs.Laws.{
   FrozenStays,
   IndicesAreDecimal,
@@ -30,6 +31,8 @@ pub fn chains_are_walked()
 pub fn arrays_are_kept()
     // An array index is what a number below 2^32 - 1 is written as.
     ensures indices_are_decimal { IndicesAreDecimal }
+    // A shrink leaves what deleting element by element from the top leaves.
+    ensures shrinks_as_counted { ShrinksAsCounted }
     // Whatever is put, defined or deleted, the length of an array is above the index of each element.
     ensures length_is_above { LengthIsAbove }
     // And prototypes stay older than what has them.
