@@ -13,7 +13,7 @@ use Rattle.js_core.specs.declared.token.Punct.TheVariants as punct
 use Rattle.js_print.specs.declared.lexeme.Keyword.{Keyword as Word}
 use Rattle.js_print.specs.declared.lexeme.Keyword.TheVariants as keyword
 use Rattle.js_print.specs.declared.lexeme.Lexeme.{Lexeme}
-use Rattle.js_print.specs.declared.lexeme.Lexeme.TheVariants.{Keyword, Name, Number, Text, Punct}
+use Rattle.js_print.specs.declared.lexeme.Lexeme.TheVariants.{Name, Punct}
 use Rattle.js_print.specs.declared.place.Place.{Place}
 use Rattle.js_print.specs.declared.place.Place.TheVariants.{Operand, Base, Constructor, Part, Whole, Statement}
 use Rattle.js_print.specs.Lexemes.{boolean_lexeme, updated, separator, maybe_name, more_names, names, maybe_var, expr_lexemes, parts_lexemes, more_parts_lexemes, hole_lexemes, holes_lexemes, fields_lexemes, more_fields_lexemes, code_lexemes, stmt_lexemes, stmts_lexemes, maybe_whole_lexemes, maybe_body_lexemes, maybe_catch_lexemes, initialiser_lexemes, declarators_lexemes, more_declarators_lexemes, init_lexemes, case_label_lexemes, cases_lexemes}

@@ -1,11 +1,9 @@
 -- Texts and lists of lexemes in which no `<` stands before a `/`.
-use Rattle.std.proofs.Common.{◌≡◌, ◌≢◌, ◌∙◌, ℕ, ◌/◌, ◌%◌, ◌<◌, Bool, true, false, nat_eq, List, [], ◌∷◌, ◌++◌, refl, sym, ap, append_assoc, arith}
-use Rattle.std.specs.Prelude.{not, ◌&&◌, ◌==◌, codes, if◌then◌else◌}
-use Rattle.std.specs.List.{list_all, flat_map}
+use Rattle.std.proofs.Common.{◌≡◌, ◌≢◌, ◌∙◌, ℕ, ◌<◌, Bool, true, false, List, [], ◌∷◌, ◌++◌, refl, sym, ap, arith}
+use Rattle.std.specs.Prelude.{not, ◌&&◌, ◌==◌, codes}
+use Rattle.std.specs.List.{list_all}
 use Rattle.std.specs.Char.{digit_char, to_ascii_uppercase}
 use Rattle.std.proofs.lemmas.Bool.Decides.{nat_tests}
-use Rattle.std.proofs.lemmas.List.Folds.{list_all-append}
-use Rattle.js_core.specs.LineText.{hex_digit_of, unit_escape}
 use Rattle.js_core.specs.declared.token.Punct.{Punct as Sign}
 use Rattle.js_core.specs.declared.token.Punct.TheVariants as punct
 use Rattle.js_print.specs.declared.lexeme.Keyword.{Keyword as Word}

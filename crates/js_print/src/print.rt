@@ -244,8 +244,8 @@ mod tests {
 
     // `function f(a,b){return;}`
     fn function(alloc: Global, node: StmtNode) -> Result<Code, Fail>
-        requires { stmt_height (stmt_of node) ≤ 400 }
-        ensures { IfOk result (λ c. code_height c ≤ 400) }
+        requires { stmt_height (stmt_of node) ≤ 300 }
+        ensures { IfOk result (λ c. code_height c ≤ 300) }
     {
         let mut formals = Vec::new(alloc);
         formals.push(Units::from_utf8(alloc, "a")?)?;
