@@ -1,8 +1,10 @@
 //! ASCII characters as 16-bit units.
 
-ghost use Rattle.std.specs.Prelude.{◌≡◌, ◌++◌, take, length, OnOk, OnErr};
+ghost use Rattle.std.specs.Prelude.{◌≡◌, ◌++◌, take, length, IfOk, OnOk, OnErr};
 
 use crate::memory::OutOfMemory;
+use crate::units::Units;
+use std::alloc::Global;
 
 /// Appends ASCII characters, each as its unit. After an error some of them may be appended.
 pub fn push_ascii(text: &[u8], out: &mut Vec<u16>) -> Result<(), OutOfMemory>
@@ -13,4 +15,13 @@ pub fn push_ascii(text: &[u8], out: &mut Vec<u16>) -> Result<(), OutOfMemory>
         out.push(u16::from(*code))?;
     }
     Ok(())
+}
+
+/// The text of ASCII characters.
+pub fn ascii_text(alloc: Global, text: &[u8]) -> Result<Units, OutOfMemory>
+    ensures { IfOk result (λ units. units ≡ text.now) }
+{
+    let mut units = Vec::new(alloc);
+    push_ascii(text, &mut units)?;
+    Units::of(alloc, units.as_slice())
 }

@@ -1,5 +1,8 @@
 //! Tokens.
 
+ghost use Rattle.std.specs.Prelude.{◌≡◌};
+ghost use Rattle.js_core.specs.Spelling as spec;
+
 use crate::units::Units;
 use crate::whole::Whole;
 
@@ -128,4 +131,62 @@ pub enum Punct {
     Slash,
     /// `/=`
     SlashAssign,
+}
+
+impl Punct {
+    /// How the punctuator is written.
+    pub fn text(self) -> &'static [u8]
+        ensures { result.now ≡ spec.punct_text self }
+    {
+        match self {
+            Punct::LeftBrace => b"{",
+            Punct::RightBrace => b"}",
+            Punct::LeftParenthesis => b"(",
+            Punct::RightParenthesis => b")",
+            Punct::LeftBracket => b"[",
+            Punct::RightBracket => b"]",
+            Punct::Dot => b".",
+            Punct::Semicolon => b";",
+            Punct::Comma => b",",
+            Punct::LessThan => b"<",
+            Punct::GreaterThan => b">",
+            Punct::LessThanOrEqual => b"<=",
+            Punct::GreaterThanOrEqual => b">=",
+            Punct::Equals => b"==",
+            Punct::NotEquals => b"!=",
+            Punct::StrictEquals => b"===",
+            Punct::StrictNotEquals => b"!==",
+            Punct::PlusSign => b"+",
+            Punct::MinusSign => b"-",
+            Punct::Star => b"*",
+            Punct::Percent => b"%",
+            Punct::PlusPlus => b"++",
+            Punct::MinusMinus => b"--",
+            Punct::ShiftLeft => b"<<",
+            Punct::ShiftRight => b">>",
+            Punct::ShiftRightUnsigned => b">>>",
+            Punct::Ampersand => b"&",
+            Punct::VerticalBar => b"|",
+            Punct::Caret => b"^",
+            Punct::ExclamationMark => b"!",
+            Punct::Tilde => b"~",
+            Punct::DoubleAmpersand => b"&&",
+            Punct::DoubleVerticalBar => b"||",
+            Punct::QuestionMark => b"?",
+            Punct::Colon => b":",
+            Punct::SimpleAssign => b"=",
+            Punct::PlusAssign => b"+=",
+            Punct::MinusAssign => b"-=",
+            Punct::StarAssign => b"*=",
+            Punct::PercentAssign => b"%=",
+            Punct::ShiftLeftAssign => b"<<=",
+            Punct::ShiftRightAssign => b">>=",
+            Punct::ShiftRightUnsignedAssign => b">>>=",
+            Punct::AmpersandAssign => b"&=",
+            Punct::VerticalBarAssign => b"|=",
+            Punct::CaretAssign => b"^=",
+            Punct::Slash => b"/",
+            Punct::SlashAssign => b"/=",
+        }
+    }
 }

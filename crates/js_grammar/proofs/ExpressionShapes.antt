@@ -2,7 +2,7 @@
 use Rattle.std.proofs.Common.{◌≡◌, ℕ, suc, ◌<◌, ◌≤◌, Bool, true, List, ◌∷◌, length, Option, Some, refl, arith}
 use Rattle.js_core.specs.Tree as tree
 use Rattle.js_core.specs.declared.token.Punct.TheVariants as p
-use Rattle.js_grammar.specs.declared.sign.Keyword.TheVariants as kw
+use Rattle.js_core.specs.declared.keyword.Keyword.TheVariants as kw
 use Rattle.js_grammar.specs.declared.sign.Sign.{Sign}
 use Rattle.js_grammar.specs.declared.sign.Sign.TheVariants.{Mark, Word}
 use Rattle.js_grammar.specs.Symbols.{Lexeme}
@@ -86,7 +86,7 @@ module _ (Exp : Bool → Level → Bool → Phrase tree.Expr) (Body : Phrase (Li
 begins_by : (s : Sign) {f : Prefix} → prefix_of (Some s) ≡ Some f → can_begin (Some s) ≡ true
 begins_by (Word kw.Delete) e = refl
 begins_by (Word kw.Void) e = refl
-begins_by (Word kw.TypeOf) e = refl
+begins_by (Word kw.Typeof) e = refl
 begins_by (Mark p.PlusSign) e = refl
 begins_by (Mark p.MinusSign) e = refl
 begins_by (Mark p.Tilde) e = refl

@@ -5,7 +5,7 @@ use Rattle.js_core.specs.Tree as tree
 use Rattle.js_core.specs.Tree.{maybe_expr, init_expr, init_var}
 use Rattle.js_core.specs.Height.{maybe_expr_height, stmt_height, stmts_height, for_init_height}
 use Rattle.js_core.specs.declared.token.Punct.TheVariants as p
-use Rattle.js_grammar.specs.declared.sign.Keyword.TheVariants as kw
+use Rattle.js_core.specs.declared.keyword.Keyword.TheVariants as kw
 use Rattle.js_grammar.specs.declared.sign.Sign.{Sign}
 use Rattle.js_grammar.specs.declared.sign.Sign.TheVariants.{Mark, Word}
 use Rattle.js_grammar.specs.Symbols.{identifier, Lexeme}

@@ -4,7 +4,7 @@ use Rattle.js_core.specs.Tree as tree
 use Rattle.js_core.specs.Tree.{exprs_of}
 use Rattle.js_core.specs.Height.{expr_height}
 use Rattle.js_core.specs.declared.token.Punct.TheVariants as p
-use Rattle.js_grammar.specs.declared.sign.Keyword.TheVariants as kw
+use Rattle.js_core.specs.declared.keyword.Keyword.TheVariants as kw
 use Rattle.js_grammar.specs.Symbols.{Symbol, Lexeme, member_name}
 use Rattle.js_grammar.specs.Operators.{Level, sequence, construction, member, is_suffix, prefix_of}
 use Rattle.js_grammar.specs.Parser.{Parser, Outcome, sign_at, sees, expect, eat, taken, repeat}

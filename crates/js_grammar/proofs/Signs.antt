@@ -7,7 +7,7 @@ use Rattle.js_core.specs.declared.token.Punct.TheVariants as p
 use Rattle.js_core.specs.declared.operators.BinaryOp.{BinaryOp}
 use Rattle.js_core.specs.declared.operators.BinaryOp.TheVariants as op
 use Rattle.js_core.specs.contracts.token.Punct as punct
-use Rattle.js_grammar.specs.contracts.sign.Keyword as keyword
+use Rattle.js_core.specs.contracts.keyword.Keyword as keyword
 use Rattle.js_grammar.specs.declared.sign.Sign.{Sign}
 use Rattle.js_grammar.specs.declared.sign.Sign.TheVariants.{Mark, Word}
 use Rattle.js_grammar.specs.Operators.{Infix, either, both, operation, infix_of, level_of, climbs_by, climbs, step_of, assignment_of, is_assignment_by, is_question, is_later, is_suffix, can_begin}

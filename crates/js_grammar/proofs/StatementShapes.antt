@@ -4,7 +4,7 @@ use Rattle.std.specs.Prelude.{◌||◌}
 use Rattle.js_core.specs.Tree as tree
 use Rattle.js_core.specs.declared.syntax.Declarator.{Declarator}
 use Rattle.js_core.specs.declared.token.Punct.TheVariants as p
-use Rattle.js_grammar.specs.declared.sign.Keyword.TheVariants as kw
+use Rattle.js_core.specs.declared.keyword.Keyword.TheVariants as kw
 use Rattle.js_grammar.specs.declared.sign.Sign.{Sign}
 use Rattle.js_grammar.specs.declared.sign.Sign.TheVariants.{Mark, Word}
 use Rattle.js_grammar.specs.Symbols.{Lexeme}

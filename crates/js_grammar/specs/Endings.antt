@@ -3,7 +3,7 @@ use Rattle.std.specs.Prelude.{Bool, true, false, not, ◌&&◌, ◌||◌, List, 
 use Rattle.js_core.specs.declared.token.Punct.TheVariants as p
 pub use Rattle.js_grammar.specs.declared.ending.Ending.{Ending}
 pub use Rattle.js_grammar.specs.declared.ending.Ending.TheVariants.{AfterExpression as after_expression, AfterName as after_name, AfterAll as after_all}
-use Rattle.js_grammar.specs.declared.sign.Keyword.TheVariants as kw
+use Rattle.js_core.specs.declared.keyword.Keyword.TheVariants as kw
 use Rattle.js_grammar.specs.declared.sign.Sign.{Sign}
 use Rattle.js_grammar.specs.declared.sign.Sign.TheVariants.{Mark, Word}
 use Rattle.js_grammar.specs.Symbols.{Lexeme}

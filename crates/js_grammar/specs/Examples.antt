@@ -7,8 +7,8 @@ use Rattle.js_core.specs.declared.token.TokenKind.{TokenKind}
 use Rattle.js_core.specs.declared.token.TokenKind.TheVariants as kind
 use Rattle.js_core.specs.declared.token.Punct.{Punct}
 use Rattle.js_core.specs.declared.token.Punct.TheVariants as p
-use Rattle.js_grammar.specs.declared.sign.Keyword.{Keyword}
-use Rattle.js_grammar.specs.Symbols.{spelling}
+use Rattle.js_core.specs.declared.keyword.Keyword.{Keyword}
+use Rattle.js_core.specs.Spelling.{keyword_text}
 use Rattle.js_grammar.specs.Scripts.{height_limit}
 use Rattle.js_grammar.specs.ScriptReader.{read_script}
 
@@ -23,7 +23,7 @@ abbrev pub mark : Punct → Token
 mark m = token (kind.Punct m)
 
 abbrev pub word : Keyword → Token
-word w = token (kind.Word (spelling w))
+word w = token (kind.Word (keyword_text w))
 
 abbrev pub named : List ℕ → Token
 named w = token (kind.Word w)

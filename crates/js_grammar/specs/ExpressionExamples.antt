@@ -4,7 +4,7 @@ use Rattle.js_core.specs.Tree.{num, text, bool, null, this, list, literal, func,
 use Rattle.js_core.specs.declared.token.Punct.TheVariants as p
 use Rattle.js_core.specs.declared.operators.UnaryOp.TheVariants as un
 use Rattle.js_core.specs.declared.operators.BinaryOp.TheVariants as op
-use Rattle.js_grammar.specs.declared.sign.Keyword.TheVariants as kw
+use Rattle.js_core.specs.declared.keyword.Keyword.TheVariants as kw
 use Rattle.js_grammar.specs.Examples.{mark, word, named, numeral, string, semicolon, a, b, c, A, B, C, Example, script, refused}
 
 -- operators group as the standard has them
@@ -75,7 +75,7 @@ operators =
     ∷  -- !a in b;
     (mark p.ExclamationMark ∷ a ∷ word kw.In ∷ b ∷ semicolon ∷ [], script (expr (binary op.Within (unary un.Not A) B) ∷ []))
     ∷  -- typeof a.b;
-    (word kw.TypeOf ∷ a ∷ mark p.Dot ∷ b ∷ semicolon ∷ [], script (expr (unary un.Typeof (member A (codes "b"))) ∷ []))
+    (word kw.Typeof ∷ a ∷ mark p.Dot ∷ b ∷ semicolon ∷ [], script (expr (unary un.Typeof (member A (codes "b"))) ∷ []))
     ∷  -- delete a[b];
     (word kw.Delete ∷ a ∷ mark p.LeftBracket ∷ b ∷ mark p.RightBracket ∷ semicolon ∷ [], script (expr (unary un.Delete (index A B)) ∷ []))
     ∷  -- void+~a;

@@ -8,7 +8,7 @@ use Rattle.js_core.specs.Tree as tree
 use Rattle.js_core.specs.Tree.{exprs_of, holes_of, fields_of, stmts_of, code}
 use Rattle.js_core.specs.declared.token.Punct.TheVariants as p
 use Rattle.js_core.specs.declared.operators.BinaryOp.{BinaryOp}
-use Rattle.js_grammar.specs.declared.sign.Keyword.TheVariants as kw
+use Rattle.js_core.specs.declared.keyword.Keyword.TheVariants as kw
 use Rattle.js_grammar.specs.declared.sign.Sign.{Sign}
 use Rattle.js_grammar.specs.Symbols.{Symbol, sign, identifier, number, text, Lexeme, member_name, field_name}
 use Rattle.js_grammar.specs.Operators.{Level, sequence, assignment, binary, construction, member, Infix, infix_of, level_of, combined, Prefix, prefix_of, prefixed, step_of, assignment_of}

@@ -11,7 +11,7 @@ pub use Rattle.js_grammar.specs.declared.operators.Infix.{Infix}
 pub use Rattle.js_grammar.specs.declared.operators.Infix.TheVariants.{Either as either, Both as both, Operation as operation}
 pub use Rattle.js_grammar.specs.declared.operators.Prefix.{Prefix}
 pub use Rattle.js_grammar.specs.declared.operators.Prefix.TheVariants.{Operator as operator, Step as step}
-use Rattle.js_grammar.specs.declared.sign.Keyword.TheVariants as kw
+use Rattle.js_core.specs.declared.keyword.Keyword.TheVariants as kw
 use Rattle.js_grammar.specs.declared.sign.Sign.{Sign}
 use Rattle.js_grammar.specs.declared.sign.Sign.TheVariants.{Mark, Word}
 
@@ -98,7 +98,7 @@ step_of s = None
 abbrev pub prefix_of : Option Sign → Option Prefix
 prefix_of (Some (Word kw.Delete)) = Some (operator un.Delete)
 prefix_of (Some (Word kw.Void)) = Some (operator un.Void)
-prefix_of (Some (Word kw.TypeOf)) = Some (operator un.Typeof)
+prefix_of (Some (Word kw.Typeof)) = Some (operator un.Typeof)
 prefix_of (Some (Mark p.PlusSign)) = Some (operator un.Plus)
 prefix_of (Some (Mark p.MinusSign)) = Some (operator un.Minus)
 prefix_of (Some (Mark p.Tilde)) = Some (operator un.BitNot)
@@ -163,7 +163,7 @@ can_begin (Some (Word kw.Function)) = true
 can_begin (Some (Word kw.New)) = true
 can_begin (Some (Word kw.Delete)) = true
 can_begin (Some (Word kw.Void)) = true
-can_begin (Some (Word kw.TypeOf)) = true
+can_begin (Some (Word kw.Typeof)) = true
 can_begin (Some (Mark p.LeftParenthesis)) = true
 can_begin (Some (Mark p.LeftBracket)) = true
 can_begin (Some (Mark p.LeftBrace)) = true

@@ -3,7 +3,7 @@ use Rattle.std.specs.Prelude.{ℕ, zero, suc, Bool, true, false, nat_le, if◌th
 use denote.Enum.Bare.{sameb}
 use Rattle.js_core.specs.declared.token.Punct.TheVariants as p
 use Rattle.js_core.specs.contracts.token.Punct as punct
-use Rattle.js_grammar.specs.contracts.sign.Keyword as keyword
+use Rattle.js_core.specs.contracts.keyword.Keyword as keyword
 use Rattle.js_grammar.specs.declared.sign.Sign.{Sign}
 use Rattle.js_grammar.specs.declared.sign.Sign.TheVariants.{Mark, Word}
 use Rattle.js_grammar.specs.Symbols.{Symbol, sign, Lexeme}

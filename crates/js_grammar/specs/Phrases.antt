@@ -2,7 +2,7 @@
 use Rattle.std.specs.Prelude.{ℕ, Bool, List, [], ◌∷◌, ◌++◌}
 use Rattle.js_core.specs.declared.token.Punct.{Punct}
 use Rattle.js_core.specs.declared.token.Punct.TheVariants as p
-use Rattle.js_grammar.specs.declared.sign.Keyword.{Keyword}
+use Rattle.js_core.specs.declared.keyword.Keyword.{Keyword}
 use Rattle.js_grammar.specs.declared.sign.Sign.TheVariants.{Mark, Word}
 use Rattle.js_grammar.specs.Symbols.{sign, identifier, Lexeme}
 

@@ -4,7 +4,7 @@ use Rattle.js_core.specs.Tree.{name, num, list, literal, func, member, index, ca
 use Rattle.js_core.specs.declared.token.Punct.TheVariants as p
 use Rattle.js_core.specs.declared.operators.UnaryOp.TheVariants as un
 use Rattle.js_core.specs.declared.operators.BinaryOp.TheVariants as op
-use Rattle.js_grammar.specs.declared.sign.Keyword.TheVariants as kw
+use Rattle.js_core.specs.declared.keyword.Keyword.TheVariants as kw
 use Rattle.js_grammar.specs.Examples.{mark, word, named, numeral, below, semicolon, a, b, c, A, B, C, Example, script, refused}
 
 -- where semicolons may be missing; those of section 7.9.2 first

@@ -5,7 +5,7 @@ use Rattle.js_core.specs.Tree.{maybe_expr, stmts_of, no_body, one_body, no_catch
 use Rattle.js_core.specs.Views.{declarators_of}
 use Rattle.js_core.specs.declared.syntax.Declarator.{Declarator}
 use Rattle.js_core.specs.declared.token.Punct.TheVariants as p
-use Rattle.js_grammar.specs.declared.sign.Keyword.TheVariants as kw
+use Rattle.js_core.specs.declared.keyword.Keyword.TheVariants as kw
 use Rattle.js_grammar.specs.declared.sign.Sign.TheVariants.{Word}
 use Rattle.js_grammar.specs.Symbols.{identifier, Lexeme}
 use Rattle.js_grammar.specs.Operators.{Level}

@@ -8,7 +8,7 @@ use Rattle.unicode_ident.specs.Ident.{is_xid_start, is_xid_continue}
 use Rattle.unicode_ident.proofs.IdentLemmas.{is_xid_start-ascii, is_xid_continue-ascii, is_xid_start-is_xid_continue}
 use Rattle.js_core.specs.declared.token.Punct.{Punct}
 use Rattle.js_core.specs.declared.token.Punct.TheVariants.{ShiftRightUnsignedAssign, StrictEquals, StrictNotEquals, ShiftRightUnsigned, ShiftLeftAssign, ShiftRightAssign, LessThanOrEqual, GreaterThanOrEqual, Equals, NotEquals, PlusPlus, MinusMinus, ShiftLeft, ShiftRight, DoubleAmpersand, DoubleVerticalBar, PlusAssign, MinusAssign, StarAssign, PercentAssign, AmpersandAssign, VerticalBarAssign, CaretAssign, SlashAssign, LeftBrace, RightBrace, LeftParenthesis, RightParenthesis, LeftBracket, RightBracket, Dot, Semicolon, Comma, LessThan, GreaterThan, PlusSign, MinusSign, Star, Percent, Ampersand, VerticalBar, Caret, ExclamationMark, Tilde, QuestionMark, Colon, SimpleAssign, Slash}
-use Rattle.js_lexer.specs.Punctuators.{spelling}
+use Rattle.js_core.specs.Spelling.{punct_text}
 use Rattle.js_lexer.specs.Characters.{is_identifier_start, is_identifier_part, is_decimal_digit, is_quote, is_surrogate, begins_with}
 
 -- an ASCII letter, `$` or `_`
@@ -109,7 +109,7 @@ class_of_other text q d s = rw (q, d, s)
 pub is_plain : ℕ → Bool
 is_plain u = nat_lt u 128 && not (is_ascii_start u) && not (is_decimal_digit u) && not (is_quote u)
 
-pub plain_first : (p : Punct) → begins_with is_plain (spelling p) ≡ true
+pub plain_first : (p : Punct) → begins_with is_plain (punct_text p) ≡ true
 unfolding is_plain
 plain_first ShiftRightUnsignedAssign = refl
 plain_first StrictEquals = refl
@@ -183,5 +183,5 @@ plain_is_other (u ∷ us) e =
     let low : u < 128 = grind (arith, nat_tests) in
     class_of_other (u ∷ us) all.3 all.2 (start_of_ascii u low ∙ all.1)
 
-pub punctuator_is_other : (text rest : List ℕ) (p : Punct) → text ≡ spelling p ++ rest → class_of text ≡ Other
-punctuator_is_other text rest p e = plain_is_other text (rw e (first_of_both is_plain (spelling p) rest (plain_first p)))
+pub punctuator_is_other : (text rest : List ℕ) (p : Punct) → text ≡ punct_text p ++ rest → class_of text ≡ Other
+punctuator_is_other text rest p e = plain_is_other text (rw e (first_of_both is_plain (punct_text p) rest (plain_first p)))

@@ -7,7 +7,8 @@ use Rattle.std.proofs.lemmas.Bool.Decides.{nat_tests}
 use Rattle.std.proofs.lemmas.List.{append_cancel_left}
 use Rattle.js_core.specs.declared.token.Punct.{Punct}
 use Rattle.js_core.specs.declared.token.Punct.TheVariants.{Ampersand, AmpersandAssign, Caret, CaretAssign, Colon, Comma, Dot, DoubleAmpersand, DoubleVerticalBar, Equals, ExclamationMark, GreaterThan, GreaterThanOrEqual, LeftBrace, LeftBracket, LeftParenthesis, LessThan, LessThanOrEqual, MinusAssign, MinusMinus, MinusSign, NotEquals, Percent, PercentAssign, PlusAssign, PlusPlus, PlusSign, QuestionMark, RightBrace, RightBracket, RightParenthesis, Semicolon, ShiftLeft, ShiftLeftAssign, ShiftRight, ShiftRightAssign, ShiftRightUnsigned, ShiftRightUnsignedAssign, SimpleAssign, Slash, SlashAssign, Star, StarAssign, StrictEquals, StrictNotEquals, Tilde, VerticalBar, VerticalBarAssign}
-use Rattle.js_lexer.specs.Punctuators.{spelling, opens_comment, StandsAt}
+use Rattle.js_core.specs.Spelling.{punct_text}
+use Rattle.js_lexer.specs.Punctuators.{opens_comment, StandsAt}
 use Rattle.js_lexer.specs.Reading.{is_front, punctuators}
 use Rattle.js_lexer.proofs.Runs.{and_left, and_right}
 
@@ -29,38 +30,38 @@ front_within [] us e = omega arith
 front_within (c ∷ cs) [] e = absurd (cc)
 front_within (c ∷ cs) (u ∷ us) e = omega (arith, front_within cs us (and_right (u == c) (is_front cs us) e))
 
--- each spelling is at least as long as those behind it
+-- each punct_text is at least as long as those behind it
 abbrev falling : List Punct → Bool
 falling [] = true
-falling (p ∷ ps) = list_all (λ q. nat_le (length (spelling q)) (length (spelling p))) ps && falling ps
+falling (p ∷ ps) = list_all (λ q. nat_le (length (punct_text q)) (length (punct_text p))) ps && falling ps
 
 module _ (text : List ℕ) where
   abbrev stands : Punct → Bool
-  stands p = is_front (spelling p) text
+  stands p = is_front (punct_text p) text
 
   abbrev NoLonger : ℕ → List Punct → Type 0
-  NoLonger n ps = (k : ℕ) (d : Punct) → k < length ps → stands (get_or ps k d) ≡ true → length (spelling (get_or ps k d)) ≤ n
+  NoLonger n ps = (k : ℕ) (d : Punct) → k < length ps → stands (get_or ps k d) ≡ true → length (punct_text (get_or ps k d)) ≤ n
 
-  shorter : (n : ℕ) (ps : List Punct) → list_all (λ q. nat_le (length (spelling q)) n) ps ≡ true → NoLonger n ps
+  shorter : (n : ℕ) (ps : List Punct) → list_all (λ q. nat_le (length (punct_text q)) n) ps ≡ true → NoLonger n ps
   shorter n [] e k d l s = absurd (omega arith)
-  shorter n (p ∷ ps) e zero d l s = let t = and_left (nat_le (length (spelling p)) n) _ e in grind (arith, nat_tests)
-  shorter n (p ∷ ps) e (suc k) d l s = shorter n ps (and_right (nat_le (length (spelling p)) n) _ e) k d (omega arith) s
+  shorter n (p ∷ ps) e zero d l s = let t = and_left (nat_le (length (punct_text p)) n) _ e in grind (arith, nat_tests)
+  shorter n (p ∷ ps) e (suc k) d l s = shorter n ps (and_right (nat_le (length (punct_text p)) n) _ e) k d (omega arith) s
 
-  first_is_longest : (ps : List Punct) (p : Punct) → falling ps ≡ true → find stands ps ≡ Some p → (stands p ≡ true) × NoLonger (length (spelling p)) ps
+  first_is_longest : (ps : List Punct) (p : Punct) → falling ps ≡ true → find stands ps ≡ Some p → (stands p ≡ true) × NoLonger (length (punct_text p)) ps
   first_is_longest [] p f e = absurd (cc)
-  first_is_longest (q ∷ ps) p f e = by_case (stands q) refl e (first_is_longest ps p (and_right (list_all (λ r. nat_le (length (spelling r)) (length (spelling q))) ps) (falling ps) f))
+  first_is_longest (q ∷ ps) p f e = by_case (stands q) refl e (first_is_longest ps p (and_right (list_all (λ r. nat_le (length (punct_text r)) (length (punct_text q))) ps) (falling ps) f))
     where
-      by_case : (b : Bool) → stands q ≡ b → cond b (Some q) (find stands ps) ≡ Some p → (find stands ps ≡ Some p → (stands p ≡ true) × NoLonger (length (spelling p)) ps) → (stands p ≡ true) × NoLonger (length (spelling p)) (q ∷ ps)
+      by_case : (b : Bool) → stands q ≡ b → cond b (Some q) (find stands ps) ≡ Some p → (find stands ps ≡ Some p → (stands p ≡ true) × NoLonger (length (punct_text p)) ps) → (stands p ≡ true) × NoLonger (length (punct_text p)) (q ∷ ps)
       by_case true s e rest =
           let same : q ≡ p = cc in
-          (subst (λ r. stands r ≡ true) same s, subst (λ r. NoLonger (length (spelling r)) (q ∷ ps)) same here)
+          (subst (λ r. stands r ≡ true) same s, subst (λ r. NoLonger (length (punct_text r)) (q ∷ ps)) same here)
         where
-          here : NoLonger (length (spelling q)) (q ∷ ps)
+          here : NoLonger (length (punct_text q)) (q ∷ ps)
           here zero d l h = omega arith
-          here (suc k) d l h = shorter (length (spelling q)) ps (and_left (list_all (λ r. nat_le (length (spelling r)) (length (spelling q))) ps) (falling ps) f) k d (omega arith) h
+          here (suc k) d l h = shorter (length (punct_text q)) ps (and_left (list_all (λ r. nat_le (length (punct_text r)) (length (punct_text q))) ps) (falling ps) f) k d (omega arith) h
       by_case false s e rest = let r = rest e in (r.0, there r.1)
         where
-          there : NoLonger (length (spelling p)) ps → NoLonger (length (spelling p)) (q ∷ ps)
+          there : NoLonger (length (punct_text p)) ps → NoLonger (length (punct_text p)) (q ∷ ps)
           there more zero d l h = absurd (cc (s, h))
           there more (suc k) d l h = more k d (omega arith) h
 
@@ -130,9 +131,9 @@ place_of SimpleAssign = record { place = 46; below = lit< tt; there = refl }
 place_of Slash = record { place = 47; below = lit< tt; there = refl }
 
 named : List ℕ → Option Punct
-named cs = find (λ p. bytes_eq (spelling p) cs) punctuators
+named cs = find (λ p. bytes_eq (punct_text p) cs) punctuators
 
-by_name : (p : Punct) → named (spelling p) ≡ Some p
+by_name : (p : Punct) → named (punct_text p) ≡ Some p
 unfolding named
 by_name ShiftRightUnsignedAssign = refl
 by_name StrictEquals = refl
@@ -183,21 +184,21 @@ by_name Colon = refl
 by_name SimpleAssign = refl
 by_name Slash = refl
 
-pub no_longer : (text : List ℕ) (p other : Punct) (tail : List ℕ) → find (stands text) punctuators ≡ Some p → text ≡ spelling other ++ tail → length (spelling other) ≤ length (spelling p)
+pub no_longer : (text : List ℕ) (p other : Punct) (tail : List ℕ) → find (stands text) punctuators ≡ Some p → text ≡ punct_text other ++ tail → length (punct_text other) ≤ length (punct_text p)
 no_longer text p other tail e is =
     let place = place_of other in
-    let front : is_front (spelling other) text ≡ true = rw is (front_of (spelling other) tail) in
-    subst (λ q. stands text q ≡ true → length (spelling q) ≤ length (spelling p)) place.there ((first_is_longest text punctuators p refl e).1 place.place LeftBrace place.below) front
+    let front : is_front (punct_text other) text ≡ true = rw is (front_of (punct_text other) tail) in
+    subst (λ q. stands text q ≡ true → length (punct_text q) ≤ length (punct_text p)) place.there ((first_is_longest text punctuators p refl e).1 place.place LeftBrace place.below) front
 
-pub first_stands : (text : List ℕ) (p : Punct) → find (stands text) punctuators ≡ Some p → is_front (spelling p) text ≡ true
+pub first_stands : (text : List ℕ) (p : Punct) → find (stands text) punctuators ≡ Some p → is_front (punct_text p) text ≡ true
 first_stands text p e = (first_is_longest text punctuators p refl e).0
 
-pub first_within : (text cs : List ℕ) (p : Punct) → cs ≡ spelling p → Some p ≡ find (stands text) punctuators → length cs ≤ length text
-first_within text cs p s e = rw s (front_within (spelling p) text (first_stands text p (sym e)))
+pub first_within : (text cs : List ℕ) (p : Punct) → cs ≡ punct_text p → Some p ≡ find (stands text) punctuators → length cs ≤ length text
+first_within text cs p s e = rw s (front_within (punct_text p) text (first_stands text p (sym e)))
 
-pub stands_here : (text behind cs : List ℕ) (p : Punct) → cs ≡ spelling p → Some p ≡ find (stands text) punctuators → behind ≡ drop (length cs) text → opens_comment text ≡ false → StandsAt text behind p
+pub stands_here : (text behind cs : List ℕ) (p : Punct) → cs ≡ punct_text p → Some p ≡ find (stands text) punctuators → behind ≡ drop (length cs) text → opens_comment text ≡ false → StandsAt text behind p
 stands_here text behind cs p s e b free = record {
-  spelled = rw (b, s) (front_splits (spelling p) text (first_stands text p (sym e)));
+  spelled = rw (b, s) (front_splits (punct_text p) text (first_stands text p (sym e)));
   longest = λ other tail is. no_longer text p other tail (sym e) is;
   no_comment = free;
 }
@@ -205,8 +206,8 @@ stands_here text behind cs p s e b free = record {
 pub no_punctuator : (text : List ℕ) → find (stands text) punctuators ≡ None → (rest : List ℕ) (p : Punct) → StandsAt text rest p → ⊥
 no_punctuator text e rest p s =
     let place = place_of p in
-    let front : is_front (spelling p) text ≡ true = rw s.spelled (front_of (spelling p) rest) in
-    let absent : is_front (spelling p) text ≡ false = subst (λ q. stands text q ≡ false) place.there (none_stands text punctuators e place.place LeftBrace place.below) in
+    let front : is_front (punct_text p) text ≡ true = rw s.spelled (front_of (punct_text p) rest) in
+    let absent : is_front (punct_text p) text ≡ false = subst (λ q. stands text q ≡ false) place.there (none_stands text punctuators e place.place LeftBrace place.below) in
     absurd (cc)
 
 -- two fronts of one length are the same
@@ -221,8 +222,8 @@ same_front (c ∷ cs) (d ∷ ds) rest more e l =
 -- one punctuator stands at one place
 pub stands_once : (text rest more : List ℕ) (p q : Punct) → StandsAt text rest p → StandsAt text more q → (rest ≡ more) × (p ≡ q)
 stands_once text rest more p q a b =
-    let both : spelling p ++ rest ≡ spelling q ++ more = sym a.spelled ∙ b.spelled in
-    let long : length (spelling p) ≡ length (spelling q) = omega (arith, a.longest q more b.spelled, b.longest p rest a.spelled) in
-    let same : spelling p ≡ spelling q = same_front (spelling p) (spelling q) rest more both long in
+    let both : punct_text p ++ rest ≡ punct_text q ++ more = sym a.spelled ∙ b.spelled in
+    let long : length (punct_text p) ≡ length (punct_text q) = omega (arith, a.longest q more b.spelled, b.longest p rest a.spelled) in
+    let same : punct_text p ≡ punct_text q = same_front (punct_text p) (punct_text q) rest more both long in
     let one : Some p ≡ Some q = sym (by_name p) ∙ ap named same ∙ by_name q in
-    (append_cancel_left (spelling q) rest more (ap (λ cs. cs ++ rest) (sym same) ∙ both), cc)
+    (append_cancel_left (punct_text q) rest more (ap (λ cs. cs ++ rest) (sym same) ∙ both), cc)

@@ -2,8 +2,9 @@
 use Rattle.std.proofs.Common.{◌≡◌, ◌∙◌, ℕ, ◌+◌, ◌*◌, ◌≤◌, Bool, true, false, cond, not, ◌&&◌, ◌||◌, ◌==◌, List, [], ◌∷◌, ◌++◌, length, drop, Option, Some, None, refl, sym, ap, subst, length-append, arith}
 use Rattle.std.specs.List.{list_all}
 use Rattle.js_core.specs.declared.token.TokenKind.{TokenKind}
-use Rattle.js_lexer.specs.Characters.{is_identifier_part, is_decimal_digit, is_hex_digit, is_line_end, begins_with}
-use Rattle.js_lexer.specs.Punctuators.{spelling}
+use Rattle.js_core.specs.Characters.{is_line_end}
+use Rattle.js_lexer.specs.Characters.{is_identifier_part, is_decimal_digit, is_hex_digit, begins_with}
+use Rattle.js_core.specs.Spelling.{punct_text}
 use Rattle.js_lexer.specs.Reading.{is_literal_part}
 use Rattle.js_lexer.specs.Strings.{Character, unit_escaped_by, hex_pair, pair_escape, with_pair, quad_escape, escape_of, character_of, Closes}
 use Rattle.js_lexer.specs.Strings.Closes.{here, later}
@@ -165,6 +166,6 @@ longest text rest units tail what other (string quote behind r value q h) e at =
         omega (arith, ap length tails, length-append us tail)
 longest text rest units tail what other (punctuator t r punct s) e at =
     let o = punct_of units [] other (class_of_front t units tail other e at ∙ punct_class t r punct s) at in
-    let whole : units ≡ spelling o.punct = o.at.spelled ∙ append_none (spelling o.punct) in
+    let whole : units ≡ punct_text o.punct = o.at.spelled ∙ append_none (punct_text o.punct) in
     let less = s.longest o.punct tail (e ∙ ap (λ us. us ++ tail) whole) in
-    omega (arith, lengths t (spelling punct) r s.spelled, ap length whole)
+    omega (arith, lengths t (punct_text punct) r s.spelled, ap length whole)

@@ -11,7 +11,8 @@ use Rattle.js_core.specs.declared.token.TokenKind.{TokenKind}
 use Rattle.js_core.specs.declared.token.TokenKind.TheVariants.{Word, Number, Text, Punct as Punctuator}
 use Rattle.js_lexer.specs.Characters.{is_identifier_start, is_identifier_part, is_decimal_digit, is_quote, begins_with}
 use Rattle.js_lexer.specs.Numbers.{value_in, value_behind_zero, value_of, is_refused_behind_number}
-use Rattle.js_lexer.specs.Punctuators.{spelling, StandsAt}
+use Rattle.js_core.specs.Spelling.{punct_text}
+use Rattle.js_lexer.specs.Punctuators.{StandsAt}
 use Rattle.js_lexer.specs.Reading.{whole_from, is_literal_part}
 use Rattle.js_lexer.specs.Strings.{Closes}
 use Rattle.js_lexer.specs.Tokens.{WordAt, NumberAt, TokenAt}
@@ -265,7 +266,7 @@ pub shorter : (text rest : List ℕ) (what : TokenKind) → TokenAt text rest wh
 shorter text rest what (word t units r w) other = longer_by is_identifier_start t units r w.joined w.starts
 shorter text rest what (number t r value n) other = longer_by is_decimal_digit t n.units r n.joined (literal_begins n.units value n.writes)
 shorter text rest what (string quote behind r value q h) other = absurd (other (string_class quote behind q))
-shorter text rest what (punctuator t r punct s) other = longer_by is_plain t (spelling punct) r s.spelled (plain_first punct)
+shorter text rest what (punctuator t r punct s) other = longer_by is_plain t (punct_text punct) r s.spelled (plain_first punct)
 
 end_is_other : class_of [] ≡ Other
 unfolding class_of

@@ -3,7 +3,6 @@ pub mod Directives
 pub mod Numbers
 pub mod Punctuators
 pub mod Reading
-pub mod ReservedWords
 pub mod Separators
 pub mod Strings
 pub mod Tokens

@@ -1,7 +1,8 @@
 -- What stands between tokens: white space, line ends and comments.
 use Rattle.std.specs.Prelude.{◌≡◌, ℕ, Bool, true, false, not, ◌||◌, ◌&&◌, ◌==◌, if◌then◌else◌, List, [], ◌∷◌, drop, Option, Some, None}
 use Rattle.std.specs.List.{prefix_len}
-use Rattle.js_lexer.specs.Characters.{is_white_space, is_line_end, begins_with}
+use Rattle.js_core.specs.Characters.{is_white_space, is_line_end}
+use Rattle.js_lexer.specs.Characters.{begins_with}
 
 -- a line end stands before this part too, or not
 abbrev pub with_line_end : Bool → Option (Bool × List ℕ) → Option (Bool × List ℕ)

@@ -1,7 +1,8 @@
 -- String literals (section 7.8.4).
 use Rattle.std.specs.Prelude.{◌≡◌, ℕ, ◌+◌, ◌*◌, not, ◌||◌, ◌&&◌, ◌==◌, if◌then◌else◌, List, [], ◌∷◌, drop, Option, Some, None}
 use Rattle.std.specs.Char.{digit_value}
-use Rattle.js_lexer.specs.Characters.{is_line_end, is_decimal_digit, is_hex_digit, begins_with}
+use Rattle.js_core.specs.Characters.{is_line_end}
+use Rattle.js_lexer.specs.Characters.{is_decimal_digit, is_hex_digit, begins_with}
 
 -- what a character of a literal stands for, one unit or nothing, and what stands behind it
 abbrev pub Character : Type 0

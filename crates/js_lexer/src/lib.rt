@@ -11,4 +11,3 @@ mod strings;
 #[cfg(test)]
 mod tests;
 pub mod tokens;
-pub mod words;

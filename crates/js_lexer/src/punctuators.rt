@@ -2,6 +2,7 @@
 
 ghost use Rattle.std.specs.Prelude.{◌≡◌, ℕ, List, MatchOption};
 ghost use Rattle.std.specs.List.{find};
+ghost use Rattle.js_core.specs.Spelling.{punct_text};
 ghost use Rattle.js_core.specs.declared.token.Punct.{Punct as Punctuator};
 ghost use Rattle.js_lexer.specs.Punctuators as spec;
 ghost use Rattle.js_lexer.specs.Punctuators.{StandsAt};
@@ -61,62 +62,6 @@ const PUNCTUATORS: [Punct; 48] = [
     Punct::Slash,
 ];
 
-/// How the punctuator is written.
-fn spelling(punct: Punct) -> &'static [u8]
-    ensures { result.now ≡ spec.spelling punct }
-{
-    match punct {
-        Punct::LeftBrace => b"{",
-        Punct::RightBrace => b"}",
-        Punct::LeftParenthesis => b"(",
-        Punct::RightParenthesis => b")",
-        Punct::LeftBracket => b"[",
-        Punct::RightBracket => b"]",
-        Punct::Dot => b".",
-        Punct::Semicolon => b";",
-        Punct::Comma => b",",
-        Punct::LessThan => b"<",
-        Punct::GreaterThan => b">",
-        Punct::LessThanOrEqual => b"<=",
-        Punct::GreaterThanOrEqual => b">=",
-        Punct::Equals => b"==",
-        Punct::NotEquals => b"!=",
-        Punct::StrictEquals => b"===",
-        Punct::StrictNotEquals => b"!==",
-        Punct::PlusSign => b"+",
-        Punct::MinusSign => b"-",
-        Punct::Star => b"*",
-        Punct::Percent => b"%",
-        Punct::PlusPlus => b"++",
-        Punct::MinusMinus => b"--",
-        Punct::ShiftLeft => b"<<",
-        Punct::ShiftRight => b">>",
-        Punct::ShiftRightUnsigned => b">>>",
-        Punct::Ampersand => b"&",
-        Punct::VerticalBar => b"|",
-        Punct::Caret => b"^",
-        Punct::ExclamationMark => b"!",
-        Punct::Tilde => b"~",
-        Punct::DoubleAmpersand => b"&&",
-        Punct::DoubleVerticalBar => b"||",
-        Punct::QuestionMark => b"?",
-        Punct::Colon => b":",
-        Punct::SimpleAssign => b"=",
-        Punct::PlusAssign => b"+=",
-        Punct::MinusAssign => b"-=",
-        Punct::StarAssign => b"*=",
-        Punct::PercentAssign => b"%=",
-        Punct::ShiftLeftAssign => b"<<=",
-        Punct::ShiftRightAssign => b">>=",
-        Punct::ShiftRightUnsignedAssign => b">>>=",
-        Punct::AmpersandAssign => b"&=",
-        Punct::VerticalBarAssign => b"|=",
-        Punct::CaretAssign => b"^=",
-        Punct::Slash => b"/",
-        Punct::SlashAssign => b"/=",
-    }
-}
-
 /// Whether the text begins with these codes.
 fn begins_with(text: &[u16], codes: &[u8]) -> bool
     ensures { result ≡ is_front codes.now text.now }
@@ -138,12 +83,12 @@ fn begins_with(text: &[u16], codes: &[u8]) -> bool
 
 /// The first punctuator of the table with which the text begins.
 fn first_punctuator(text: &[u16]) -> Option<Punct>
-    ensures { result ≡ find (λ punct. is_front (spec.spelling punct) text.now) punctuators }
+    ensures { result ≡ find (λ punct. is_front (punct_text punct) text.now) punctuators }
 {
     PUNCTUATORS
         .iter()
         .copied()
-        .find(|punct| begins_with(text, spelling(*punct)))
+        .find(|punct| begins_with(text, punct.text()))
 }
 
 /// The longest punctuator with which the text begins, and what stands behind it. There is none where the text opens a
@@ -155,7 +100,7 @@ pub fn punctuator(text: &[u16]) -> Option<(Punct, &[u16])>
         return None;
     }
     let punct = first_punctuator(text)?;
-    let (_, behind) = text.split_at(spelling(punct).len());
+    let (_, behind) = text.split_at(punct.text().len());
     Some((punct, behind))
 }
 

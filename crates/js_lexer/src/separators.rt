@@ -2,10 +2,11 @@
 
 ghost use Rattle.std.specs.Prelude.{◌≡◌, ◌==◌, ◌<◌, ◌≤◌, IfSome, not, drop, length, MatchOption, None, Some};
 ghost use Rattle.std.specs.List.{prefix_len};
+ghost use Rattle.js_core.specs.Characters as common;
 ghost use Rattle.js_lexer.specs.Characters as characters;
 ghost use Rattle.js_lexer.specs.Separators as spec;
 
-use crate::characters::{is_line_end, is_white_space};
+use js_core::characters::{is_line_end, is_white_space};
 
 /// The text behind the white space, line ends and comments with which it begins, and whether a line end stands in them.
 pub fn behind_gap(text: &[u16]) -> (bool, &[u16])
@@ -69,7 +70,7 @@ fn behind_line(text: &[u16]) -> &[u16]
 
 /// How many units stand before the first line end.
 fn line_len(text: &[u16]) -> usize
-    ensures read { result ≡ prefix_len (λ u. not (characters.is_line_end u)) text.now }
+    ensures read { result ≡ prefix_len (λ u. not (common.is_line_end u)) text.now }
     ensures within { result ≤ length text.now }
 {
     text.iter().take_while(|unit| !is_line_end(**unit)).count()

@@ -5,8 +5,9 @@ ghost use Rattle.js_lexer.specs.Characters as characters;
 ghost use Rattle.js_lexer.specs.Strings as spec;
 ghost use Rattle.js_lexer.specs.Strings.{Closes};
 
-use crate::characters::{digit_value, is_decimal_digit, is_hex_digit, is_line_end};
+use crate::characters::{digit_value, is_decimal_digit, is_hex_digit};
 use crate::fault::LexFault;
+use js_core::characters::is_line_end;
 use js_core::units::Units;
 use std::alloc::Global;
 

@@ -3,7 +3,6 @@
 use crate::directives::strict;
 use crate::fault::LexFault;
 use crate::tokens::tokens;
-use crate::words::is_reserved_word;
 use js_core::token::{Punct, Token, TokenKind};
 use js_core::units::Units;
 use std::fmt::Write;
@@ -300,79 +299,6 @@ fn reads_each_punctuator(rt: HostRuntime) -> Result<(), Fail> {
         ],
     )?;
     refuses(&rt, &["/*", "a/*b", "/*/", "/* *", "a/**"])
-}
-
-#[test]
-fn reads_each_reserved_word(rt: HostRuntime) -> Result<(), Fail> {
-    let words = [
-        "break",
-        "case",
-        "catch",
-        "class",
-        "const",
-        "continue",
-        "debugger",
-        "default",
-        "delete",
-        "do",
-        "else",
-        "enum",
-        "export",
-        "extends",
-        "false",
-        "finally",
-        "for",
-        "function",
-        "if",
-        "implements",
-        "import",
-        "in",
-        "instanceof",
-        "interface",
-        "let",
-        "new",
-        "null",
-        "package",
-        "private",
-        "protected",
-        "public",
-        "return",
-        "static",
-        "super",
-        "switch",
-        "this",
-        "throw",
-        "true",
-        "try",
-        "typeof",
-        "var",
-        "void",
-        "while",
-        "with",
-        "yield",
-    ];
-    for text in words {
-        let units = Units::from_utf8(rt.alloc(), text)?;
-        let found = tokens(rt.alloc(), &units)?;
-        assert_eq!(rt; found.len(), 1, "{text}");
-        assert!(rt; is_reserved_word(&units), "{text}");
-    }
-    for text in [
-        "",
-        "Break",
-        "breaks",
-        "eval",
-        "arguments",
-        "of",
-        "undefined",
-        "get",
-    ] {
-        assert!(rt;
-            !is_reserved_word(&Units::from_utf8(rt.alloc(), text)?),
-            "{text}"
-        );
-    }
-    Ok(())
 }
 
 #[test]

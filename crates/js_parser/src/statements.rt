@@ -9,8 +9,8 @@ ghost use Rattle.js_parser.specs.Reading.{Reads, ReadsAll, Makes};
 
 use crate::cursor::Cursor;
 use crate::fault::ParseFault;
-use crate::letters::ascii_text;
 use crate::sums::sum;
+use js_core::ascii::ascii_text;
 use js_core::syntax::{Expr, ExprNode, Stmt, StmtNode};
 use js_core::units::Units;
 use std::alloc::Global;

@@ -8,12 +8,13 @@ use Rattle.std.proofs.lemmas.List.Folds.{list_all-append}
 use Rattle.std.proofs.lemmas.List.Sums.{AllPass-from_list_all}
 use Rattle.js_core.specs.declared.token.Punct.{Punct as Sign}
 use Rattle.js_core.specs.declared.token.Punct.TheVariants as punct
-use Rattle.js_print.specs.declared.lexeme.Keyword.{Keyword as Word}
-use Rattle.js_print.specs.declared.lexeme.Keyword.TheVariants as keyword
+use Rattle.js_core.specs.declared.keyword.Keyword.{Keyword as Word}
+use Rattle.js_core.specs.declared.keyword.Keyword.TheVariants as keyword
 use Rattle.js_print.specs.declared.lexeme.Lexeme.{Lexeme}
 use Rattle.js_print.specs.declared.lexeme.Lexeme.TheVariants.{Keyword, Name, Number, Text, Punct}
 use Rattle.js_print.specs.Laws.{is_ascii_text, is_spelled_in_ascii, TextIsAscii}
-use Rattle.js_print.specs.Spelling.{keyword_text, punct_text, is_plain, lexeme_text, is_word, space_between, text_after}
+use Rattle.js_core.specs.Spelling.{keyword_text, punct_text}
+use Rattle.js_print.specs.Spelling.{is_plain, lexeme_text, is_word, space_between, text_after}
 use Rattle.js_print.proofs.Literals.{and_left, and_right, and_both, string_passes}
 
 keyword_is_ascii : (k : Word) → is_ascii_text (keyword_text k) ≡ true

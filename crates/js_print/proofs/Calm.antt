@@ -10,8 +10,8 @@ use Rattle.js_core.specs.declared.operators.BinaryOp.{BinaryOp}
 use Rattle.js_core.specs.declared.operators.UnaryOp.TheVariants as op1
 use Rattle.js_core.specs.declared.operators.BinaryOp.TheVariants as op2
 use Rattle.js_core.specs.declared.token.Punct.TheVariants as punct
-use Rattle.js_print.specs.declared.lexeme.Keyword.{Keyword as Word}
-use Rattle.js_print.specs.declared.lexeme.Keyword.TheVariants as keyword
+use Rattle.js_core.specs.declared.keyword.Keyword.{Keyword as Word}
+use Rattle.js_core.specs.declared.keyword.Keyword.TheVariants as keyword
 use Rattle.js_print.specs.declared.lexeme.Lexeme.{Lexeme}
 use Rattle.js_print.specs.declared.lexeme.Lexeme.TheVariants.{Name, Punct}
 use Rattle.js_print.specs.declared.place.Place.{Place}

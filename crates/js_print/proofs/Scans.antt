@@ -6,13 +6,14 @@ use Rattle.std.specs.Char.{digit_char, to_ascii_uppercase}
 use Rattle.std.proofs.lemmas.Bool.Decides.{nat_tests}
 use Rattle.js_core.specs.declared.token.Punct.{Punct as Sign}
 use Rattle.js_core.specs.declared.token.Punct.TheVariants as punct
-use Rattle.js_print.specs.declared.lexeme.Keyword.{Keyword as Word}
-use Rattle.js_print.specs.declared.lexeme.Keyword.TheVariants as keyword
+use Rattle.js_core.specs.declared.keyword.Keyword.{Keyword as Word}
+use Rattle.js_core.specs.declared.keyword.Keyword.TheVariants as keyword
 use Rattle.js_print.specs.declared.lexeme.Lexeme.{Lexeme}
 use Rattle.js_print.specs.declared.lexeme.Lexeme.TheVariants.{Keyword, Name, Number, Text, Punct}
 use Rattle.js_print.proofs.Literals.{and_left, and_right, string_passes}
 use Rattle.js_print.specs.Laws.{HasNoEndTag, is_harmless, is_ordinary}
-use Rattle.js_print.specs.Spelling.{keyword_text, punct_text, string_text, lexeme_text, is_word, space_between, text_after}
+use Rattle.js_core.specs.Spelling.{keyword_text, punct_text}
+use Rattle.js_print.specs.Spelling.{string_text, lexeme_text, is_word, space_between, text_after}
 
 -- ---- texts
 

@@ -3,8 +3,8 @@ use Rattle.std.specs.Prelude.{ℕ, Bool, true, false, List, [], ◌∷◌, ◌++
 use Rattle.js_core.specs.Tree as tree
 use Rattle.js_core.specs.Tree.{name, num, text, bool, null, this, list, literal, func, member, index, call, construct, unary, update, binary, logical_and, logical_or, conditional, assign, comma, no_exprs, then_expr, no_expr, one_expr, no_holes, then_hole, no_fields, then_field, code, var, function, expr, empty, block, if_else, do_while, while, for, for_in, continue, break, return, throw, try, switch, no_stmts, then_stmt, no_body, one_body, no_declarators, then_declarator, no_init, init_var, init_expr, no_catch, one_catch, no_cases, then_case}
 use Rattle.js_core.specs.declared.token.Punct.TheVariants as punct
-use Rattle.js_print.specs.declared.lexeme.Keyword.{Keyword as Word}
-use Rattle.js_print.specs.declared.lexeme.Keyword.TheVariants as keyword
+use Rattle.js_core.specs.declared.keyword.Keyword.{Keyword as Word}
+use Rattle.js_core.specs.declared.keyword.Keyword.TheVariants as keyword
 use Rattle.js_print.specs.declared.lexeme.Lexeme.{Lexeme}
 use Rattle.js_print.specs.declared.lexeme.Lexeme.TheVariants.{Keyword, Name, Number, Text, Punct}
 use Rattle.js_print.specs.declared.place.Place.TheVariants.{Operand, Base, Constructor, Part, Whole, Statement}

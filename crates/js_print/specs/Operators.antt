@@ -6,7 +6,7 @@ use Rattle.js_core.specs.declared.operators.BinaryOp.{BinaryOp}
 use Rattle.js_core.specs.declared.operators.BinaryOp.TheVariants as binary
 use Rattle.js_core.specs.declared.token.Punct.{Punct}
 use Rattle.js_core.specs.declared.token.Punct.TheVariants as punct
-use Rattle.js_print.specs.declared.lexeme.Keyword.TheVariants as keyword
+use Rattle.js_core.specs.declared.keyword.Keyword.TheVariants as keyword
 use Rattle.js_print.specs.declared.lexeme.Lexeme.{Lexeme}
 use Rattle.js_print.specs.declared.lexeme.Lexeme.TheVariants as lexeme
 

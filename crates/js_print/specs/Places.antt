@@ -1,5 +1,5 @@
 -- Where an expression stands, and whether it needs parentheses there.
-use Rattle.std.specs.Prelude.{Bool, true, false, not, ◌&&◌, ◌||◌, List, [], ◌∷◌, ◌++◌, if◌then◌else◌}
+use Rattle.std.specs.Prelude.{Bool, true, false, not, ◌&&◌, List, [], ◌∷◌, ◌++◌, if◌then◌else◌}
 use Rattle.js_core.specs.Tree as tree
 use Rattle.js_core.specs.Tree.{name, num, text, bool, null, this, list, literal, func, member, index, call, binary, comma, no_exprs, then_expr}
 use Rattle.js_core.specs.declared.operators.BinaryOp.TheVariants.{Within}

@@ -11,7 +11,7 @@ ghost use Rattle.js_print.specs.declared.place.Place.TheVariants.{Operand, Part}
 ghost use Rattle.js_print.specs.Lexemes as spec;
 ghost use Rattle.js_print.specs.Places.{placed, parenthesised};
 
-use crate::lexeme::{Keyword, Lexeme};
+use crate::lexeme::Lexeme;
 use crate::operators::{assign_punct, binary_lexeme, unary_lexeme, update_punct};
 use crate::place::{Place, is_bare};
 use crate::pushing::{
@@ -19,6 +19,7 @@ use crate::pushing::{
     push_punct, push_text,
 };
 use crate::statements::push_body;
+use js_core::keyword::Keyword;
 use js_core::memory::OutOfMemory;
 use js_core::syntax::{Code, Expr, ExprNode};
 use js_core::token::Punct;

@@ -1,40 +1,9 @@
 //! The lexemes that are printed: the tokens of ECMA-262 5.1 section 7, with reserved words apart from names.
 
+use js_core::keyword::Keyword;
 use js_core::token::Punct;
 use js_core::units::Units;
 use js_core::whole::Whole;
-
-/// A reserved word (section 7.6.1) of a script that is printed.
-#[derive(Clone, Copy, Debug, PartialEq, Eq)]
-pub enum Keyword {
-    Break,
-    Case,
-    Catch,
-    Continue,
-    Default,
-    Delete,
-    Do,
-    Else,
-    False,
-    Finally,
-    For,
-    Function,
-    If,
-    In,
-    InstanceOf,
-    New,
-    Null,
-    Return,
-    Switch,
-    This,
-    Throw,
-    True,
-    Try,
-    Typeof,
-    Var,
-    Void,
-    While,
-}
 
 /// A token to be printed.
 #[derive(Debug, Drop)]

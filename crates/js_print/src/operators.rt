@@ -3,7 +3,8 @@
 ghost use Rattle.std.specs.Prelude.{◌≡◌};
 ghost use Rattle.js_print.specs.Operators as spec;
 
-use crate::lexeme::{Keyword, Lexeme};
+use crate::lexeme::Lexeme;
+use js_core::keyword::Keyword;
 use js_core::operators::{BinaryOp, UnaryOp};
 use js_core::token::Punct;
 

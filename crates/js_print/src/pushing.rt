@@ -5,7 +5,8 @@ ghost use Rattle.js_core.specs.declared.token.Punct.TheVariants as punct;
 ghost use Rattle.js_print.specs.declared.lexeme.Lexeme.TheVariants as lexeme;
 ghost use Rattle.js_print.specs.Lexemes as spec;
 
-use crate::lexeme::{Keyword, Lexeme};
+use crate::lexeme::Lexeme;
+use js_core::keyword::Keyword;
 use js_core::memory::OutOfMemory;
 use js_core::token::Punct;
 use js_core::units::Units;

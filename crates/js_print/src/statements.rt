@@ -7,14 +7,15 @@ ghost use Rattle.js_core.specs.Views.{declarators_of, init_of, catch_of, cases_o
 ghost use Rattle.js_print.specs.Lexemes as spec;
 ghost use Rattle.js_print.specs.Places.{placed, parenthesised, braced};
 ghost use Rattle.js_core.specs.declared.token.Punct.TheVariants as punct;
-ghost use Rattle.js_print.specs.declared.lexeme.Keyword.TheVariants as keyword;
+ghost use Rattle.js_core.specs.declared.keyword.Keyword.TheVariants as keyword;
 ghost use Rattle.js_print.specs.declared.lexeme.Lexeme.TheVariants as lexeme;
 ghost use Rattle.js_print.specs.declared.place.Place.TheVariants.{Operand, Whole};
 
 use crate::expressions::{push_code, push_placed};
-use crate::lexeme::{Keyword, Lexeme};
+use crate::lexeme::Lexeme;
 use crate::place::Place;
 use crate::pushing::{push_keyword, push_maybe_var, push_name, push_punct};
+use js_core::keyword::Keyword;
 use js_core::memory::OutOfMemory;
 use js_core::syntax::{Case, Catch, Declarator, Expr, ForInit, Stmt, StmtNode};
 use js_core::token::Punct;

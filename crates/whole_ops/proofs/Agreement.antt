@@ -8,7 +8,7 @@ use Rattle.std.proofs.lemmas.Bool.Decides.{nat_tests}
 use Rattle.std.proofs.lemmas.List.Folds.{list_all-append}
 use Rattle.std.proofs.lemmas.Str.Parse.{digit_from_value}
 use Rattle.whole_ops.specs.Arithmetic.{Outcome, whole_or_outside}
-use Rattle.whole_ops.specs.WhiteSpace.{is_white_space, trimmed}
+use Rattle.whole_ops.specs.WhiteSpace.{is_str_white_space, trimmed}
 use Rattle.whole_ops.specs.Numeral.{are_digits, begins_with_digit, behind_digits, is_sign, without_sign, is_exponent, goes_on_as_decimal, is_decimal, behind_hex_prefix, decimal_of, hexadecimal_of, literal_of, to_whole, with_sign}
 use Rattle.whole_ops.specs.Grammar.{AreDigits, IsNumeral, IsSign, no_sign, plus_sign, minus_sign, IsExponent, exponent, IsExponentOrNothing, no_exponent, some_exponent, IsDecimal, infinity, point_behind_digits, point_before_digits, exponent_behind_digits, IsLiteral, integer, decimal, hexadecimal, Writes, blank, literal}
 use Rattle.whole_ops.specs.declared.fault.OpFault.TheVariants.{Outside}
@@ -24,7 +24,7 @@ digit_range c h = let low : digit_value c < 10 = grind (arith, nat_tests) in dig
 hex_digit_range : (c : ℕ) → is_digit c 16 ≡ true → (48 ≤ c) × (c ≤ 102)
 hex_digit_range c h = grind (arith, nat_tests)
 
-printed : (c : ℕ) → 33 ≤ c → c ≤ 126 → is_white_space c ≡ false
+printed : (c : ℕ) → 33 ≤ c → c ≤ 126 → is_str_white_space c ≡ false
 printed c l h = grind (arith, nat_tests)
 
 -- no white space, and neither `x` nor `X`
@@ -34,7 +34,7 @@ is_plain c = is_within c && not ((c == 120) || (c == 88))
 plain_digit : (c : ℕ) → is_digit c 10 ≡ true → is_plain c ≡ true
 plain_digit c h =
     let r = digit_range c h in
-    let space : is_white_space c ≡ false = printed c (omega arith) (omega arith) in
+    let space : is_str_white_space c ≡ false = printed c (omega arith) (omega arith) in
     let small : (c == 120) ≡ false = grind (arith, nat_tests) in
     let large : (c == 88) ≡ false = grind (arith, nat_tests) in
     rw (space, small, large)
@@ -77,7 +77,7 @@ within_plain = all-weaker is_plain is_within (λ u h. and-left (is_within u) (no
 
 within_hex_digit : (c : ℕ) → is_digit c 16 ≡ true → is_within c ≡ true
 within_hex_digit c h =
-    let r = hex_digit_range c h in not-false (is_white_space c) (printed c (omega arith) (omega arith))
+    let r = hex_digit_range c h in not-false (is_str_white_space c) (printed c (omega arith) (omega arith))
 
 hex_mark : (c : ℕ) → (c ≡ 120) ⊎ (c ≡ 88) → is_within c ≡ true
 hex_mark c (inl e) = ap is_within e

@@ -6,7 +6,7 @@ use Rattle.std.specs.Str.{bytes_eq}
 use Rattle.std.proofs.lemmas.Bool.Decides.{nat_tests}
 use Rattle.std.proofs.lemmas.Slice.Eq.{bytes_eq-Decides}
 use Rattle.js_core.specs.Whole.{nan}
-use Rattle.whole_ops.specs.WhiteSpace.{is_white_space, trimmed}
+use Rattle.whole_ops.specs.WhiteSpace.{is_str_white_space, trimmed}
 use Rattle.whole_ops.specs.Numeral.{are_digits, begins_with_digit, behind_digits, begins_with_minus, without_sign, is_exponent, goes_on_as_decimal, is_decimal, behind_hex_prefix, decimal_of, hexadecimal_of, literal_behind, literal_of, to_whole}
 use Rattle.whole_ops.specs.Grammar.{IsNumeral, IsSign, no_sign, plus_sign, minus_sign, IsExponent, exponent, IsExponentOrNothing, no_exponent, some_exponent, IsDecimal, infinity, point_behind_digits, point_before_digits, exponent_behind_digits, IsLiteral, integer, decimal, hexadecimal, Writes, blank, literal}
 use Rattle.whole_ops.proofs.Conjunctions.{and-left, and-right, all-append}
@@ -173,7 +173,7 @@ found t = by_case (trimmed t) refl where
   by_case : (u : List ℕ) → trimmed t ≡ u → (literal_of u ≡ Ok nan) ⊎ Writes t (literal_of u)
   by_case [] e =
       let parts = trimmed_parts t in
-      inr (blank (ap (list_all is_white_space) (parts.joined ∙ ap (λ u. parts.before ++ u ++ parts.after) e) ∙ all-append is_white_space (parts.before ++ []) parts.after (all-append is_white_space parts.before [] parts.first refl) parts.last) refl)
+      inr (blank (ap (list_all is_str_white_space) (parts.joined ∙ ap (λ u. parts.before ++ u ++ parts.after) e) ∙ all-append is_str_white_space (parts.before ++ []) parts.after (all-append is_str_white_space parts.before [] parts.first refl) parts.last) refl)
   by_case (c ∷ cs) e =
       let parts = trimmed_parts t in
       elim (literal_found c cs) [

@@ -6,12 +6,12 @@ use Rattle.std.specs.List.{list_all}
 use Rattle.std.specs.Str.Parse.{digits_value}
 use Rattle.whole_ops.specs.Arithmetic.{Outcome, whole_or_outside}
 use Rattle.whole_ops.specs.Numeral.{with_sign}
-use Rattle.whole_ops.specs.WhiteSpace.{is_white_space}
+use Rattle.whole_ops.specs.WhiteSpace.{is_str_white_space}
 use Rattle.whole_ops.specs.declared.fault.OpFault.TheVariants.{Outside}
 
 -- StrWhiteSpace, or nothing
 abbrev pub AreWhiteSpace : List ℕ → Type 0
-AreWhiteSpace t = list_all is_white_space t ≡ true
+AreWhiteSpace t = list_all is_str_white_space t ≡ true
 
 -- digits, or nothing
 abbrev pub AreDigits : ℕ → List ℕ → Type 0

@@ -4,7 +4,7 @@ ghost use Rattle.std.specs.Prelude.{◌≡◌, IfOk};
 ghost use Rattle.whole_ops.specs.Numeral as spec;
 
 use itoa::Buffer;
-use js_core::ascii::push_ascii;
+use js_core::ascii::ascii_text;
 use js_core::memory::OutOfMemory;
 use js_core::units::Units;
 use js_core::whole::Whole;
@@ -20,13 +20,4 @@ pub fn to_text(alloc: Global, number: Whole) -> Result<Units, OutOfMemory>
         None => ascii_text(alloc, b"NaN"),
         Some(n) => ascii_text(alloc, Buffer::new().format(n).as_bytes()),
     }
-}
-
-/// The text with these ASCII codes.
-fn ascii_text(alloc: Global, text: &[u8]) -> Result<Units, OutOfMemory>
-    ensures { IfOk result (λ units. units ≡ text.now) }
-{
-    let mut units = Vec::new(alloc);
-    push_ascii(text, &mut units)?;
-    Units::of(alloc, units.as_slice())
 }
