@@ -1,5 +1,5 @@
 -- Punctuators (section 7.7).
-use Rattle.std.specs.Prelude.{◌≡◌, ◌≤◌, ◌++◌, length, ℕ, Bool, false, ◌||◌, ◌==◌, List, [], ◌∷◌}
+use Rattle.std.specs.Prelude.{◌≡◌, ◌≤◌, ◌++◌, length, ℕ, Bool, false, ◌||◌, ◌&&◌, ◌==◌, List, [], ◌∷◌}
 use Rattle.js_core.specs.Spelling.{punct_text}
 use Rattle.js_core.specs.declared.token.Punct.{Punct}
 use Rattle.js_lexer.specs.Characters.{begins_with}

@@ -5,6 +5,7 @@ ghost use Rattle.object_heap.specs.Object.{is_list, is_window};
 
 use crate::properties::Properties;
 use crate::values::Values;
+use js_core::built_in::BuiltIn;
 use js_core::ids::{CodeId, EnvId, NodeId, ObjId};
 use js_core::units::Units;
 use js_core::value::Value;
@@ -22,6 +23,8 @@ pub enum Class {
         code: CodeId,
         env: Option<EnvId>,
     },
+    /// A built-in function.
+    Native(BuiltIn),
     /// A bound function (section 15.3.4.5).
     Bound {
         target: ObjId,

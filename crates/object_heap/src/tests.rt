@@ -6,6 +6,7 @@ use crate::heap::Heap;
 use crate::index::array_index;
 use crate::object::{Class, EventParts};
 use crate::property::{Change, Prop};
+use js_core::built_in::BuiltIn;
 use js_core::ids::{EnvId, ObjId};
 use js_core::throw::Throw;
 use js_core::units::Units;
@@ -241,11 +242,17 @@ fn close(heap: &mut Heap, at: ObjId) {
 fn prototypes_are_asked_in_turn(rt: HostRuntime) -> Result<(), Fail> {
     let alloc = rt.alloc();
     let mut heap = Heap::new(alloc);
-    let oldest = heap.alloc(Class::Plain, None)?;
+    let oldest = heap.alloc(Class::Native(BuiltIn::FunctionPrototype), None)?;
     let middle = heap.alloc(Class::Plain, Some(oldest))?;
     let young = heap.alloc(Class::Plain, Some(middle))?;
     assert_eq!(rt; heap.count(), 3);
     assert_eq!(rt; heap.proto(young), Some(middle));
+    assert!(rt;
+        matches!(
+            heap.class(oldest),
+            Class::Native(BuiltIn::FunctionPrototype)
+        )
+    );
     let lines = [
         (oldest, "put a 1", "ok"),
         (oldest, "define b v2", "ok"),

@@ -7,6 +7,7 @@ use Rattle.std.specs.Str.Parse.{digits_value}
 use Rattle.std.proofs.lemmas.Bool.Decides.{nat_tests}
 use Rattle.std.proofs.lemmas.List.Folds.{list_all-append}
 use Rattle.std.proofs.lemmas.Str.Parse.{digit_from_value}
+use Rattle.js_core.specs.Characters.{is_white_space, is_line_end}
 use Rattle.whole_ops.specs.Arithmetic.{Outcome, whole_or_outside}
 use Rattle.whole_ops.specs.WhiteSpace.{is_str_white_space, trimmed}
 use Rattle.whole_ops.specs.Numeral.{are_digits, begins_with_digit, behind_digits, is_sign, without_sign, is_exponent, goes_on_as_decimal, is_decimal, behind_hex_prefix, decimal_of, hexadecimal_of, literal_of, to_whole, with_sign}
@@ -25,6 +26,7 @@ hex_digit_range : (c : ℕ) → is_digit c 16 ≡ true → (48 ≤ c) × (c ≤ 
 hex_digit_range c h = grind (arith, nat_tests)
 
 printed : (c : ℕ) → 33 ≤ c → c ≤ 126 → is_str_white_space c ≡ false
+unfolding is_white_space is_line_end
 printed c l h = grind (arith, nat_tests)
 
 -- no white space, and neither `x` nor `X`
@@ -43,11 +45,13 @@ plain_digits : (ds : List ℕ) → AreDigits 10 ds → list_all is_plain ds ≡ 
 plain_digits = all-weaker (λ d. is_digit d 10) is_plain plain_digit
 
 plain_sign : (t : List ℕ) (minus : Bool) → IsSign t minus → list_all is_plain t ≡ true
+unfolding is_white_space is_line_end
 plain_sign t minus (no_sign e m) = ap (list_all is_plain) e
 plain_sign t minus (plus_sign e m) = ap (list_all is_plain) e
 plain_sign t minus (minus_sign e m) = ap (list_all is_plain) e
 
 exponent_mark : (c : ℕ) → (c ≡ 101) ⊎ (c ≡ 69) → is_plain c ≡ true
+unfolding is_white_space is_line_end
 exponent_mark c (inl e) = ap is_plain e
 exponent_mark c (inr e) = ap is_plain e
 
@@ -62,6 +66,7 @@ plain_rest t (no_exponent e) = ap (list_all is_plain) e
 plain_rest t (some_exponent x) = plain_exponent t x
 
 plain_decimal : (t : List ℕ) → IsDecimal t → list_all is_plain t ≡ true
+unfolding is_white_space is_line_end
 plain_decimal t (infinity e) = ap (list_all is_plain) e
 plain_decimal t (point_behind_digits whole fraction rest w f x e) =
     ap (list_all is_plain) e
@@ -80,10 +85,12 @@ within_hex_digit c h =
     let r = hex_digit_range c h in not-false (is_str_white_space c) (printed c (omega arith) (omega arith))
 
 hex_mark : (c : ℕ) → (c ≡ 120) ⊎ (c ≡ 88) → is_within c ≡ true
+unfolding is_white_space is_line_end
 hex_mark c (inl e) = ap is_within e
 hex_mark c (inr e) = ap is_within e
 
 within_literal : (t : List ℕ) (gives : Outcome) → IsLiteral t gives → list_all is_within t ≡ true
+unfolding is_white_space is_line_end
 within_literal t gives (integer sign digits minus s d e g) =
     within_plain t (ap (list_all is_plain) e ∙ all-append is_plain sign digits (plain_sign sign minus s) (plain_digits digits d.1))
 within_literal t gives (decimal sign unsigned minus s d e g) =

@@ -8,6 +8,7 @@ use Rattle.std.specs.Str.Parse.{digits_value}
 use Rattle.std.proofs.lemmas.Bool.Decides.{nat_tests}
 use Rattle.std.proofs.lemmas.Fmt.{digits_decimal, digits_value-decimal, decimal_nonempty}
 use Rattle.std.proofs.lemmas.Str.Parse.{IsDigitsTest, IsNumeralModel, numerals_by_value}
+use Rattle.js_core.specs.Characters.{is_white_space, is_line_end}
 use Rattle.js_core.specs.Whole.{largest}
 use Rattle.whole_ops.specs.Arithmetic.{Outcome, whole_or_outside}
 use Rattle.whole_ops.specs.WhiteSpace.{trimmed}
@@ -49,7 +50,7 @@ reads_back (negsuc n) h =
     (literal [] text [] refl (integer (codes "-") (decimal (suc n)) true (minus_sign refl refl) (decimal_numeral (suc n) wide) refl value) refl (sym (append-nil text)))
 
 pub nan_reads_back : to_whole (text_of_whole None) ≡ Ok None
-unfolding to_whole trimmed literal_of decimal_of is_decimal goes_on_as_decimal is_exponent
+unfolding to_whole trimmed literal_of decimal_of is_decimal goes_on_as_decimal is_exponent is_white_space is_line_end
 nan_reads_back = refl
 
 -- a text that was made, unless memory failed
