@@ -80,7 +80,7 @@ pub record Place (p : Punct) : Type 0 where
   pub below : place < length punctuators
   pub there : get_or punctuators place LeftBrace ≡ p
 
-place_of : (p : Punct) → Place p
+pub place_of : (p : Punct) → Place p
 place_of ShiftRightUnsignedAssign = record { place = 0; below = lit< tt; there = refl }
 place_of StrictEquals = record { place = 1; below = lit< tt; there = refl }
 place_of StrictNotEquals = record { place = 2; below = lit< tt; there = refl }
