@@ -17,7 +17,7 @@ use Rattle.js_core.specs.Spelling.{keyword_text, punct_text}
 use Rattle.js_print.specs.Spelling.{is_plain, lexeme_text, is_word, space_between, text_after}
 use Rattle.js_print.proofs.Literals.{and_left, and_right, and_both, string_passes}
 
-keyword_is_ascii : (k : Word) → is_ascii_text (keyword_text k) ≡ true
+pub keyword_is_ascii : (k : Word) → is_ascii_text (keyword_text k) ≡ true
 keyword_is_ascii keyword.Break = refl
 keyword_is_ascii k = refl
 
@@ -31,14 +31,14 @@ plain_is_ascii u h = grind (arith, nat_tests)
 digit_is_ascii : (d : ℕ) → d < 16 → nat_lt (to_ascii_uppercase (digit_char d)) 128 ≡ true
 digit_is_ascii d l = grind (arith, nat_tests)
 
-lexeme_is_ascii : (x : Lexeme) → is_spelled_in_ascii x ≡ true → is_ascii_text (lexeme_text x) ≡ true
+pub lexeme_is_ascii : (x : Lexeme) → is_spelled_in_ascii x ≡ true → is_ascii_text (lexeme_text x) ≡ true
 lexeme_is_ascii (Keyword k) h = keyword_is_ascii k
 lexeme_is_ascii (Name x) h = h
 lexeme_is_ascii (Number n) h = h
 lexeme_is_ascii (Text x) h = string_passes (λ u. nat_lt u 128) plain_is_ascii digit_is_ascii refl refl refl x
 lexeme_is_ascii (Punct p) h = punct_is_ascii p
 
-space_is_ascii : (a b : Bool) → is_ascii_text (space_between a b) ≡ true
+pub space_is_ascii : (a b : Bool) → is_ascii_text (space_between a b) ≡ true
 space_is_ascii true true = refl
 space_is_ascii true false = refl
 space_is_ascii false b = refl

@@ -11,6 +11,7 @@ use Rattle.js_core.specs.declared.keyword.Keyword.TheVariants as keyword
 use Rattle.js_print.specs.declared.lexeme.Lexeme.{Lexeme}
 use Rattle.js_print.specs.declared.lexeme.Lexeme.TheVariants.{Keyword, Name, Number, Text, Punct}
 use Rattle.js_print.proofs.Literals.{and_left, and_right, string_passes}
+use Rattle.js_print.proofs.Neighbours.{calm, start, begins_with_slash, ends_with_less, no_slash_behind_less}
 use Rattle.js_print.specs.Laws.{HasNoEndTag, is_harmless, is_ordinary}
 use Rattle.js_core.specs.Spelling.{keyword_text, punct_text}
 use Rattle.js_print.specs.Spelling.{string_text, lexeme_text, is_word, space_between, text_after}
@@ -73,23 +74,6 @@ string_is_harmless us = string_passes (λ v. not (v == 60)) (λ u h. and_right _
 
 -- ---- lexemes
 
--- it begins with `/`
-abbrev pub begins_with_slash : Lexeme → Bool
-begins_with_slash (Punct punct.Slash) = true
-begins_with_slash (Punct punct.SlashAssign) = true
-begins_with_slash x = false
-
--- it ends with `<`
-abbrev pub ends_with_less : Lexeme → Bool
-ends_with_less (Punct punct.LessThan) = true
-ends_with_less (Punct punct.ShiftLeft) = true
-ends_with_less x = false
-
--- no lexeme that ends with `<` stands before one that begins with `/`, where the one before the list does or not
-abbrev pub calm : Bool → List Lexeme → Bool
-calm less [] = true
-calm less (x ∷ xs) = not (less && begins_with_slash x) && calm (ends_with_less x) xs
-
 punct_behind_less : (p : Sign) (rest : List ℕ) → not (begins_with_slash (Punct p)) ≡ true → scan (ends_with_less (Punct p)) rest ≡ true → scan true (punct_text p ++ rest) ≡ true
 punct_behind_less punct.Slash rest n h = absurd (cc)
 punct_behind_less punct.SlashAssign rest n h = absurd (cc)
@@ -123,11 +107,11 @@ spaced_scan x after_word less rest o n h = by_words after_word (is_word x)
     by_words true false = lexeme_scan x less rest o n h
     by_words false b = lexeme_scan x less rest o n h
 
-lexemes_scan : (xs : List Lexeme) (after_word less : Bool) → list_all is_ordinary xs ≡ true → calm less xs ≡ true → scan less (text_after after_word xs) ≡ true
-lexemes_scan [] after_word less o c = refl
-lexemes_scan (x ∷ xs) after_word less o c =
-    spaced_scan x after_word less (text_after (is_word x) xs) (and_left _ _ o) (and_left _ _ c)
-    (lexemes_scan xs (is_word x) (ends_with_less x) (and_right _ _ o) (and_right _ _ c))
+lexemes_scan : (xs : List Lexeme) (before : Lexeme) (after_word : Bool) → list_all is_ordinary xs ≡ true → calm before xs ≡ true → scan (ends_with_less before) (text_after after_word xs) ≡ true
+lexemes_scan [] before after_word o c = refl
+lexemes_scan (x ∷ xs) before after_word o c =
+    spaced_scan x after_word (ends_with_less before) (text_after (is_word x) xs) (and_left _ _ o) (no_slash_behind_less before x (and_left _ _ c))
+    (lexemes_scan xs x (is_word x) (and_right _ _ o) (and_right _ _ c))
 
-pub calm_has_no_tag : (xs : List Lexeme) → list_all is_ordinary xs ≡ true → calm false xs ≡ true → HasNoEndTag (text_after false xs)
-calm_has_no_tag xs o c before after e = no_tag false (text_after false xs) before after (lexemes_scan xs false false o c) e
+pub calm_has_no_tag : (xs : List Lexeme) → list_all is_ordinary xs ≡ true → calm start xs ≡ true → HasNoEndTag (text_after false xs)
+calm_has_no_tag xs o c before after e = no_tag false (text_after false xs) before after (lexemes_scan xs start false o c) e

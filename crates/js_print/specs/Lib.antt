@@ -3,4 +3,7 @@ pub mod Lexemes
 pub mod Operators
 pub mod Places
 pub mod Printing
+pub mod ReadAgain
+pub mod ReadBack
 pub mod Spelling
+pub mod Written

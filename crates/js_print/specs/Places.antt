@@ -1,7 +1,7 @@
 -- Where an expression stands, and whether it needs parentheses there.
 use Rattle.std.specs.Prelude.{Bool, true, false, not, ◌&&◌, List, [], ◌∷◌, ◌++◌, if◌then◌else◌}
 use Rattle.js_core.specs.Tree as tree
-use Rattle.js_core.specs.Tree.{name, num, text, bool, null, this, list, literal, func, member, index, call, binary, comma, no_exprs, then_expr}
+use Rattle.js_core.specs.Tree.{name, num, text, bool, null, this, list, literal, func, member, index, call, binary, comma, then_expr}
 use Rattle.js_core.specs.declared.operators.BinaryOp.TheVariants.{Within}
 use Rattle.js_core.specs.declared.token.Punct.TheVariants as punct
 use Rattle.js_print.specs.declared.lexeme.Lexeme.{Lexeme}

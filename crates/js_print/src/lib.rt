@@ -1,7 +1,9 @@
-//! The printing of syntax trees: first the list of lexemes of a tree, then the text of that list.
+//! The printing of syntax trees: first the list of lexemes of a tree, then the text of that list. `laws` says of each half
+//! that it is read back, and `print` that the printed text of a script is read as the same script again.
 #![tactic(auto)]
 
 mod expressions;
+pub mod laws;
 pub mod lexeme;
 mod operators;
 pub mod place;

@@ -1,11 +1,12 @@
 //! The printed text of scripts and functions.
 
-ghost use Rattle.std.specs.Prelude.{◌≡◌, ◌≤◌, ◌+◌, ◌++◌, max, take, length, IfOk, OnOk, OnErr};
+ghost use Rattle.std.specs.Prelude.{◌≡◌, ◌≤◌, ◌+◌, ◌++◌, ℕ, List, codes, max, take, length, IfOk, OnOk, OnErr};
 ghost use Rattle.js_core.specs.Height.{expr_height, exprs_height, maybe_expr_height, code_height, stmt_height};
 ghost use Rattle.js_core.specs.Tree.{exprs_of, maybe_expr};
 ghost use Rattle.js_core.specs.Views.{stmt_of};
 ghost use Rattle.js_print.specs.Laws.{ScriptsHaveNoEndTag, CodesHaveNoEndTag, TextIsAscii};
 ghost use Rattle.js_print.specs.Printing.{script_text, code_text};
+ghost use Rattle.js_print.specs.ReadAgain.{IsReadAgain, declaration, function_expression};
 
 use crate::expressions::push_code;
 use crate::spelling::push_lexemes;
@@ -28,10 +29,12 @@ pub fn printed_text_is_ascii()
 
 /// Appends the text of a script (ECMA-262 5.1 section 14): its tokens with one space between two exactly where the first
 /// ends and the second begins with an identifier character, every body in braces, and `;` after every statement that
-/// needs one. The script is one that some list of tokens derives: of other trees a text is printed that need not be
-/// a script. After an error a part of the text may be appended.
+/// needs one. Where the tokens of some text derive the script, the tokens of the printed text derive it again: of other trees
+/// a text is printed that need not be a script. After an error a part of the text may be appended.
+#[tactic(auto, using(crate::proofs::ReadAgain::printed_script))]
 pub fn print(alloc: Global, script: &Script, out: &mut Vec<u8>) -> Result<(), OutOfMemory>
     ensures ok { OnOk result (out.new.items ≡ out.old.items ++ script_text script.now) }
+    ensures read_back { OnOk result ((printed : List ℕ) → out.new.items ≡ out.old.items ++ printed → IsReadAgain script.now printed) }
     ensures err { OnErr result (take (length out.old.items) out.new.items ≡ out.old.items) }
 {
     let mut lexemes = Vec::new(alloc);
@@ -39,10 +42,14 @@ pub fn print(alloc: Global, script: &Script, out: &mut Vec<u8>) -> Result<(), Ou
     push_lexemes(lexemes.as_slice(), out)
 }
 
-/// Appends the text of a function, `function name(formals){body}`, as a script has it (section 13). After an error a part
-/// of the text may be appended.
+/// Appends the text of a function, `function name(formals){body}`, as a script has it (section 13). By itself it is read
+/// again as the declaration that it is printed of, and in parentheses as the function expression. After an error a part of
+/// the text may be appended.
+#[tactic(auto, using(crate::proofs::ReadAgain::printed_declaration, crate::proofs::ReadAgain::printed_expression))]
 pub fn print_code(alloc: Global, code: &Code, out: &mut Vec<u8>) -> Result<(), OutOfMemory>
     ensures ok { OnOk result (out.new.items ≡ out.old.items ++ code_text code.now) }
+    ensures declared { OnOk result ((printed : List ℕ) → out.new.items ≡ out.old.items ++ printed → IsReadAgain (declaration code.now) printed) }
+    ensures expressed { OnOk result ((printed : List ℕ) → out.new.items ≡ out.old.items ++ printed → IsReadAgain (function_expression code.now) (codes "(" ++ (printed ++ codes ");"))) }
     ensures err { OnErr result (take (length out.old.items) out.new.items ≡ out.old.items) }
 {
     let mut lexemes = Vec::new(alloc);
