@@ -1,0 +1,371 @@
+//! A place in a list of tokens, and the steps that reading is made of.
+
+ghost use Rattle.std.specs.Prelude.{◌≡◌, length, Some, None};
+ghost use Rattle.std.specs.Option.{option_copied};
+ghost use Rattle.js_grammar.specs.Endings.{same_line};
+ghost use Rattle.js_grammar.specs.ExpressionReader as reader;
+ghost use Rattle.js_grammar.specs.Operators as operators;
+ghost use Rattle.js_grammar.specs.Parser as parser;
+ghost use Rattle.js_grammar.specs.Parser.{sign_of, sign_at};
+ghost use Rattle.js_grammar.specs.Symbols.{lexemes, symbol_of, member_name, field_name, number_text as spec_number_text};
+ghost use Rattle.expression_parser.specs.Reads.{Reads, Gives, after_line};
+
+use crate::fault::ParseFault;
+use itoa::Buffer;
+use js_core::ascii::ascii_text;
+use js_core::keyword::{is_unused_word, keyword_of};
+use js_core::syntax::{Expr, ExprNode};
+use js_core::token::{Punct, Token, TokenKind};
+use js_core::units::Units;
+use js_core::whole::Whole;
+use js_grammar::sign::Sign;
+use std::alloc::Global;
+use std::marker::Model;
+
+/// The tokens that are still to be read. A contract sees their lexemes: the terminal symbols of the grammar, each with
+/// whether a line end stands before it.
+#[derive(Drop)]
+pub struct Cursor<'a> {
+    tokens: &'a [Token],
+    /// The sign that comes next, so that each word is looked up once.
+    sign: Option<Sign>,
+}
+
+impl<'a> Model for Cursor<'a> {
+    ghost use Rattle.std.specs.Prelude.{◌≡◌, List};
+    ghost use Rattle.js_grammar.specs.Parser.{sign_at};
+    ghost use Rattle.js_grammar.specs.Symbols.{Lexeme, lexemes};
+
+    ghost Value = { List Lexeme };
+
+    ghost view = { λ c. lexemes c.tokens.now };
+
+    ghost invariant = { λ c. c.sign ≡ sign_at (lexemes c.tokens.now) };
+}
+
+impl<'a> Cursor<'a> {
+    /// The place before the first of these tokens.
+    pub fn new(tokens: &'a [Token]) -> Cursor<'a>
+        ensures { result ≡ lexemes tokens.now }
+    {
+        Cursor {
+            tokens,
+            sign: first_sign(tokens),
+        }
+    }
+
+    /// How many tokens are left.
+    #[tactic(auto, using(crate::proofs::Words::same_length))]
+    pub fn left(&self) -> usize
+        ensures { result ≡ length self.now }
+    {
+        self.tokens.len()
+    }
+
+    /// The sign that comes next, where one does.
+    pub fn sign(&self) -> Option<Sign>
+        ensures { result ≡ sign_at self.now }
+    {
+        self.sign
+    }
+
+    /// Whether this sign comes next.
+    #[tactic(auto, unfolding(js_grammar::specs::Parser::sees))]
+    pub fn sees(&self, sign: Sign) -> bool
+        ensures { result ≡ parser.sees sign self.now }
+    {
+        is_sign(sign, self.sign)
+    }
+
+    /// Goes behind the next token, if there is one.
+    pub fn skip(&mut self)
+        ensures { self.new ≡ parser.tail self.old }
+    {
+        if let Some((_, rest)) = self.tokens.split_first() {
+            self.tokens = rest;
+            self.sign = first_sign(rest);
+        }
+    }
+
+    /// Takes this sign. `NotScript` where another symbol comes, or none.
+    #[tactic(auto, unfolding(js_grammar::specs::Parser::expect))]
+    pub fn expect(&mut self, sign: Sign) -> Result<(), ParseFault>
+        ensures { Reads (parser.expect sign self.old) result self.new }
+    {
+        if !self.sees(sign) {
+            return Err(ParseFault::NotScript);
+        }
+        self.skip();
+        Ok(())
+    }
+
+    /// Whether this sign came next, which is then behind.
+    #[tactic(auto, unfolding(js_grammar::specs::Parser::eat))]
+    pub fn eat(&mut self, sign: Sign) -> bool
+        ensures { parser.eat sign self.old ≡ Some (result, self.new) }
+    {
+        let sees = self.sees(sign);
+        if sees {
+            self.skip();
+        }
+        sees
+    }
+
+    /// Takes a comma, or sees this sign, which is left. `NotScript` where neither comes.
+    #[tactic(auto, unfolding(js_grammar::specs::Parser::divided))]
+    pub fn divided(&mut self, close: Sign) -> Result<(), ParseFault>
+        ensures { Reads (parser.divided close self.old) result self.new }
+    {
+        if self.sees(Sign::Mark(Punct::Comma)) {
+            self.skip();
+            return Ok(());
+        }
+        if self.sees(close) {
+            Ok(())
+        } else {
+            Err(ParseFault::NotScript)
+        }
+    }
+
+    /// Takes an identifier. `NotScript` where none comes.
+    #[tactic(auto, unfolding(js_grammar::specs::Parser::taken))]
+    pub fn identifier(&mut self) -> Result<Units, ParseFault>
+        ensures { Reads (parser.taken reader.identifier_of self.old) result self.new }
+    {
+        let name = match self.tokens.first() {
+            Some(token) => identifier_in(&token.what, self.sign),
+            None => None,
+        };
+        match name {
+            Some(name) => {
+                let name = name.clone()?;
+                self.skip();
+                Ok(name)
+            }
+            None => Err(ParseFault::NotScript),
+        }
+    }
+
+    /// Takes an identifier, if one comes next.
+    #[tactic(auto, unfolding(js_grammar::specs::ExpressionReader::maybe_identifier))]
+    pub fn maybe_identifier(&mut self) -> Result<Option<Units>, ParseFault>
+        ensures { Reads (reader.maybe_identifier self.old) result self.new }
+    {
+        let name = match self.tokens.first() {
+            Some(token) => identifier_in(&token.what, self.sign),
+            None => None,
+        };
+        match name {
+            Some(name) => {
+                let name = name.clone()?;
+                self.skip();
+                Ok(Some(name))
+            }
+            None => Ok(None),
+        }
+    }
+
+    /// Takes the name that stands behind a point: any word. `NotScript` where none comes.
+    #[tactic(auto, unfolding(js_grammar::specs::Parser::taken))]
+    pub fn member_name(&mut self) -> Result<Units, ParseFault>
+        ensures { Reads (parser.taken member_name self.old) result self.new }
+    {
+        let name = match self.tokens.first() {
+            Some(token) => member_name_in(&token.what),
+            None => None,
+        };
+        match name {
+            Some(name) => {
+                let name = name.clone()?;
+                self.skip();
+                Ok(name)
+            }
+            None => Err(ParseFault::NotScript),
+        }
+    }
+
+    /// Takes a name of an object literal: a word, a text, or a number, which stands for its text. `NotScript` where none
+    /// comes.
+    #[tactic(auto, unfolding(js_grammar::specs::Parser::taken))]
+    pub fn field_name(&mut self, alloc: Global) -> Result<Units, ParseFault>
+        ensures { Reads (parser.taken field_name self.old) result self.new }
+    {
+        match self.tokens.first() {
+            Some(token) => {
+                let name = field_name_in(alloc, &token.what)?;
+                self.skip();
+                Ok(name)
+            }
+            None => Err(ParseFault::NotScript),
+        }
+    }
+
+    /// Takes an identifier, a number or a text as an expression. `NotScript` where none comes.
+    #[tactic(auto, unfolding(js_grammar::specs::Parser::taken))]
+    pub fn atom(&mut self) -> Result<Expr, ParseFault>
+        ensures { Reads (parser.taken reader.atom_of self.old) result self.new }
+    {
+        match self.tokens.first() {
+            Some(token) => {
+                let atom = atom_in(&token.what, self.sign)?;
+                self.skip();
+                Ok(atom)
+            }
+            None => Err(ParseFault::NotScript),
+        }
+    }
+
+    /// The `++` (`true`) or `--` (`false`) that comes next in the same line.
+    pub fn step(&self) -> Option<bool>
+        ensures { result ≡ reader.step_at self.now }
+    {
+        match self.tokens.first() {
+            Some(token) => in_line(step_of(self.sign), token.after_line),
+            None => None,
+        }
+    }
+
+    /// Whether a symbol comes next, and no line end before it.
+    pub fn same_line(&self) -> bool
+        ensures { result ≡ same_line self.now }
+    {
+        match self.tokens.first() {
+            Some(token) => !token.after_line,
+            None => false,
+        }
+    }
+
+    /// Whether a line end stands before what comes next, where something does.
+    pub fn after_line(&self) -> Option<bool>
+        ensures { result ≡ after_line self.now }
+    {
+        match self.tokens.first() {
+            Some(token) => Some(token.after_line),
+            None => None,
+        }
+    }
+}
+
+fn is_sign(sign: Sign, next: Option<Sign>) -> bool
+    ensures { result ≡ parser.is_sign sign next }
+{
+    match next {
+        Some(next) => next == sign,
+        None => false,
+    }
+}
+
+fn first_sign(tokens: &[Token]) -> Option<Sign>
+    ensures { result ≡ sign_at (lexemes tokens.now) }
+{
+    match tokens.first() {
+        Some(token) => sign_in(&token.what),
+        None => None,
+    }
+}
+
+/// The sign that the token is, if it is one.
+fn sign_in(kind: &TokenKind) -> Option<Sign>
+    ensures { result ≡ sign_of (symbol_of kind.now) }
+{
+    match kind {
+        TokenKind::Word(word) => match keyword_of(word) {
+            Some(keyword) => Some(Sign::Word(keyword)),
+            None => None,
+        },
+        TokenKind::Punct(mark) => Some(Sign::Mark(*mark)),
+        TokenKind::Number(_) | TokenKind::Text(_) => None,
+    }
+}
+
+/// The identifier that the token with this sign is, if it is one.
+#[tactic(auto, using(crate::proofs::Words::identifier_of_word, crate::proofs::Words::identifier_of_sign))]
+fn identifier_in<'a>(kind: &'a TokenKind, sign: Option<Sign>) -> Option<&'a Units>
+    requires { sign ≡ sign_of (symbol_of kind.now) }
+    ensures { option_copied result ≡ reader.identifier_of (symbol_of kind.now) }
+{
+    if sign.is_some() {
+        return None;
+    }
+    match kind {
+        TokenKind::Word(word) => {
+            if is_unused_word(word) {
+                None
+            } else {
+                Some(word)
+            }
+        }
+        _ => None,
+    }
+}
+
+/// What stands behind a point.
+#[tactic(auto, using(crate::proofs::Words::member_of_word))]
+fn member_name_in<'a>(kind: &'a TokenKind) -> Option<&'a Units>
+    ensures { option_copied result ≡ member_name (symbol_of kind.now) }
+{
+    match kind {
+        TokenKind::Word(word) => Some(word),
+        _ => None,
+    }
+}
+
+/// The name of an object literal that the token is.
+#[tactic(auto, using(crate::proofs::Words::field_of_word))]
+fn field_name_in(alloc: Global, kind: &TokenKind) -> Result<Units, ParseFault>
+    ensures { Gives (field_name (symbol_of kind.now)) result }
+{
+    match kind {
+        TokenKind::Word(word) => Ok(word.clone()?),
+        TokenKind::Text(text) => Ok(text.clone()?),
+        TokenKind::Number(number) => number_text(alloc, *number),
+        TokenKind::Punct(_) => Err(ParseFault::NotScript),
+    }
+}
+
+/// The text of a number (section 9.8.1).
+fn number_text(alloc: Global, number: Whole) -> Result<Units, ParseFault>
+    ensures { Gives (Some (spec_number_text number)) result }
+{
+    match number.get() {
+        None => Ok(ascii_text(alloc, b"NaN")?),
+        Some(n) => Ok(ascii_text(alloc, Buffer::new().format(n).as_bytes())?),
+    }
+}
+
+/// The expression that the token with this sign is on its own.
+fn atom_in(kind: &TokenKind, sign: Option<Sign>) -> Result<Expr, ParseFault>
+    requires { sign ≡ sign_of (symbol_of kind.now) }
+    ensures { Gives (reader.atom_of (symbol_of kind.now)) result }
+{
+    let node = match kind {
+        TokenKind::Number(number) => ExprNode::Num(*number),
+        TokenKind::Text(text) => ExprNode::Text(text.clone()?),
+        _ => match identifier_in(kind, sign) {
+            Some(name) => ExprNode::Name(name.clone()?),
+            None => return Err(ParseFault::NotScript),
+        },
+    };
+    Ok(Expr { node })
+}
+
+/// Whether the sign is `++` (`true`) or `--` (`false`).
+fn step_of(sign: Option<Sign>) -> Option<bool>
+    ensures { result ≡ operators.step_of sign }
+{
+    match sign {
+        Some(Sign::Mark(Punct::PlusPlus)) => Some(true),
+        Some(Sign::Mark(Punct::MinusMinus)) => Some(false),
+        _ => None,
+    }
+}
+
+/// The step, unless a line end stands before it.
+fn in_line(step: Option<bool>, after_line: bool) -> Option<bool>
+    ensures { result ≡ reader.in_line step after_line }
+{
+    match step {
+        Some(up) => { if after_line { None } else { Some(up) } }
+        None => None,
+    }
+}
