@@ -1,0 +1,4 @@
+pub mod Beginnings
+pub mod Clauses
+pub mod Inner
+pub mod Whole

@@ -1,0 +1,13 @@
+-- What reading a whole script gives.
+use Rattle.std.specs.Prelude.{◌≡◌, ◌≢◌, Option, Some, None, Result, Ok, Err}
+use Rattle.std.specs.declared.alloc.Global.{Global}
+use Rattle.std.specs.declared.vec.Vec.{Vec}
+use Rattle.js_core.specs.Tree as tree
+use Rattle.js_core.specs.Tree.{stmts_of}
+use Rattle.expression_parser.specs.declared.fault.ParseFault.{ParseFault}
+use Rattle.expression_parser.specs.declared.fault.ParseFault.TheVariants.{OutOfMemory}
+
+-- the statements of the script, or that there is none, unless memory fails
+abbrev pub GivesBody : Option tree.Stmts → Result (Vec tree.Stmt Global) ParseFault → Type 0
+GivesBody outcome (Ok found) = outcome ≡ Some (stmts_of found.items)
+GivesBody outcome (Err e) = e ≢ OutOfMemory → outcome ≡ None

@@ -1,0 +1,170 @@
+//! Where a statement ends, and where one more begins (ECMA-262 5.1 section 7.9).
+
+ghost use Rattle.std.specs.Prelude.{◌≡◌, ◌||◌, Some, true};
+ghost use Rattle.js_core.specs.declared.token.Punct.TheVariants as p;
+ghost use Rattle.js_grammar.specs.declared.sign.Sign.TheVariants.{Mark};
+ghost use Rattle.js_grammar.specs.Operators as operators;
+ghost use Rattle.js_grammar.specs.Parser.{is_sign};
+ghost use Rattle.js_grammar.specs.Endings as spec;
+ghost use Rattle.js_grammar.specs.StatementReader as reader;
+ghost use Rattle.expression_parser.specs.Reads.{Reads};
+
+use expression_parser::cursor::Cursor;
+use expression_parser::fault::ParseFault;
+use js_core::keyword::Keyword;
+use js_core::syntax::Declarator;
+use js_core::token::Punct;
+use js_grammar::ending::Ending;
+use js_grammar::sign::Sign;
+
+/// How an expression that was read to its end goes on: it has taken each `(`, `[` and point already.
+pub const READ_EXPRESSION: Ending = Ending::AfterExpression(false);
+
+/// Takes a semicolon, unless it may be missing here. `NotScript` where it may not.
+#[tactic(auto, unfolding(js_grammar::specs::StatementReader::ended))]
+pub fn ended(tokens: &mut Cursor<'_>, ending: Ending) -> Result<(), ParseFault>
+    ensures { Reads (reader.ended ending tokens.old) result tokens.new }
+{
+    if tokens.sees(Sign::Mark(Punct::Semicolon)) {
+        tokens.skip();
+        return Ok(());
+    }
+    if may_end(tokens, ending) {
+        Ok(())
+    } else {
+        Err(ParseFault::NotScript)
+    }
+}
+
+/// Whether a semicolon may be missing here.
+#[tactic(auto, using(crate::proofs::Ends::may_end_at_end, crate::proofs::Ends::may_end_before))]
+pub fn may_end(tokens: &Cursor<'_>, ending: Ending) -> bool
+    ensures { result ≡ spec.may_end ending tokens.now }
+{
+    match tokens.after_line() {
+        None => true,
+        Some(after_line) => ends_before(ending, tokens.sign(), after_line),
+    }
+}
+
+fn ends_before(ending: Ending, sign: Option<Sign>, after_line: bool) -> bool
+    ensures { result ≡ spec.ends_before ending sign after_line }
+{
+    is_right_brace(sign) || after_line && !goes_on(ending, sign)
+}
+
+fn is_right_brace(sign: Option<Sign>) -> bool
+    ensures { result ≡ spec.is_right_brace sign }
+{
+    matches!(sign, Some(Sign::Mark(Punct::RightBrace)))
+}
+
+/// Whether the sign is a semicolon or goes on with the statement.
+fn goes_on(ending: Ending, sign: Option<Sign>) -> bool
+    ensures { result ≡ (is_sign (Mark p.Semicolon) sign || spec.continues ending sign) }
+{
+    matches!(sign, Some(Sign::Mark(Punct::Semicolon))) || continues(ending, sign)
+}
+
+fn continues(ending: Ending, sign: Option<Sign>) -> bool
+    ensures { result ≡ spec.continues ending sign }
+{
+    match ending {
+        Ending::AfterExpression(grows) => grows && is_suffix(sign) || is_operator(sign),
+        Ending::AfterName => matches!(sign, Some(Sign::Mark(Punct::SimpleAssign | Punct::Comma))),
+        Ending::AfterAll => false,
+    }
+}
+
+/// Whether the sign is a point or an opening `(` or `[`.
+fn is_suffix(sign: Option<Sign>) -> bool
+    ensures { result ≡ operators.is_suffix true sign }
+{
+    matches!(
+        sign,
+        Some(Sign::Mark(Punct::Dot | Punct::LeftBracket | Punct::LeftParenthesis))
+    )
+}
+
+/// Whether the sign is a binary, logical, relational, conditional, assignment or comma operator.
+fn is_operator(sign: Option<Sign>) -> bool
+    ensures { result ≡ spec.is_operator sign }
+{
+    match sign {
+        Some(Sign::Mark(mark)) => is_operator_mark(mark),
+        Some(Sign::Word(Keyword::In | Keyword::InstanceOf)) => true,
+        _ => false,
+    }
+}
+
+fn is_operator_mark(mark: Punct) -> bool
+    ensures { result ≡ spec.is_operator (Some (Mark mark)) }
+{
+    match mark {
+        Punct::LeftBrace
+        | Punct::RightBrace
+        | Punct::LeftParenthesis
+        | Punct::RightParenthesis
+        | Punct::LeftBracket
+        | Punct::RightBracket
+        | Punct::Dot
+        | Punct::Semicolon
+        | Punct::PlusPlus
+        | Punct::MinusMinus
+        | Punct::ExclamationMark
+        | Punct::Tilde
+        | Punct::Colon => false,
+        _ => true,
+    }
+}
+
+/// How a list of declarators ends: behind the last name, or behind its initialiser.
+#[tactic(auto, using(crate::proofs::Ends::ending_of_last))]
+pub fn ending_of(found: &[Declarator]) -> Ending
+    ensures { result ≡ reader.ending_of found.now }
+{
+    match found.split_last() {
+        Some((last, _)) => ending_by(last),
+        None => Ending::AfterName,
+    }
+}
+
+fn ending_by(last: &Declarator) -> Ending
+    ensures { result ≡ reader.ending_by last.now.value }
+{
+    match &last.value {
+        Some(_) => READ_EXPRESSION,
+        None => Ending::AfterName,
+    }
+}
+
+/// Whether there is one more statement before a `}` and the end.
+#[tactic(auto, using(crate::proofs::Ends::has_more_at_end, crate::proofs::Ends::has_more_before))]
+pub fn has_more(tokens: &Cursor<'_>) -> bool
+    ensures { result ≡ reader.has_more tokens.now }
+{
+    match tokens.after_line() {
+        None => false,
+        Some(_) => !is_right_brace(tokens.sign()),
+    }
+}
+
+/// Whether there is one more statement of this clause of a `switch`.
+pub fn has_more_in_clause(tokens: &Cursor<'_>) -> bool
+    ensures { result ≡ reader.has_more_in_clause tokens.now }
+{
+    has_more(tokens) && !begins_clause(tokens.sign())
+}
+
+fn begins_clause(sign: Option<Sign>) -> bool
+    ensures { result ≡ reader.begins_clause sign }
+{
+    matches!(sign, Some(Sign::Word(Keyword::Case | Keyword::Default)))
+}
+
+/// Whether no operand may follow a `return`.
+pub fn returns(tokens: &Cursor<'_>) -> bool
+    ensures { result ≡ reader.returns tokens.now }
+{
+    tokens.sees(Sign::Mark(Punct::Semicolon)) || may_end(tokens, Ending::AfterAll)
+}

@@ -1,0 +1,167 @@
+//! `switch` (ECMA-262 5.1 section 12.11).
+
+ghost use Rattle.std.specs.Prelude.{◌≡◌};
+ghost use Rattle.js_grammar.specs.Parser.{many as spec_many};
+ghost use Rattle.js_grammar.specs.Statements as spec;
+ghost use Rattle.js_grammar.specs.StatementReader as reader;
+ghost use Rattle.expression_parser.specs.Inside.{Nests, limit, expression_in, body_in};
+ghost use Rattle.expression_parser.specs.Reads.{Reads};
+ghost use Rattle.script_parser.specs.Inner.{StatementsNest, statement_in};
+ghost use Rattle.expression_parser.specs.Reads.{ReadsAll};
+ghost use Rattle.script_parser.specs.Clauses.{ReadsClause, ReadsClauses, clauses_of};
+
+use crate::ending::{has_more, has_more_in_clause};
+use crate::inner::Statements;
+use crate::node::node;
+use expression_parser::cursor::Cursor;
+use expression_parser::fault::ParseFault;
+use expression_parser::lists::many;
+use js_core::keyword::Keyword;
+use js_core::syntax::{Case, Expr, Stmt, StmtNode};
+use js_core::token::Punct;
+use js_grammar::operators::Level;
+use js_grammar::sign::Sign;
+use std::alloc::Global;
+
+impl<
+    E: Fn(Global, usize, bool, Level, &mut Cursor<'_>) -> Result<Expr, ParseFault>,
+    B: Fn(Global, usize, &mut Cursor<'_>) -> Result<Vec<Stmt>, ParseFault>,
+    S: Fn(Global, usize, &mut Cursor<'_>) -> Result<Stmt, ParseFault>,
+> Statements<E, B, S> {
+    /// Reads the statements of a clause.
+    fn clause_statements(&self, tokens: &mut Cursor<'_>) -> Result<Vec<Stmt>, ParseFault>
+        requires expressions { Nests self.now.grammar.depth (E.pre self.now.grammar.expression) (E.post self.now.grammar.expression) (B.pre self.now.grammar.body) (B.post self.now.grammar.body) }
+        requires statements { StatementsNest self.now.grammar.depth (S.pre self.now.statement) (S.post self.now.statement) }
+        ensures { ReadsAll (spec_many reader.has_more_in_clause (statement_in self.now.grammar.depth) tokens.old) result tokens.new }
+    {
+        many(
+            self.grammar.alloc,
+            tokens,
+            |tokens| has_more_in_clause(tokens),
+            |tokens| self.statement(tokens),
+        )
+    }
+
+    /// Reads what stands behind `case`.
+    #[tactic(auto, unfolding(js_grammar::specs::StatementReader::case))]
+    fn case(&self, tokens: &mut Cursor<'_>) -> Result<Case, ParseFault>
+        requires expressions { Nests self.now.grammar.depth (E.pre self.now.grammar.expression) (E.post self.now.grammar.expression) (B.pre self.now.grammar.body) (B.post self.now.grammar.body) }
+        requires statements { StatementsNest self.now.grammar.depth (S.pre self.now.statement) (S.post self.now.statement) }
+        ensures { ReadsClause (reader.case limit (expression_in self.now.grammar.depth) (body_in self.now.grammar.depth) (statement_in self.now.grammar.depth) tokens.old) result tokens.new }
+    {
+        let test = self.expression(tokens)?;
+        tokens.expect(Sign::Mark(Punct::Colon))?;
+        let body = self.clause_statements(tokens)?;
+        Ok(Case {
+            test: Some(test),
+            body,
+        })
+    }
+
+    /// Reads what stands behind `default`.
+    #[tactic(auto, unfolding(js_grammar::specs::StatementReader::default))]
+    fn default(&self, tokens: &mut Cursor<'_>) -> Result<Case, ParseFault>
+        requires expressions { Nests self.now.grammar.depth (E.pre self.now.grammar.expression) (E.post self.now.grammar.expression) (B.pre self.now.grammar.body) (B.post self.now.grammar.body) }
+        requires statements { StatementsNest self.now.grammar.depth (S.pre self.now.statement) (S.post self.now.statement) }
+        ensures { ReadsClause (reader.default limit (expression_in self.now.grammar.depth) (body_in self.now.grammar.depth) (statement_in self.now.grammar.depth) tokens.old) result tokens.new }
+    {
+        tokens.expect(Sign::Mark(Punct::Colon))?;
+        let body = self.clause_statements(tokens)?;
+        Ok(Case { test: None, body })
+    }
+
+    /// Reads a clause.
+    #[tactic(auto, unfolding(js_grammar::specs::StatementReader::clause))]
+    fn clause(&self, tokens: &mut Cursor<'_>) -> Result<Case, ParseFault>
+        requires expressions { Nests self.now.grammar.depth (E.pre self.now.grammar.expression) (E.post self.now.grammar.expression) (B.pre self.now.grammar.body) (B.post self.now.grammar.body) }
+        requires statements { StatementsNest self.now.grammar.depth (S.pre self.now.statement) (S.post self.now.statement) }
+        ensures { ReadsClause (reader.clause limit (expression_in self.now.grammar.depth) (body_in self.now.grammar.depth) (statement_in self.now.grammar.depth) tokens.old) result tokens.new }
+    {
+        match tokens.sign() {
+            Some(Sign::Word(Keyword::Case)) => {
+                tokens.skip();
+                self.case(tokens)
+            }
+            Some(Sign::Word(Keyword::Default)) => {
+                tokens.skip();
+                self.default(tokens)
+            }
+            _ => Err(ParseFault::NotScript),
+        }
+    }
+
+    /// Reads the clauses before a `}` and the end.
+    fn clauses(&self, tokens: &mut Cursor<'_>) -> Result<Vec<Case>, ParseFault>
+        requires expressions { Nests self.now.grammar.depth (E.pre self.now.grammar.expression) (E.post self.now.grammar.expression) (B.pre self.now.grammar.body) (B.post self.now.grammar.body) }
+        requires statements { StatementsNest self.now.grammar.depth (S.pre self.now.statement) (S.post self.now.statement) }
+        ensures { ReadsClauses (spec_many reader.has_more (reader.clause limit (expression_in self.now.grammar.depth) (body_in self.now.grammar.depth) (statement_in self.now.grammar.depth)) tokens.old) result tokens.new }
+    {
+        let mut found = Vec::new(self.grammar.alloc);
+        for _turn in 0..tokens.left() {
+            if !has_more(tokens) {
+                return Ok(found);
+            }
+            found.push(self.clause(tokens)?)?;
+        }
+        Ok(found)
+    }
+
+    /// The statement with these clauses. `NotScript` where two of them are `default`.
+    #[tactic(auto, unfolding(js_grammar::specs::StatementReader::switched), using(crate::proofs::Clauses::same_cases))]
+    fn switched(
+        &self,
+        value: Expr,
+        cases: Vec<Case>,
+        tokens: &mut Cursor<'_>,
+    ) -> Result<Stmt, ParseFault>
+        requires expressions { Nests self.now.grammar.depth (E.pre self.now.grammar.expression) (E.post self.now.grammar.expression) (B.pre self.now.grammar.body) (B.post self.now.grammar.body) }
+        requires statements { StatementsNest self.now.grammar.depth (S.pre self.now.statement) (S.post self.now.statement) }
+        ensures { Reads (reader.switched limit (expression_in self.now.grammar.depth) (body_in self.now.grammar.depth) (statement_in self.now.grammar.depth) value (clauses_of cases.items) tokens.old) result tokens.new }
+    {
+        if !has_one_default(cases.as_slice()) {
+            return Err(ParseFault::NotScript);
+        }
+        node(StmtNode::Switch(value, cases), tokens)
+    }
+
+    /// Reads what stands behind `switch`.
+    #[tactic(auto, unfolding(js_grammar::specs::StatementReader::switch))]
+    pub fn switch(&self, tokens: &mut Cursor<'_>) -> Result<Stmt, ParseFault>
+        requires expressions { Nests self.now.grammar.depth (E.pre self.now.grammar.expression) (E.post self.now.grammar.expression) (B.pre self.now.grammar.body) (B.post self.now.grammar.body) }
+        requires statements { StatementsNest self.now.grammar.depth (S.pre self.now.statement) (S.post self.now.statement) }
+        ensures { Reads (reader.switch limit (expression_in self.now.grammar.depth) (body_in self.now.grammar.depth) (statement_in self.now.grammar.depth) tokens.old) result tokens.new }
+    {
+        let value = self.condition(tokens)?;
+        tokens.expect(Sign::Mark(Punct::LeftBrace))?;
+        let cases = self.clauses(tokens)?;
+        tokens.expect(Sign::Mark(Punct::RightBrace))?;
+        self.switched(value, cases, tokens)
+    }
+}
+
+/// Whether no second clause is `default`.
+fn has_one_default(cases: &[Case]) -> bool
+    ensures { result ≡ spec.has_one_default (clauses_of cases.now) }
+{
+    let mut rest = cases;
+    while let [case, after @ ..] = rest {
+        match &case.test {
+            None => return !has_default(after),
+            Some(_) => rest = after,
+        }
+    }
+    true
+}
+
+fn has_default(cases: &[Case]) -> bool
+    ensures { result ≡ spec.has_default (clauses_of cases.now) }
+{
+    let mut rest = cases;
+    while let [case, after @ ..] = rest {
+        match &case.test {
+            None => return true,
+            Some(_) => rest = after,
+        }
+    }
+    false
+}

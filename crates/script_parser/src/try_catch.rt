@@ -1,0 +1,75 @@
+//! `try` (ECMA-262 5.1 section 12.14).
+
+ghost use Rattle.std.specs.Prelude.{◌≡◌};
+ghost use Rattle.js_core.specs.Views.{catch_of};
+ghost use Rattle.js_grammar.specs.StatementReader as reader;
+ghost use Rattle.expression_parser.specs.Inside.{Nests, limit, expression_in, body_in};
+ghost use Rattle.expression_parser.specs.Reads.{Reads};
+ghost use Rattle.script_parser.specs.Inner.{StatementsNest, statement_in};
+
+use crate::inner::Statements;
+use crate::node::node;
+use expression_parser::cursor::Cursor;
+use expression_parser::fault::ParseFault;
+use js_core::keyword::Keyword;
+use js_core::syntax::{Catch, Expr, Stmt, StmtNode};
+use js_core::token::Punct;
+use js_grammar::operators::Level;
+use js_grammar::sign::Sign;
+use std::alloc::Global;
+
+impl<
+    E: Fn(Global, usize, bool, Level, &mut Cursor<'_>) -> Result<Expr, ParseFault>,
+    B: Fn(Global, usize, &mut Cursor<'_>) -> Result<Vec<Stmt>, ParseFault>,
+    S: Fn(Global, usize, &mut Cursor<'_>) -> Result<Stmt, ParseFault>,
+> Statements<E, B, S> {
+    /// Reads what stands behind `finally`.
+    #[tactic(auto, unfolding(js_grammar::specs::StatementReader::finally))]
+    fn finally(
+        &self,
+        block: Vec<Stmt>,
+        catch: Option<Catch>,
+        tokens: &mut Cursor<'_>,
+    ) -> Result<Stmt, ParseFault>
+        requires expressions { Nests self.now.grammar.depth (E.pre self.now.grammar.expression) (E.post self.now.grammar.expression) (B.pre self.now.grammar.body) (B.post self.now.grammar.body) }
+        requires statements { StatementsNest self.now.grammar.depth (S.pre self.now.statement) (S.post self.now.statement) }
+        ensures { Reads (reader.finally limit (expression_in self.now.grammar.depth) (body_in self.now.grammar.depth) (statement_in self.now.grammar.depth) block.items (catch_of catch) tokens.old) result tokens.new }
+    {
+        let last = Some(self.braced(tokens)?);
+        node(StmtNode::Try { block, catch, last }, tokens)
+    }
+
+    /// Reads what stands behind `catch`.
+    #[tactic(auto, unfolding(js_grammar::specs::StatementReader::caught, js_grammar::specs::Parser::eat))]
+    fn caught(&self, block: Vec<Stmt>, tokens: &mut Cursor<'_>) -> Result<Stmt, ParseFault>
+        requires expressions { Nests self.now.grammar.depth (E.pre self.now.grammar.expression) (E.post self.now.grammar.expression) (B.pre self.now.grammar.body) (B.post self.now.grammar.body) }
+        requires statements { StatementsNest self.now.grammar.depth (S.pre self.now.statement) (S.post self.now.statement) }
+        ensures { Reads (reader.caught limit (expression_in self.now.grammar.depth) (body_in self.now.grammar.depth) (statement_in self.now.grammar.depth) block.items tokens.old) result tokens.new }
+    {
+        tokens.expect(Sign::Mark(Punct::LeftParenthesis))?;
+        let name = tokens.identifier()?;
+        tokens.expect(Sign::Mark(Punct::RightParenthesis))?;
+        let body = self.braced(tokens)?;
+        let catch = Some(Catch { name, body });
+        if tokens.eat(Sign::Word(Keyword::Finally)) {
+            return self.finally(block, catch, tokens);
+        }
+        let last = None;
+        node(StmtNode::Try { block, catch, last }, tokens)
+    }
+
+    /// Reads what stands behind `try`.
+    #[tactic(auto, unfolding(js_grammar::specs::StatementReader::tried, js_grammar::specs::Parser::eat))]
+    pub fn tried(&self, tokens: &mut Cursor<'_>) -> Result<Stmt, ParseFault>
+        requires expressions { Nests self.now.grammar.depth (E.pre self.now.grammar.expression) (E.post self.now.grammar.expression) (B.pre self.now.grammar.body) (B.post self.now.grammar.body) }
+        requires statements { StatementsNest self.now.grammar.depth (S.pre self.now.statement) (S.post self.now.statement) }
+        ensures { Reads (reader.tried limit (expression_in self.now.grammar.depth) (body_in self.now.grammar.depth) (statement_in self.now.grammar.depth) tokens.old) result tokens.new }
+    {
+        let block = self.braced(tokens)?;
+        if tokens.eat(Sign::Word(Keyword::Catch)) {
+            return self.caught(block, tokens);
+        }
+        tokens.expect(Sign::Word(Keyword::Finally))?;
+        self.finally(block, None, tokens)
+    }
+}

@@ -1,0 +1,103 @@
+//! Declarations of variables (ECMA-262 5.1 section 12.2), and expression statements (section 12.4).
+
+ghost use Rattle.std.specs.Prelude.{◌≡◌, true};
+ghost use Rattle.js_core.specs.Tree as tree;
+ghost use Rattle.js_grammar.specs.StatementReader as reader;
+ghost use Rattle.expression_parser.specs.Inside.{Nests, limit, expression_in, body_in};
+ghost use Rattle.expression_parser.specs.Reads.{Reads};
+ghost use Rattle.script_parser.specs.Inner.{StatementsNest, statement_in};
+ghost use Rattle.expression_parser.specs.Reads.{ReadsAll};
+ghost use Rattle.js_grammar.specs.Parser.{separated as spec_separated};
+
+use crate::ending::{READ_EXPRESSION, ended, ending_of};
+use crate::inner::Statements;
+use crate::node::node;
+use expression_parser::cursor::Cursor;
+use expression_parser::fault::ParseFault;
+use expression_parser::lists::separated;
+use js_core::syntax::{Declarator, Expr, Stmt, StmtNode};
+use js_core::token::Punct;
+use js_core::units::Units;
+use js_grammar::operators::Level;
+use js_grammar::sign::Sign;
+use std::alloc::Global;
+
+impl<
+    E: Fn(Global, usize, bool, Level, &mut Cursor<'_>) -> Result<Expr, ParseFault>,
+    B: Fn(Global, usize, &mut Cursor<'_>) -> Result<Vec<Stmt>, ParseFault>,
+    S: Fn(Global, usize, &mut Cursor<'_>) -> Result<Stmt, ParseFault>,
+> Statements<E, B, S> {
+    #[tactic(auto, unfolding(js_grammar::specs::StatementReader::declared_by))]
+    fn declared_by(
+        &self,
+        inn: bool,
+        name: Units,
+        is_initialised: bool,
+        tokens: &mut Cursor<'_>,
+    ) -> Result<Declarator, ParseFault>
+        requires expressions { Nests self.now.grammar.depth (E.pre self.now.grammar.expression) (E.post self.now.grammar.expression) (B.pre self.now.grammar.body) (B.post self.now.grammar.body) }
+        requires statements { StatementsNest self.now.grammar.depth (S.pre self.now.statement) (S.post self.now.statement) }
+        ensures { Reads (reader.declared_by limit (expression_in self.now.grammar.depth) (body_in self.now.grammar.depth) (statement_in self.now.grammar.depth) inn name is_initialised tokens.old) result tokens.new }
+    {
+        if !is_initialised {
+            return Ok(Declarator { name, value: None });
+        }
+        let value = self.grammar.one(inn, tokens)?;
+        Ok(Declarator {
+            name,
+            value: Some(value),
+        })
+    }
+
+    #[tactic(auto, unfolding(js_grammar::specs::StatementReader::declaration, js_grammar::specs::Parser::eat))]
+    fn declaration(&self, inn: bool, tokens: &mut Cursor<'_>) -> Result<Declarator, ParseFault>
+        requires expressions { Nests self.now.grammar.depth (E.pre self.now.grammar.expression) (E.post self.now.grammar.expression) (B.pre self.now.grammar.body) (B.post self.now.grammar.body) }
+        requires statements { StatementsNest self.now.grammar.depth (S.pre self.now.statement) (S.post self.now.statement) }
+        ensures { Reads (reader.declaration limit (expression_in self.now.grammar.depth) (body_in self.now.grammar.depth) (statement_in self.now.grammar.depth) inn tokens.old) result tokens.new }
+    {
+        let name = tokens.identifier()?;
+        let is_initialised = tokens.eat(Sign::Mark(Punct::SimpleAssign));
+        self.declared_by(inn, name, is_initialised, tokens)
+    }
+
+    /// Reads declarations with commas between them, where `in` is an operator if `inn`.
+    pub fn declarations(
+        &self,
+        inn: bool,
+        tokens: &mut Cursor<'_>,
+    ) -> Result<Vec<Declarator>, ParseFault>
+        requires expressions { Nests self.now.grammar.depth (E.pre self.now.grammar.expression) (E.post self.now.grammar.expression) (B.pre self.now.grammar.body) (B.post self.now.grammar.body) }
+        requires statements { StatementsNest self.now.grammar.depth (S.pre self.now.statement) (S.post self.now.statement) }
+        ensures { ReadsAll (spec_separated (reader.declaration limit (expression_in self.now.grammar.depth) (body_in self.now.grammar.depth) (statement_in self.now.grammar.depth) inn) tokens.old) result tokens.new }
+    {
+        separated(
+            self.grammar.alloc,
+            tokens,
+            |tokens| self.declaration(inn, tokens),
+        )
+    }
+
+    /// Reads the declarations behind `var`, and their end.
+    #[tactic(auto, unfolding(js_grammar::specs::StatementReader::variables))]
+    pub fn variables(&self, tokens: &mut Cursor<'_>) -> Result<Stmt, ParseFault>
+        requires expressions { Nests self.now.grammar.depth (E.pre self.now.grammar.expression) (E.post self.now.grammar.expression) (B.pre self.now.grammar.body) (B.post self.now.grammar.body) }
+        requires statements { StatementsNest self.now.grammar.depth (S.pre self.now.statement) (S.post self.now.statement) }
+        ensures { Reads (reader.variables limit (expression_in self.now.grammar.depth) (body_in self.now.grammar.depth) (statement_in self.now.grammar.depth) tokens.old) result tokens.new }
+    {
+        let found = self.declarations(true, tokens)?;
+        ended(tokens, ending_of(found.as_slice()))?;
+        node(StmtNode::Var(found), tokens)
+    }
+
+    /// Reads an expression statement.
+    #[tactic(auto, unfolding(js_grammar::specs::StatementReader::expressed))]
+    pub fn expressed(&self, tokens: &mut Cursor<'_>) -> Result<Stmt, ParseFault>
+        requires expressions { Nests self.now.grammar.depth (E.pre self.now.grammar.expression) (E.post self.now.grammar.expression) (B.pre self.now.grammar.body) (B.post self.now.grammar.body) }
+        requires statements { StatementsNest self.now.grammar.depth (S.pre self.now.statement) (S.post self.now.statement) }
+        ensures { Reads (reader.expressed limit (expression_in self.now.grammar.depth) (body_in self.now.grammar.depth) (statement_in self.now.grammar.depth) tokens.old) result tokens.new }
+    {
+        let value = self.expression(tokens)?;
+        ended(tokens, READ_EXPRESSION)?;
+        node(StmtNode::Expr(value), tokens)
+    }
+}
