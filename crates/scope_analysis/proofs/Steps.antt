@@ -1,0 +1,14 @@
+-- One more element of a list is looked at, where none before it passed.
+use Rattle.std.proofs.Common.{◌≡◌, ◌≤◌, ◌-◌, ◌||◌, Bool, false, List, [], ◌∷◌, length, get_or, take, drop, arith, rules}
+use Rattle.std.proofs.lemmas.Grind.{common_steps}
+use Rattle.js_core.specs.Tree as tree
+use Rattle.js_core.specs.Tree.{exprs_of, stmts_of}
+use Rattle.scope_analysis.specs.Nodes.{Node, expr_any, exprs_any, stmt_any, stmts_any}
+
+pub statements_step : (test : Node → Bool) (found here whole : Bool) (ss : List tree.Stmt) (s : tree.Stmt) → 1 ≤ length ss → s ≡ get_or ss 0 s → here ≡ stmt_any test s → found ≡ false → (found || stmts_any test (stmts_of ss)) ≡ whole → (here || stmts_any test (stmts_of (take (length ss - 1) (drop 1 ss)))) ≡ whole
+statements_step test found here whole [] s h is at none left = absurd (omega arith)
+statements_step test found here whole (x ∷ xs) s h is at none left = grind (arith, common_steps)
+
+pub expressions_step : (test : Node → Bool) (found here whole : Bool) (es : List tree.Expr) (e : tree.Expr) → 1 ≤ length es → e ≡ get_or es 0 e → here ≡ expr_any test false e → found ≡ false → (found || exprs_any test (exprs_of es)) ≡ whole → (here || exprs_any test (exprs_of (take (length es - 1) (drop 1 es)))) ≡ whole
+expressions_step test found here whole [] e h is at none left = absurd (omega arith)
+expressions_step test found here whole (x ∷ xs) e h is at none left = grind (arith, common_steps)

@@ -1,0 +1,11 @@
+use Rattle.std.proofs.Common.{◌≡◌, length}
+use Rattle.js_core.specs.Tree.{fields_of}
+use Rattle.scope_analysis.specs.EarlyRules as rules
+use Rattle.scope_analysis.specs.Names.{is_among}
+use Rattle.scope_analysis.proofs.node_tests.has_field.Given as goal
+
+abbrev pub invariant-loop-rest : goal.invariant-loop-rest
+invariant-loop-rest l = is_among l.name (rules.field_names (fields_of l.rest)) ≡ is_among l.name (rules.field_names (fields_of l.fields))
+
+abbrev pub decreases-loop-rest : goal.decreases-loop-rest
+decreases-loop-rest l = length l.rest

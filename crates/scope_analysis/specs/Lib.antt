@@ -1,0 +1,10 @@
+pub mod EarlyRules
+pub mod Form
+pub mod Identifiers
+pub mod Jumps
+pub mod NameTests
+pub mod Names
+pub mod NodeTests
+pub mod Nodes
+pub mod ScopeTests
+pub mod Uses

@@ -1,0 +1,180 @@
+//! The early rules that a script breaks.
+
+ghost use Rattle.std.specs.Prelude.{◌≡◌, ◌≤◌, IfOk};
+ghost use Rattle.js_core.specs.Height.{expr_height, stmt_height};
+ghost use Rattle.js_core.specs.Views.{stmt_of};
+ghost use Rattle.js_core.specs.Tree.{stmts_of};
+ghost use Rattle.scope_analysis.specs.declared.early_rule.EarlyRule.TheVariants as rule;
+ghost use Rattle.scope_analysis.specs.EarlyRules as spec;
+
+use crate::early_rule::EarlyRule;
+use crate::jump::Jump;
+use crate::jumps::{leaves, strays};
+use crate::node_test::NodeTest;
+use crate::nodes::any_in_statements;
+use crate::scope_test::ScopeTest;
+use crate::uses::push_statements_uses;
+use js_core::global_names::is_global_name;
+use js_core::memory::OutOfMemory;
+use js_core::syntax::{Script, Stmt, StmtNode};
+use js_core::units::Units;
+use std::alloc::Global;
+
+const EARLY_RULES: [EarlyRule; 9] = [
+    EarlyRule::RepeatedFormal,
+    EarlyRule::RepeatedField,
+    EarlyRule::DeletedName,
+    EarlyRule::RestrictedName,
+    EarlyRule::StrayReturn,
+    EarlyRule::StrayJump,
+    EarlyRule::BadTarget,
+    EarlyRule::AssignedOwnName,
+    EarlyRule::RedeclaredGlobal,
+];
+
+/// The early rule with the lowest number that the script breaks anywhere, or `None` where it breaks none.
+#[tactic(auto, unfolding(crate::specs::EarlyRules::early_rules))]
+pub fn early(alloc: Global, script: &Script) -> Result<Option<EarlyRule>, OutOfMemory>
+    ensures { IfOk result (λ rule. rule ≡ spec.early_rule script.now) }
+{
+    first_broken(alloc, &EARLY_RULES, script.body.as_slice())
+}
+
+fn first_broken(
+    alloc: Global,
+    rules: &[EarlyRule],
+    statements: &[Stmt],
+) -> Result<Option<EarlyRule>, OutOfMemory>
+    ensures { IfOk result (λ rule. rule ≡ spec.first_broken rules.now (stmts_of statements.now)) }
+{
+    let mut rest = rules;
+    while let [rule, after @ ..] = rest {
+        if breaks(alloc, *rule, statements)? {
+            return Ok(Some(*rule));
+        }
+        rest = after;
+    }
+    Ok(None)
+}
+
+fn breaks(alloc: Global, rule: EarlyRule, statements: &[Stmt]) -> Result<bool, OutOfMemory>
+    ensures { IfOk result (λ broken. broken ≡ spec.breaks rule (stmts_of statements.now)) }
+{
+    match rule {
+        EarlyRule::RepeatedFormal => Ok(any_in_statements(NodeTest::RepeatsFormal, statements)),
+        EarlyRule::RepeatedField => Ok(any_in_statements(NodeTest::RepeatsField, statements)),
+        EarlyRule::DeletedName => Ok(any_in_statements(NodeTest::DeletesName, statements)),
+        EarlyRule::RestrictedName => Ok(any_in_statements(NodeTest::HasRestrictedName, statements)),
+        EarlyRule::StrayReturn => Ok(leaves(Jump::Return, statements)),
+        EarlyRule::StrayJump => {
+            Ok(strays(statements) || any_in_statements(NodeTest::HasStrayJump, statements))
+        }
+        EarlyRule::BadTarget => Ok(any_in_statements(NodeTest::HasBadTarget, statements)),
+        EarlyRule::AssignedOwnName => assigns_own_name(alloc, statements),
+        EarlyRule::RedeclaredGlobal => Ok(redeclares_global(statements)),
+    }
+}
+
+fn assigns_own_name(alloc: Global, statements: &[Stmt]) -> Result<bool, OutOfMemory>
+    ensures { IfOk result (λ broken. broken ≡ spec.breaks rule.AssignedOwnName (stmts_of statements.now)) }
+{
+    let mut uses = Vec::new(alloc);
+    push_statements_uses(ScopeTest::AssignsOwnName, statements, &mut uses)
+}
+
+fn redeclares_global(statements: &[Stmt]) -> bool
+    ensures { result ≡ spec.redeclares_global (stmts_of statements.now) }
+{
+    let mut rest = statements;
+    while let [statement, after @ ..] = rest {
+        if declares_global(statement) {
+            return true;
+        }
+        rest = after;
+    }
+    false
+}
+
+fn declares_global(statement: &Stmt) -> bool
+    ensures { result ≡ spec.declares_global statement.now }
+{
+    match &statement.node {
+        StmtNode::Function(code) => is_global(&code.name),
+        _ => false,
+    }
+}
+
+fn is_global(name: &Option<Units>) -> bool
+    ensures { result ≡ spec.is_global name.now }
+{
+    match name {
+        None => false,
+        Some(name) => is_global_name(name),
+    }
+}
+
+#[cfg(test)]
+mod tests {
+    use super::*;
+    use crate::test_trees::{alone, assigned, function, name, script};
+    use js_core::syntax::Expr;
+    use std::process::Abort;
+    use std::test::Fail;
+
+    // The number of the first rule broken, or 0.
+    fn breaks(rt: &(impl Abort + AllocGlobal), node: StmtNode, number: u8) -> Result<(), Fail>
+        requires { stmt_height (stmt_of node) ≤ 500 }
+    {
+        let broken = match early(rt.alloc(), &script(rt.alloc(), node)?)? {
+            None => 0,
+            Some(rule) => rule.number(),
+        };
+        assert_eq!(rt; broken, number);
+        Ok(())
+    }
+
+    #[test]
+    fn finds_the_lowest_rule(rt: HostRuntime) -> Result<(), Fail> {
+        let a = rt.alloc();
+        breaks(&rt, StmtNode::Empty, 0)?;
+        let twice = function(a, "f", &["x", "y", "x"], StmtNode::Empty)?;
+        breaks(&rt, StmtNode::Expr(twice), 1)?;
+        let once = function(a, "x", &["x", "X"], StmtNode::Empty)?;
+        breaks(&rt, StmtNode::Expr(once), 0)?;
+        breaks(&rt, StmtNode::Throw(name(a, "eval")?), 4)?;
+        breaks(&rt, StmtNode::Throw(name(a, "evals")?), 0)?;
+        let formal = function(a, "", &["arguments"], StmtNode::Break)?;
+        breaks(&rt, StmtNode::Expr(formal), 4)
+    }
+
+    #[test]
+    fn finds_stray_jumps(rt: HostRuntime) -> Result<(), Fail> {
+        let a = rt.alloc();
+        breaks(&rt, StmtNode::Return(None), 5)?;
+        let returning = function(a, "", &[], StmtNode::Return(None))?;
+        breaks(&rt, StmtNode::Return(Some(returning)), 5)?;
+        breaks(&rt, StmtNode::Continue, 6)?;
+        let looping = StmtNode::While(name(a, "x")?, alone(a, StmtNode::Continue)?);
+        breaks(&rt, looping, 0)?;
+        let inner = function(a, "", &[], StmtNode::Break)?;
+        let around = StmtNode::While(inner, alone(a, StmtNode::Break)?);
+        breaks(&rt, around, 6)
+    }
+
+    // `(function f(formal){f=x;})`
+    fn assigning(alloc: Global, formal: &str) -> Result<Expr, Fail>
+        ensures { IfOk result (λ e. expr_height e ≤ 101) }
+    {
+        let value = assigned(alloc, name(alloc, "f")?, name(alloc, "x")?)?;
+        function(alloc, "f", &[formal], StmtNode::Expr(value))
+    }
+
+    #[test]
+    fn finds_assigned_own_names(rt: HostRuntime) -> Result<(), Fail> {
+        let a = rt.alloc();
+        breaks(&rt, StmtNode::Expr(assigning(a, "g")?), 8)?;
+        breaks(&rt, StmtNode::Expr(assigning(a, "f")?), 0)?;
+        let inside = function(a, "", &["f"], StmtNode::Throw(assigning(a, "")?))?;
+        breaks(&rt, StmtNode::Expr(inside), 8)
+    }
+}

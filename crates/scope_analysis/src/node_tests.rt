@@ -1,0 +1,268 @@
+//! How the nodes of a tree do in their tests. The parts of a node are not looked at, but for the statements of a function
+//! that jump.
+
+ghost use Rattle.std.specs.Prelude.{◌≡◌, false, ◌&&◌, nat_lt, ◌+◌};
+ghost use Rattle.std.specs.List.{list_all};
+ghost use Rattle.js_core.specs.Height.{code_height};
+ghost use Rattle.js_core.specs.Tree.{fields_of, stmts_of};
+ghost use Rattle.scope_analysis.specs.EarlyRules as rules;
+ghost use Rattle.scope_analysis.specs.Form as form;
+ghost use Rattle.scope_analysis.specs.Identifiers.{is_reserved};
+ghost use Rattle.scope_analysis.specs.Names.{is_among};
+ghost use Rattle.scope_analysis.specs.Nodes as nodes;
+ghost use Rattle.scope_analysis.specs.NodeTests.{passes};
+
+use crate::identifiers::{expression_fits, fits, statement_fits};
+use crate::jumps::strays;
+use crate::name_test::{NameTest, is_reserved};
+use crate::names::has_repeat;
+use crate::node_test::NodeTest;
+use js_core::operators::UnaryOp;
+use js_core::syntax::{Catch, Code, Expr, ExprNode, Stmt, StmtNode};
+use js_core::units::Units;
+
+/// The greatest height, as an expression, of a function in a form page that is no factory.
+const FUNCTION_LIMIT: u64 = 400;
+
+/// Whether the expression passes the test.
+pub fn expression_passes(test: NodeTest, is_callee: bool, expression: &Expr) -> bool
+    ensures { result ≡ passes test (nodes.expression is_callee expression.now) }
+{
+    match test {
+        NodeTest::RepeatsFormal => has_repeated_formal(expression),
+        NodeTest::RepeatsField => has_repeated_field(expression),
+        NodeTest::DeletesName => deletes_name(expression),
+        NodeTest::HasRestrictedName => expression_fits(NameTest::IsRestricted, expression),
+        NodeTest::HasStrayJump => has_stray_jump(expression),
+        NodeTest::HasBadTarget => assigns_badly(expression),
+        NodeTest::IsDeclaration => false,
+        NodeTest::HasReservedName => expression_fits(NameTest::IsReserved, expression),
+        NodeTest::IsHighFunction => is_high_function(is_callee, expression),
+    }
+}
+
+/// Whether the statement passes the test.
+pub fn statement_passes(test: NodeTest, statement: &Stmt) -> bool
+    ensures { result ≡ passes test (nodes.statement statement.now) }
+{
+    match test {
+        NodeTest::RepeatsFormal => declares_repeated_formal(statement),
+        NodeTest::RepeatsField | NodeTest::DeletesName => false,
+        NodeTest::HasRestrictedName => statement_fits(NameTest::IsRestricted, statement),
+        NodeTest::HasStrayJump => declares_stray_jump(statement),
+        NodeTest::HasBadTarget => has_bad_target(statement),
+        NodeTest::IsDeclaration => is_declaration(statement),
+        NodeTest::HasReservedName => statement_fits(NameTest::IsReserved, statement),
+        NodeTest::IsHighFunction => declares_high_function(statement),
+    }
+}
+
+/// Whether the catch clause passes the test.
+pub fn clause_passes(test: NodeTest, clause: &Catch) -> bool
+    ensures { result ≡ passes test (nodes.clause clause.now.name (stmts_of clause.now.body.items)) }
+{
+    match test {
+        NodeTest::RepeatsFormal
+        | NodeTest::RepeatsField
+        | NodeTest::DeletesName
+        | NodeTest::HasStrayJump
+        | NodeTest::HasBadTarget
+        | NodeTest::IsDeclaration
+        | NodeTest::IsHighFunction => false,
+        NodeTest::HasRestrictedName => fits(NameTest::IsRestricted, &clause.name),
+        NodeTest::HasReservedName => fits(NameTest::IsReserved, &clause.name),
+    }
+}
+
+fn has_repeated_formal(expression: &Expr) -> bool
+    ensures { result ≡ rules.repeats_formal (nodes.expression false expression.now) }
+{
+    match &expression.node {
+        ExprNode::Func(code) => has_repeat(code.formals.as_slice()),
+        _ => false,
+    }
+}
+
+fn declares_repeated_formal(statement: &Stmt) -> bool
+    ensures { result ≡ rules.repeats_formal (nodes.statement statement.now) }
+{
+    match &statement.node {
+        StmtNode::Function(code) => has_repeat(code.formals.as_slice()),
+        _ => false,
+    }
+}
+
+fn has_stray_jump(expression: &Expr) -> bool
+    ensures { result ≡ rules.has_stray_jump (nodes.expression false expression.now) }
+{
+    match &expression.node {
+        ExprNode::Func(code) => strays(code.body.as_slice()),
+        _ => false,
+    }
+}
+
+fn declares_stray_jump(statement: &Stmt) -> bool
+    ensures { result ≡ rules.has_stray_jump (nodes.statement statement.now) }
+{
+    match &statement.node {
+        StmtNode::Function(code) => strays(code.body.as_slice()),
+        _ => false,
+    }
+}
+
+fn has_repeated_field(expression: &Expr) -> bool
+    ensures { result ≡ rules.repeats_field (nodes.expression false expression.now) }
+{
+    match &expression.node {
+        ExprNode::Literal(fields) => repeats_name(fields.as_slice()),
+        _ => false,
+    }
+}
+
+fn repeats_name(fields: &[(Units, Expr)]) -> bool
+    ensures { result ≡ rules.repeats_name (fields_of fields.now) }
+{
+    let mut rest = fields;
+    while let [(name, _), after @ ..] = rest {
+        if has_field(name, after) {
+            return true;
+        }
+        rest = after;
+    }
+    false
+}
+
+fn has_field(name: &Units, fields: &[(Units, Expr)]) -> bool
+    ensures { result ≡ is_among name.now (rules.field_names (fields_of fields.now)) }
+{
+    let mut rest = fields;
+    while let [(other, _), after @ ..] = rest {
+        if *name == *other {
+            return true;
+        }
+        rest = after;
+    }
+    false
+}
+
+fn deletes_name(expression: &Expr) -> bool
+    ensures { result ≡ rules.deletes_name (nodes.expression false expression.now) }
+{
+    match &expression.node {
+        ExprNode::Unary(UnaryOp::Delete, operand) => is_name(operand),
+        _ => false,
+    }
+}
+
+fn is_name(expression: &Expr) -> bool
+    ensures { result ≡ rules.is_name expression.now }
+{
+    matches!(&expression.node, ExprNode::Name(_))
+}
+
+fn assigns_badly(expression: &Expr) -> bool
+    ensures { result ≡ rules.has_bad_target (nodes.expression false expression.now) }
+{
+    match &expression.node {
+        ExprNode::Update {
+            up: _,
+            prefix: _,
+            target,
+        }
+        | ExprNode::Assign(_, target, _) => !is_target(target),
+        _ => false,
+    }
+}
+
+fn has_bad_target(statement: &Stmt) -> bool
+    ensures { result ≡ rules.has_bad_target (nodes.statement statement.now) }
+{
+    match &statement.node {
+        StmtNode::ForIn {
+            declared: _,
+            target,
+            object: _,
+            body: _,
+        } => !is_target(target),
+        _ => false,
+    }
+}
+
+fn is_target(expression: &Expr) -> bool
+    ensures { result ≡ rules.is_target expression.now }
+{
+    matches!(
+        &expression.node,
+        ExprNode::Name(_) | ExprNode::Member(_, _) | ExprNode::Index(_, _)
+    )
+}
+
+/// Whether the statement is a function declaration.
+pub fn is_declaration(statement: &Stmt) -> bool
+    ensures { result ≡ form.is_declaration (nodes.statement statement.now) }
+{
+    matches!(&statement.node, StmtNode::Function(_))
+}
+
+fn is_high_function(is_callee: bool, expression: &Expr) -> bool
+    ensures { result ≡ form.is_high_function (nodes.expression is_callee expression.now) }
+{
+    match &expression.node {
+        ExprNode::Func(code) => !(is_callee && is_factory(code)) && is_high(code),
+        _ => false,
+    }
+}
+
+fn declares_high_function(statement: &Stmt) -> bool
+    ensures { result ≡ form.is_high_function (nodes.statement statement.now) }
+{
+    match &statement.node {
+        StmtNode::Function(code) => is_high(code),
+        _ => false,
+    }
+}
+
+fn is_high(code: &Code) -> bool
+    ensures { result ≡ nat_lt 400 (code_height code.now + 1) }
+{
+    code.height() + 1 > FUNCTION_LIMIT
+}
+
+fn is_factory(code: &Code) -> bool
+    ensures { result ≡ form.is_factory code.now }
+{
+    match &code.name {
+        None => are_reserved(code.formals.as_slice()) && returns_function(code.body.as_slice()),
+        Some(_) => false,
+    }
+}
+
+fn are_reserved(names: &[Units]) -> bool
+    ensures { result ≡ list_all is_reserved names.now }
+{
+    names.iter().all(|name| is_reserved(name))
+}
+
+fn returns_function(statements: &[Stmt]) -> bool
+    ensures { result ≡ form.returns_function (stmts_of statements.now) }
+{
+    match statements {
+        [] => false,
+        [statement, after @ ..] => after.is_empty() && is_return_of_function(statement),
+    }
+}
+
+fn is_return_of_function(statement: &Stmt) -> bool
+    ensures { result ≡ form.is_return_of_function statement.now }
+{
+    match &statement.node {
+        StmtNode::Return(Some(value)) => is_function(value),
+        _ => false,
+    }
+}
+
+fn is_function(expression: &Expr) -> bool
+    ensures { result ≡ form.is_function_expression expression.now }
+{
+    matches!(&expression.node, ExprNode::Func(_))
+}

@@ -1,0 +1,317 @@
+//! How functions and catch clauses do in their tests, by the uses inside.
+
+ghost use Rattle.std.specs.Prelude.{◌≡◌};
+ghost use Rattle.std.specs.List.{list_all};
+ghost use Rattle.js_core.specs.Tree.{fields_of, stmts_of, maybe_expr};
+ghost use Rattle.js_core.specs.Views.{declarators_of};
+ghost use Rattle.scope_analysis.specs.EarlyRules as rules;
+ghost use Rattle.scope_analysis.specs.Form as spec;
+ghost use Rattle.scope_analysis.specs.Names as names;
+ghost use Rattle.scope_analysis.specs.ScopeTests.{expression_scope, declaration_scope, clause_scope};
+ghost use Rattle.scope_analysis.specs.Uses.{stmts_uses};
+
+use crate::name_test::is_reserved;
+use crate::name_use::Use;
+use crate::names::is_among;
+use crate::scope_test::ScopeTest;
+use crate::use_lists::{is_assigned, is_assigned_once, is_captured};
+use js_core::operators::UnaryOp;
+use js_core::syntax::{Catch, Code, Declarator, Expr, ExprNode, Stmt, StmtNode};
+use js_core::units::Units;
+
+/// Whether a function expression passes the test, by the names that its body declares, all names that it binds, and the
+/// uses of its body.
+pub fn expression_scope_passes(
+    test: ScopeTest,
+    code: &Code,
+    declared: &[Units],
+    bound: &[Units],
+    uses: &[Use],
+) -> bool
+    requires declared { declared.now ≡ names.declared_names (names.code_body code.now) }
+    requires bound { bound.now ≡ names.bound_names code.now }
+    requires uses { uses.now ≡ stmts_uses (names.code_body code.now) }
+    ensures { result ≡ expression_scope test code.now }
+{
+    match test {
+        ScopeTest::AssignsOwnName => assigns_own(&code.name, bound, uses),
+        ScopeTest::IsOutOfForm => {
+            !(are_variables_in_form(code, declared, bound, uses)
+                && is_own_free(&code.name, bound, uses))
+        }
+    }
+}
+
+/// Whether a function declaration does.
+pub fn declaration_scope_passes(
+    test: ScopeTest,
+    code: &Code,
+    declared: &[Units],
+    bound: &[Units],
+    uses: &[Use],
+) -> bool
+    requires declared { declared.now ≡ names.declared_names (names.code_body code.now) }
+    requires bound { bound.now ≡ names.bound_names code.now }
+    requires uses { uses.now ≡ stmts_uses (names.code_body code.now) }
+    ensures { result ≡ declaration_scope test code.now }
+{
+    match test {
+        ScopeTest::AssignsOwnName => false,
+        ScopeTest::IsOutOfForm => !are_variables_in_form(code, declared, bound, uses),
+    }
+}
+
+/// Whether a catch clause passes the test, by the uses of its block.
+pub fn clause_scope_passes(test: ScopeTest, clause: &Catch, uses: &[Use]) -> bool
+    requires { uses.now ≡ stmts_uses (stmts_of clause.now.body.items) }
+    ensures { result ≡ clause_scope test clause.now.name (stmts_of clause.now.body.items) }
+{
+    match test {
+        ScopeTest::AssignsOwnName => false,
+        ScopeTest::IsOutOfForm => {
+            !is_parameter_in_form(&clause.name, clause.body.as_slice(), uses)
+        }
+    }
+}
+
+fn assigns_own(own: &Option<Units>, bound: &[Units], uses: &[Use]) -> bool
+    ensures { result ≡ rules.assigns_maybe (names.unless_among own.now bound.now) uses.now }
+{
+    match own {
+        None => false,
+        Some(own) => !is_among(own, bound) && is_assigned(own, uses),
+    }
+}
+
+fn is_own_free(own: &Option<Units>, bound: &[Units], uses: &[Use]) -> bool
+    ensures { result ≡ spec.is_not_captured (names.unless_among own.now bound.now) uses.now }
+{
+    match own {
+        None => true,
+        Some(own) => is_among(own, bound) || !is_captured(own, uses),
+    }
+}
+
+fn are_variables_in_form(code: &Code, declared: &[Units], bound: &[Units], uses: &[Use]) -> bool
+    requires declared { declared.now ≡ names.declared_names (names.code_body code.now) }
+    requires bound { bound.now ≡ names.bound_names code.now }
+    ensures { result ≡ spec.are_variables_in_form code.now uses.now }
+{
+    are_names_in_form(
+        code.formals.as_slice(),
+        declared,
+        code.body.as_slice(),
+        uses,
+        bound,
+    )
+}
+
+fn are_names_in_form(
+    formals: &[Units],
+    declared: &[Units],
+    body: &[Stmt],
+    uses: &[Use],
+    bound: &[Units],
+) -> bool
+    ensures { result ≡ list_all (spec.may_be_captured formals.now declared.now (stmts_of body.now) uses.now) bound.now }
+{
+    bound.iter().all(|name| may_be_captured(formals, declared, body, uses, name))
+}
+
+fn may_be_captured(
+    formals: &[Units],
+    declared: &[Units],
+    body: &[Stmt],
+    uses: &[Use],
+    name: &Units,
+) -> bool
+    ensures { result ≡ spec.may_be_captured formals.now declared.now (stmts_of body.now) uses.now name.now }
+{
+    if !is_captured(name, uses) {
+        return true;
+    }
+    is_reserved(name)
+        && (is_constant_formal(formals, declared, uses, name)
+            || is_opened(formals, declared, body, uses, name))
+}
+
+fn is_constant_formal(formals: &[Units], declared: &[Units], uses: &[Use], name: &Units) -> bool
+    ensures { result ≡ spec.is_constant_formal formals.now declared.now uses.now name.now }
+{
+    is_among(name, formals) && !is_assigned(name, uses) && !is_among(name, declared)
+}
+
+fn is_opened(
+    formals: &[Units],
+    declared: &[Units],
+    body: &[Stmt],
+    uses: &[Use],
+    name: &Units,
+) -> bool
+    ensures { result ≡ spec.is_opened formals.now declared.now (stmts_of body.now) uses.now name.now }
+{
+    !is_among(name, formals)
+        && is_once(name, declared)
+        && opens_with(name, body)
+        && is_assigned_once(name, uses)
+}
+
+fn is_parameter_in_form(parameter: &Units, body: &[Stmt], uses: &[Use]) -> bool
+    ensures { result ≡ spec.is_parameter_in_form parameter.now (stmts_of body.now) uses.now }
+{
+    if !is_captured(parameter, uses) {
+        return true;
+    }
+    is_reserved(parameter) && boxes(parameter, body) && is_assigned_once(parameter, uses)
+}
+
+fn is_once(name: &Units, names: &[Units]) -> bool
+    ensures { result ≡ spec.is_once name.now names.now }
+{
+    let mut rest = names;
+    while let [other, after @ ..] = rest {
+        if *name == *other {
+            return !is_among(name, after);
+        }
+        rest = after;
+    }
+    false
+}
+
+fn opens_with(name: &Units, body: &[Stmt]) -> bool
+    ensures { result ≡ spec.opens_with name.now (stmts_of body.now) }
+{
+    match body {
+        [] => false,
+        [first, _after @ ..] => is_opening(name, first),
+    }
+}
+
+fn is_opening(name: &Units, statement: &Stmt) -> bool
+    ensures { result ≡ spec.is_opening name.now statement.now }
+{
+    match &statement.node {
+        StmtNode::Var(declarators) => is_opening_declarator(name, declarators.as_slice()),
+        _ => false,
+    }
+}
+
+fn is_opening_declarator(name: &Units, declarators: &[Declarator]) -> bool
+    ensures { result ≡ spec.is_opening_declarator name.now (declarators_of declarators.now) }
+{
+    match declarators {
+        [] => false,
+        [declarator, after @ ..] => {
+            after.is_empty() && declarator.name == *name && is_plain_initialiser(&declarator.value)
+        }
+    }
+}
+
+fn is_plain_initialiser(value: &Option<Expr>) -> bool
+    ensures { result ≡ spec.is_plain_initialiser (maybe_expr value.now) }
+{
+    match value {
+        None => false,
+        Some(value) => is_plain_literal(value),
+    }
+}
+
+fn is_plain_literal(expression: &Expr) -> bool
+    ensures { result ≡ spec.is_plain_literal expression.now }
+{
+    match &expression.node {
+        ExprNode::Literal(fields) => are_plain_fields(fields.as_slice()),
+        _ => false,
+    }
+}
+
+fn are_plain_fields(fields: &[(Units, Expr)]) -> bool
+    ensures { result ≡ spec.are_plain_fields (fields_of fields.now) }
+{
+    let mut rest = fields;
+    while let [(_, value), after @ ..] = rest {
+        if !is_plain_value(value) {
+            return false;
+        }
+        rest = after;
+    }
+    true
+}
+
+// An identifier, or `void 0`.
+fn is_plain_value(expression: &Expr) -> bool
+    ensures { result ≡ spec.is_plain_value expression.now }
+{
+    match &expression.node {
+        ExprNode::Name(_) => true,
+        ExprNode::Unary(UnaryOp::Void, operand) => is_zero(operand),
+        _ => false,
+    }
+}
+
+fn is_zero(expression: &Expr) -> bool
+    ensures { result ≡ spec.is_zero expression.now }
+{
+    match &expression.node {
+        ExprNode::Num(number) => match number.get() {
+            None => false,
+            Some(value) => value == 0,
+        },
+        _ => false,
+    }
+}
+
+fn boxes(name: &Units, body: &[Stmt]) -> bool
+    ensures { result ≡ spec.boxes name.now (stmts_of body.now) }
+{
+    match body {
+        [] => false,
+        [first, _after @ ..] => is_boxing(name, first),
+    }
+}
+
+fn is_boxing(name: &Units, statement: &Stmt) -> bool
+    ensures { result ≡ spec.is_boxing name.now statement.now }
+{
+    match &statement.node {
+        StmtNode::Expr(expression) => is_boxing_assignment(name, expression),
+        _ => false,
+    }
+}
+
+fn is_boxing_assignment(name: &Units, expression: &Expr) -> bool
+    ensures { result ≡ spec.is_boxing_assignment name.now expression.now }
+{
+    match &expression.node {
+        ExprNode::Assign(None, target, value) => is_name(name, target) && is_box(name, value),
+        _ => false,
+    }
+}
+
+fn is_name(name: &Units, expression: &Expr) -> bool
+    ensures { result ≡ spec.is_name_of name.now expression.now }
+{
+    match &expression.node {
+        ExprNode::Name(other) => *other == *name,
+        _ => false,
+    }
+}
+
+// An object literal with one field, whose value is the name.
+fn is_box(name: &Units, expression: &Expr) -> bool
+    ensures { result ≡ spec.is_box_of name.now expression.now }
+{
+    match &expression.node {
+        ExprNode::Literal(fields) => is_field(name, fields.as_slice()),
+        _ => false,
+    }
+}
+
+fn is_field(name: &Units, fields: &[(Units, Expr)]) -> bool
+    ensures { result ≡ spec.is_field_of name.now (fields_of fields.now) }
+{
+    match fields {
+        [] => false,
+        [(_, value), after @ ..] => after.is_empty() && is_name(name, value),
+    }
+}
