@@ -1,0 +1,117 @@
+-- Which bytes are accepted as a page, and why others are refused.
+use Rattle.std.specs.Prelude.{ℕ, ◌≡◌, Bool, true, false, not, ◌||◌, List, [], ◌∷◌, Some, None, nat_lt}
+use Rattle.std.specs.Str.{IsUtf8}
+use Rattle.js_core.specs.Height.{stmts_height}
+use Rattle.js_core.specs.Text.{utf16_of}
+use Rattle.js_core.specs.Tree as tree
+use Rattle.js_core.specs.declared.token.Token.{Token}
+use Rattle.js_grammar.specs.Scripts.{ScriptOf, height_limit}
+use Rattle.js_lexer.specs.Directives.{IsStrict}
+use Rattle.js_lexer.specs.Tokens.{Tokens}
+use Rattle.scope_analysis.specs.EarlyRules.{early_rule}
+use Rattle.scope_analysis.specs.Form.{in_form, has_reserved_name, has_high_function}
+use Rattle.page_check.specs.Frame.{IsFramePage, with_line_feeds}
+use Rattle.page_check.specs.declared.page.Accepted.{Accepted}
+use Rattle.page_check.specs.declared.page.AcceptFault.{AcceptFault}
+use Rattle.page_check.specs.declared.page.AcceptFault.TheVariants.{Refused, OutOfMemory}
+use Rattle.page_check.specs.declared.page.Kind.{Kind}
+use Rattle.page_check.specs.declared.page.Kind.TheVariants.{Plain, Form}
+use Rattle.page_check.specs.declared.page.Refusal.{Refusal}
+use Rattle.page_check.specs.declared.page.Refusal.TheVariants.{NotUtf8, NotPage, NotTokens, NotScript, NotStrict, Early, TooDeep, ReservedName, NotForm, NotBuilt}
+use Rattle.page_check.specs.declared.script.ScriptFault.{ScriptFault}
+use Rattle.page_check.specs.declared.script.ScriptFault.TheVariants as cause
+
+-- the script is higher than 200 in a plain page; in a form page it is higher than 420, or a function of it that is no
+-- factory is higher than 400
+abbrev pub is_too_deep : Kind → tree.Stmts → Bool
+is_too_deep Plain script = nat_lt 200 (stmts_height script)
+is_too_deep Form script = nat_lt 420 (stmts_height script) || has_high_function script
+
+-- the text has these tokens, and they this tree
+pub record IsRead (text : List ℕ) (tokens : List Token) (script : tree.Stmts) : Type 0 where
+  pub lexed : Tokens text tokens
+  pub parsed : ScriptOf height_limit tokens script
+
+pub record IsStrictScript (text : List ℕ) (script : tree.Stmts) : Type 0 where
+  pub tokens : List Token
+  pub read : IsRead text tokens script
+  pub strict : IsStrict tokens
+
+-- such a script that breaks no early rule
+pub record IsOrderly (text : List ℕ) (script : tree.Stmts) : Type 0 where
+  pub strict : IsStrictScript text script
+  pub orderly : early_rule script ≡ None
+
+-- such a script that is not too high
+pub record IsLow (kind : Kind) (text : List ℕ) (script : tree.Stmts) : Type 0 where
+  pub orderly : IsOrderly text script
+  pub low : is_too_deep kind script ≡ false
+
+-- no identifier of a plain page begins with `$$`, and the script of a form page is in form
+abbrev pub keeps_form : Kind → tree.Stmts → Bool
+keeps_form Plain script = not (has_reserved_name script)
+keeps_form Form script = in_form script
+
+-- the fault of a script that does not keep it
+abbrev pub without_form : Kind → ScriptFault
+without_form Plain = cause.ReservedName
+without_form Form = cause.NotForm
+
+-- the text is that of a script of a page of this kind
+pub record IsPageScript (kind : Kind) (text : List ℕ) (script : tree.Stmts) : Type 0 where
+  pub low : IsLow kind text script
+  pub formed : keeps_form kind script ≡ true
+
+-- the text is none for this cause, and for none before it; want of memory is free
+abbrev pub IsScriptFault : Kind → List ℕ → ScriptFault → Type 0
+IsScriptFault kind text cause.NotTokens = (tokens : List Token) → ¬ Tokens text tokens
+IsScriptFault kind text cause.NotScript = (tokens : List Token) × Tokens text tokens × ((script : tree.Stmts) → ¬ ScriptOf height_limit tokens script)
+IsScriptFault kind text cause.NotStrict = (tokens : List Token) × (script : tree.Stmts) × IsRead text tokens script × ¬ IsStrict tokens
+IsScriptFault kind text (cause.Early rule) = (script : tree.Stmts) × IsStrictScript text script × (early_rule script ≡ Some rule)
+IsScriptFault kind text cause.TooDeep = (script : tree.Stmts) × IsOrderly text script × (is_too_deep kind script ≡ true)
+IsScriptFault kind text cause.ReservedName = (script : tree.Stmts) × (kind ≡ Plain) × IsLow kind text script × (keeps_form kind script ≡ false)
+IsScriptFault kind text cause.NotForm = (script : tree.Stmts) × (kind ≡ Form) × IsLow kind text script × (keeps_form kind script ≡ false)
+IsScriptFault kind text cause.OutOfMemory = Unit {0}
+
+-- the text that UTF-8 bytes write, with its line ends made LF
+abbrev pub text_of : List ℕ → List ℕ
+text_of bytes = with_line_feeds (utf16_of bytes)
+
+-- the bytes are accepted as a page of this kind with these scripts
+pub record IsAcceptedAs (bytes : List ℕ) (kind : Kind) (scripts : List tree.Stmts) : Type 0 where
+  pub utf8 : IsUtf8 bytes
+  pub inner : List ℕ
+  pub framed : IsFramePage (text_of bytes) kind inner
+  pub script : tree.Stmts
+  pub read : IsPageScript kind inner script
+  pub only : scripts ≡ script ∷ []
+
+abbrev pub IsAccepted : List ℕ → Accepted → Type 0
+IsAccepted bytes page = IsAcceptedAs bytes page.kind page.scripts.items
+
+-- the bytes are a page but for its one script
+pub record IsRefusedAt (bytes : List ℕ) (k : ℕ) (fault : ScriptFault) : Type 0 where
+  pub first : k ≡ 1
+  pub utf8 : IsUtf8 bytes
+  pub kind : Kind
+  pub inner : List ℕ
+  pub framed : IsFramePage (text_of bytes) kind inner
+  pub off : IsScriptFault kind inner fault
+
+-- the bytes are refused for this cause, and for none before it
+abbrev pub IsRefused : List ℕ → Refusal → Type 0
+IsRefused bytes NotUtf8 = ¬ IsUtf8 bytes
+IsRefused bytes NotPage = IsUtf8 bytes × ((kind : Kind) (inner : List ℕ) → ¬ IsFramePage (text_of bytes) kind inner)
+IsRefused bytes (NotTokens k) = IsRefusedAt bytes k cause.NotTokens
+IsRefused bytes (NotScript k) = IsRefusedAt bytes k cause.NotScript
+IsRefused bytes (NotStrict k) = IsRefusedAt bytes k cause.NotStrict
+IsRefused bytes (Early k rule) = IsRefusedAt bytes k (cause.Early rule)
+IsRefused bytes (TooDeep k) = IsRefusedAt bytes k cause.TooDeep
+IsRefused bytes (ReservedName k) = IsRefusedAt bytes k cause.ReservedName
+IsRefused bytes (NotForm k) = IsRefusedAt bytes k cause.NotForm
+IsRefused bytes (NotBuilt k) = ⊥
+
+-- want of memory is free
+abbrev pub IsNotAccepted : List ℕ → AcceptFault → Type 0
+IsNotAccepted bytes (Refused refusal) = IsRefused bytes refusal
+IsNotAccepted bytes OutOfMemory = Unit {0}

@@ -1,0 +1,3 @@
+pub mod Accept
+pub mod Faults
+pub mod Frame

@@ -1,0 +1,60 @@
+//! Accepting a page.
+
+ghost use Rattle.std.specs.Prelude.{◌≡◌, IfOk, IfErr};
+ghost use Rattle.page_check.specs.Accept.{IsAccepted, IsNotAccepted, text_of};
+ghost use Rattle.page_check.specs.Faults as spec;
+
+use crate::frame::{frame, with_line_feeds};
+use crate::page::{AcceptFault, Accepted, Refusal};
+use crate::script::{ScriptFault, page_script};
+use js_core::memory::OutOfMemory;
+use js_core::units::Units;
+use std::alloc::Global;
+
+/// The kind and the scripts of a page. The first cause of refusal is the answer: the bytes are no UTF-8, their text is no
+/// page, or its script has no tokens, has no tree, is not strict, breaks an early rule, is too high, or in a plain page
+/// has an identifier that begins with `$$`, or in a form page is not in form.
+pub fn accept(alloc: Global, bytes: &[u8]) -> Result<Accepted, AcceptFault>
+    ensures ok { IfOk result (IsAccepted bytes.now) }
+    ensures refused { IfErr result (IsNotAccepted bytes.now) }
+{
+    let Ok(text) = str::from_utf8(bytes) else {
+        return Err(AcceptFault::Refused(Refusal::NotUtf8));
+    };
+    let page = page_text(alloc, text)?;
+    let Some((kind, inner)) = frame(page.as_slice()) else {
+        return Err(AcceptFault::Refused(Refusal::NotPage));
+    };
+    let text = Units::of(alloc, inner)?;
+    match page_script(alloc, kind, &text) {
+        Ok(script) => Ok(Accepted {
+            kind,
+            scripts: vec![in alloc; script]?,
+        }),
+        Err(fault) => Err(at_script(1, fault)),
+    }
+}
+
+/// The units of a text, with its line ends made LF.
+fn page_text(alloc: Global, text: &str) -> Result<Vec<u16>, OutOfMemory>
+    ensures { IfOk result (λ units. units.items ≡ text_of text.now) }
+{
+    let units = Units::from_utf8(alloc, text)?;
+    with_line_feeds(alloc, units.as_slice())
+}
+
+/// The fault of a page whose script of this number has this one.
+fn at_script(number: u64, fault: ScriptFault) -> AcceptFault
+    ensures { result ≡ spec.at_script number fault }
+{
+    match fault {
+        ScriptFault::NotTokens => AcceptFault::Refused(Refusal::NotTokens(number)),
+        ScriptFault::NotScript => AcceptFault::Refused(Refusal::NotScript(number)),
+        ScriptFault::NotStrict => AcceptFault::Refused(Refusal::NotStrict(number)),
+        ScriptFault::Early(rule) => AcceptFault::Refused(Refusal::Early(number, rule)),
+        ScriptFault::TooDeep => AcceptFault::Refused(Refusal::TooDeep(number)),
+        ScriptFault::ReservedName => AcceptFault::Refused(Refusal::ReservedName(number)),
+        ScriptFault::NotForm => AcceptFault::Refused(Refusal::NotForm(number)),
+        ScriptFault::OutOfMemory => AcceptFault::OutOfMemory,
+    }
+}

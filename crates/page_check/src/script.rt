@@ -1,0 +1,135 @@
+//! The script of a page.
+
+ghost use Rattle.std.specs.Prelude.{◌≡◌, IfOk, IfErr};
+ghost use Rattle.page_check.specs.Accept as spec;
+ghost use Rattle.page_check.specs.Accept.{IsPageScript, IsScriptFault};
+
+use crate::page::Kind;
+use expression_parser::fault::ParseFault;
+use js_core::memory::OutOfMemory;
+use js_core::syntax::Script;
+use js_core::units::Units;
+use js_lexer::directives::strict;
+use js_lexer::fault::LexFault;
+use js_lexer::tokens::tokens;
+use scope_analysis::early::early;
+use scope_analysis::early_rule::EarlyRule;
+use scope_analysis::form::{has_high_function, has_reserved_name, in_form};
+use script_parser::script::script;
+use std::alloc::Global;
+
+/// The greatest height of the script of a plain page.
+const PLAIN_HEIGHT: u64 = 200;
+/// The greatest height of the script of a form page.
+const FORM_HEIGHT: u64 = 420;
+
+/// Why a text is not the script of a page, in the order in which the causes are tried.
+#[derive(Clone, Copy, Debug, PartialEq, Eq)]
+pub enum ScriptFault {
+    /// The text has no tokens.
+    NotTokens,
+    /// Its tokens have no tree that is at most 440 high.
+    NotScript,
+    /// It does not begin with the strict directive.
+    NotStrict,
+    /// It breaks this early rule, and none with a lower number.
+    Early(EarlyRule),
+    /// It is too high.
+    TooDeep,
+    /// An identifier of a plain page begins with `$$`.
+    ReservedName,
+    /// The script of a form page is not in form.
+    NotForm,
+    /// Memory ran out.
+    OutOfMemory,
+}
+
+impl From<OutOfMemory> for ScriptFault {
+    ghost use Rattle.std.specs.Prelude.{◌≡◌};
+    ghost use Rattle.page_check.specs.declared.script.ScriptFault.TheVariants.{OutOfMemory as WantOfMemory};
+
+    ghost from_gives = { λ _ e. e ≡ WantOfMemory };
+
+    fn from(_: OutOfMemory) -> ScriptFault {
+        ScriptFault::OutOfMemory
+    }
+}
+
+impl From<LexFault> for ScriptFault {
+    ghost use Rattle.std.specs.Prelude.{◌≡◌};
+    ghost use Rattle.page_check.specs.Faults.{of_lexing};
+
+    ghost from_gives = { λ fault e. e ≡ of_lexing fault };
+
+    fn from(fault: LexFault) -> ScriptFault {
+        match fault {
+            LexFault::NotTokens => ScriptFault::NotTokens,
+            LexFault::OutOfMemory => ScriptFault::OutOfMemory,
+        }
+    }
+}
+
+impl From<ParseFault> for ScriptFault {
+    ghost use Rattle.std.specs.Prelude.{◌≡◌};
+    ghost use Rattle.page_check.specs.Faults.{of_parsing};
+
+    ghost from_gives = { λ fault e. e ≡ of_parsing fault };
+
+    fn from(fault: ParseFault) -> ScriptFault {
+        match fault {
+            ParseFault::NotScript => ScriptFault::NotScript,
+            ParseFault::OutOfMemory => ScriptFault::OutOfMemory,
+        }
+    }
+}
+
+/// The script with this text, in a page of this kind. The first cause that there is against it is the answer.
+pub fn page_script(alloc: Global, kind: Kind, text: &Units) -> Result<Script, ScriptFault>
+    ensures ok { IfOk result (IsPageScript kind text.now) }
+    ensures refused { IfErr result (IsScriptFault kind text.now) }
+{
+    let tokens = tokens(alloc, text)?;
+    let script = script(alloc, tokens.as_slice())?;
+    if !strict(tokens.as_slice()) {
+        return Err(ScriptFault::NotStrict);
+    }
+    if let Some(rule) = early(alloc, &script)? {
+        return Err(ScriptFault::Early(rule));
+    }
+    if is_too_deep(kind, &script) {
+        return Err(ScriptFault::TooDeep);
+    }
+    if !keeps_form(alloc, kind, &script)? {
+        return Err(without_form(kind));
+    }
+    Ok(script)
+}
+
+fn is_too_deep(kind: Kind, script: &Script) -> bool
+    ensures { result ≡ spec.is_too_deep kind script.now }
+{
+    match kind {
+        Kind::Plain => script.height() > PLAIN_HEIGHT,
+        Kind::Form => script.height() > FORM_HEIGHT || has_high_function(script),
+    }
+}
+
+/// Whether no identifier of a plain page begins with `$$`, and the script of a form page is in form.
+fn keeps_form(alloc: Global, kind: Kind, script: &Script) -> Result<bool, OutOfMemory>
+    ensures { IfOk result (λ keeps. keeps ≡ spec.keeps_form kind script.now) }
+{
+    match kind {
+        Kind::Plain => Ok(!has_reserved_name(script)),
+        Kind::Form => in_form(alloc, script),
+    }
+}
+
+/// The fault of a script that does not keep the form of its page.
+fn without_form(kind: Kind) -> ScriptFault
+    ensures { result ≡ spec.without_form kind }
+{
+    match kind {
+        Kind::Plain => ScriptFault::ReservedName,
+        Kind::Form => ScriptFault::NotForm,
+    }
+}
