@@ -1,5 +1,5 @@
 -- Pieces that are put one after another.
-use Rattle.std.proofs.Common.{◌≡◌, ℕ, zero, suc, List, [], ◌∷◌, ◌++◌, length, take, Option, Some, None, Result, Ok, Err, refl, ap, ◌∙◌, append_assoc}
+use Rattle.std.proofs.Common.{◌≡◌, ℕ, zero, suc, List, [], ◌∷◌, ◌++◌, length, take, Option, Some, None, Result, Ok, Err, refl, ap, ◌∙◌, subst, append_assoc}
 use Rattle.std.specs.Prelude.{OnOk, OnErr}
 use Rattle.std.proofs.Common.{inl, inr}
 use Rattle.page_io.specs.declared.sink.PutFault.{PutFault}
@@ -8,9 +8,7 @@ use Rattle.page_io.specs.Faults.{CountsFaults}
 use Rattle.page_io.specs.Taken.{Takes, TakesFront}
 use Rattle.std.specs.Fmt.{decimal}
 use Rattle.std.specs.Prelude.{codes}
-use Rattle.imagen.specs.declared.status.Status.TheVariants.{PageRefused}
-use Rattle.imagen.specs.declared.status.Refusal.TheVariants.{NotBuilt}
-use Rattle.imagen.specs.Notes.{note_of, Noted}
+use Rattle.imagen.specs.Notes.{script_note, script_start, Noted}
 
 -- a front of a piece is a front of the piece and what follows
 front_of_more : (n : ℕ) (p more : List ℕ) → (m : ℕ) × (take n p ≡ take m (p ++ more))
@@ -71,6 +69,20 @@ pub second_ok : (r : Result (Unit {0}) PutFault) (before mid now : Option (List 
 second_ok (Ok a) before mid now p more h g = takes_both before mid now p more h g
 second_ok (Err e) before mid now p more h g = tt
 
--- the three pieces of a note with a number
-pub not_built_note : (k : ℕ) → codes "page refused: script " ++ decimal k ++ codes ": not built\n" ≡ note_of (PageRefused (Some (NotBuilt k)))
-not_built_note k = simp append_assoc
+-- two pieces that are a note
+pub note_second_ok : (r : Result (Unit {0}) PutFault) (before mid now : Option (List ℕ)) (p more note : List ℕ) → p ++ more ≡ note → Takes before mid p → OnOk r (Takes mid now more) → OnOk r (Takes before now note)
+note_second_ok r before mid now p more note e h g = subst (λ (text : List ℕ). OnOk r (Takes before now text)) e (second_ok r before mid now p more h g)
+
+pub note_second_fault : (r : Result (Unit {0}) PutFault) (before mid now : Option (List ℕ)) (p more note : List ℕ) → p ++ more ≡ note → Takes before mid p → OnErr r (TakesFront mid now more) → OnErr r (TakesFront before now note)
+note_second_fault r before mid now p more note e h g = subst (λ (text : List ℕ). OnErr r (TakesFront before now text)) e (second_fault r before mid now p more h g)
+
+pub note_front : (before now : Option (List ℕ)) (p more note : List ℕ) → p ++ more ≡ note → TakesFront before now p → TakesFront before now note
+note_front before now p more note e h = subst (λ (text : List ℕ). TakesFront before now text) e (front_before before now p more h)
+
+-- the pieces of the note of a script that is refused
+pub script_pieces : (k : ℕ) (cause : List ℕ) → script_start k ++ (cause ++ codes "\n") ≡ script_note k cause
+script_pieces k cause = simp append_assoc
+
+-- those for an early rule
+pub early_pieces : (k n : ℕ) → script_start k ++ (codes "early error " ++ decimal n ++ codes "\n") ≡ script_note k (codes "early error " ++ decimal n)
+early_pieces k n = script_pieces k (codes "early error " ++ decimal n)

@@ -13,7 +13,8 @@ use Rattle.js_machine.specs.declared.cell.Cell.{Cell}
 use Rattle.js_machine.specs.declared.cell.Cell.TheVariants.{Undefined, Num, Function}
 use Rattle.js_machine.specs.Saved.{saved_variable, saved_variables, saved_functions, saved_script}
 use Rattle.js_machine.specs.Act.{Store}
-use Rattle.imagen.specs.Saving.{before, saved_head, saved_tail}
+use Rattle.saved_pages.specs.Saved.{page_head, page_tail}
+use Rattle.imagen.specs.Saving.{before}
 
 pub nan_units : utf16_of (codes "NaN") ≡ codes "NaN"
 unfolding chars
@@ -61,6 +62,5 @@ pub functions_fit : (s : Store) → stmts_height (saved_script s) ≤ 440 → st
 functions_fit s h = omega (arith, functions_low s.names (saved_functions s.codes))
 
 -- the bytes of a page, put together
-pub page_bytes : (all most front units text : List ℕ) → all ≡ most ++ codes "</script></html>" → most ≡ front ++ units → front ≡ codes "<!--imagen 1--><html><script>\"use strict\";" → units ≡ text → all ≡ saved_head ++ text ++ saved_tail
-unfolding saved_head saved_tail
-page_bytes all most front units text e f g h = cc
+pub page_bytes : (all most front script text : List ℕ) → all ≡ most ++ codes "</script></html>" → most ≡ front ++ script → front ≡ codes "<!--imagen 1--><html><script>" → script ≡ text → all ≡ page_head ++ text ++ page_tail
+page_bytes all most front script text e f g h = cc

@@ -6,7 +6,7 @@ use Rattle.serde_json.specs.Data.{Data, object, no_members, member, Items, no_it
 use Rattle.serde_json.specs.Find.{get, as_str, as_array}
 use Rattle.serde_json.specs.Read.{read}
 use Rattle.js_core.specs.Text.{utf16_of}
-use Rattle.js_parser.specs.Names.{is_name}
+use Rattle.first_scripts.specs.Names.{is_name}
 use Rattle.js_machine.specs.declared.event.Event.{Event}
 use Rattle.js_machine.specs.declared.event.Event.TheVariants.{Call}
 use Rattle.imagen.specs.declared.events.EventFault.{EventFault}

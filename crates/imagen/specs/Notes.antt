@@ -5,14 +5,27 @@ use Rattle.page_io.specs.Faults.{Rose}
 use Rattle.page_io.specs.Taken.{Takes, TakesFront}
 use Rattle.imagen.specs.declared.status.Status.{Status}
 use Rattle.imagen.specs.declared.status.Status.TheVariants.{Ok, PageRefused, Usage, EventsRefused, ReadFault, WriteFault, OutOfMemory}
-use Rattle.imagen.specs.declared.status.Refusal.{Refusal}
-use Rattle.imagen.specs.declared.status.Refusal.TheVariants.{NotUtf8, NotBuilt}
+use Rattle.page_check.specs.declared.page.Refusal.{Refusal}
+use Rattle.page_check.specs.declared.page.Refusal.TheVariants.{NotUtf8, NotPage, NotTokens, NotScript, NotStrict, Early, TooDeep, ReservedName, NotForm, NotBuilt}
+use Rattle.scope_analysis.specs.EarlyRules.{rule_number}
+
+-- the script of this number, and the cause
+abbrev pub script_words : ℕ → List ℕ → List ℕ
+script_words k cause = codes "script " ++ decimal k ++ codes ": " ++ cause
 
 -- why a page is refused
 abbrev pub refusal_words : Option Refusal → List ℕ
 refusal_words None = codes "too long"
 refusal_words (Some NotUtf8) = codes "not utf-8"
-refusal_words (Some (NotBuilt k)) = codes "script " ++ decimal k ++ codes ": not built"
+refusal_words (Some NotPage) = codes "not a page"
+refusal_words (Some (NotTokens k)) = script_words k (codes "not tokens")
+refusal_words (Some (NotScript k)) = script_words k (codes "not a script")
+refusal_words (Some (NotStrict k)) = script_words k (codes "not strict")
+refusal_words (Some (Early k rule)) = script_words k (codes "early error " ++ decimal (rule_number rule))
+refusal_words (Some (TooDeep k)) = script_words k (codes "too deep")
+refusal_words (Some (ReservedName k)) = script_words k (codes "reserved name")
+refusal_words (Some (NotForm k)) = script_words k (codes "not in form")
+refusal_words (Some (NotBuilt k)) = script_words k (codes "not built")
 
 abbrev pub note_words : Status → List ℕ
 note_words Ok = []
@@ -27,6 +40,13 @@ note_words OutOfMemory = codes "out of memory"
 abbrev pub note_of : Status → List ℕ
 note_of Ok = []
 note_of status = note_words status ++ 10 ∷ []
+
+-- the note of a page whose script of this number is refused for this cause, and what stands first in it
+abbrev pub script_note : ℕ → List ℕ → List ℕ
+script_note k cause = (codes "page refused: " ++ script_words k cause) ++ 10 ∷ []
+
+abbrev pub script_start : ℕ → List ℕ
+script_start k = codes "page refused: script " ++ (decimal k ++ codes ": ")
 
 -- a front of the note was appended, and the whole of it where the count of faults did not rise
 pub record Noted (note : List ℕ) (before now : Option (List ℕ)) (faults faults_now : ℕ) : Type 0 where

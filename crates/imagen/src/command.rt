@@ -1,6 +1,6 @@
-//! The command line.
+//! What the words of the command line ask for.
 
-ghost use Rattle.std.specs.Prelude.{◌≡◌, option_map, map, string_bytes};
+ghost use Rattle.std.specs.Prelude.{◌≡◌, map, option_map, string_bytes};
 ghost use Rattle.imagen.specs.Command as spec;
 
 /// What is done with a page and its events.
@@ -12,15 +12,22 @@ pub enum Work {
     Save,
 }
 
-/// A command line: `replay P E` or `save P E`.
+/// A command line.
 #[derive(Clone, Copy, Debug, PartialEq, Eq)]
-pub struct Command<'a> {
-    /// What is done.
-    pub work: Work,
-    /// The name P of the page file.
-    pub page: &'a str,
-    /// The name E of the event file.
-    pub events: &'a str,
+pub enum Command<'a> {
+    /// `check P`: writes of which kind the page file P is.
+    Check(&'a str),
+    /// `replay P E` or `save P E`: what is done with the page file P and the event file E.
+    Session(Work, &'a str, &'a str),
+}
+
+fn check_of<'a>(verb: &str, page: &'a str) -> Option<Command<'a>>
+    ensures { option_map spec.view result ≡ spec.check_of verb.now page.now }
+{
+    match verb {
+        "check" => Some(Command::Check(page)),
+        _ => None,
+    }
 }
 
 fn work_of(verb: &str) -> Option<Work>
@@ -37,13 +44,12 @@ fn work_of(verb: &str) -> Option<Work>
 pub fn command_of(words: &[String]) -> Option<Command<'_>>
     ensures { option_map spec.view result ≡ spec.command_of (map string_bytes words.now) }
 {
-    let [verb, page, events] = words else {
-        return None;
-    };
-    let work = work_of(verb.as_str())?;
-    Some(Command {
-        work,
-        page: page.as_str(),
-        events: events.as_str(),
-    })
+    match words {
+        [verb, page] => check_of(verb.as_str(), page.as_str()),
+        [verb, page, events] => {
+            let work = work_of(verb.as_str())?;
+            Some(Command::Session(work, page.as_str(), events.as_str()))
+        }
+        _ => None,
+    }
 }

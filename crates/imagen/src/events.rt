@@ -4,10 +4,10 @@ ghost use Rattle.std.specs.Prelude.{◌≡◌, IfOk, option_map};
 ghost use Rattle.serde_json.specs.View.{view, items_view};
 ghost use Rattle.imagen.specs.Events.{has_one_member, called_text, event_of, events_of, events_from, Finds};
 
+use first_scripts::name_form::is_name;
 use js_core::memory::OutOfMemory;
 use js_core::units::Units;
 use js_machine::event::Event;
-use js_parser::name_form::is_name;
 use serde_json::Value;
 use std::alloc::{AllocFailed, Global};
 

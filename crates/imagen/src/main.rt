@@ -11,10 +11,10 @@ use std::io::ErrorKind;
 use std::process::ExitCode;
 use std::rt::Env;
 
+mod check;
 mod command;
 mod events;
 mod notes;
-mod page;
 mod reading;
 mod replay;
 mod run;

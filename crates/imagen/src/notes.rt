@@ -3,11 +3,13 @@
 ghost use Rattle.std.specs.Prelude.{◌++◌, OnOk, OnErr, Some};
 ghost use Rattle.page_io.specs.Faults.{CountsFaults};
 ghost use Rattle.page_io.specs.Taken.{Takes, TakesFront};
-ghost use Rattle.imagen.specs.Notes.{note_of, Noted};
+ghost use Rattle.imagen.specs.Notes.{note_of, script_note, script_start, Noted};
 
-use crate::status::{Refusal, Status};
+use crate::status::Status;
 use itoa::Buffer;
+use page_check::page::Refusal;
 use page_io::sink::{PutFault, Sink};
+use scope_analysis::early_rule::EarlyRule;
 
 // Puts two pieces, the second one where the first was taken.
 fn put_two<N: Sink>(notes: &mut N, first: &[u8], second: &[u8]) -> Result<(), PutFault>
@@ -38,15 +40,63 @@ fn put_three<N: Sink>(
     }
 }
 
-// Puts the note of a page whose script is not built.
-fn put_not_built<N: Sink>(notes: &mut N, script: u64) -> Result<(), PutFault>
-    ensures ok { OnOk result (Takes (N.taken notes.old) (N.taken notes.new) (note_of (Status.PageRefused (Some (Refusal.NotBuilt script))))) }
-    ensures fault { OnErr result (TakesFront (N.taken notes.old) (N.taken notes.new) (note_of (Status.PageRefused (Some (Refusal.NotBuilt script))))) }
+// Puts what stands first in the note of a page whose script of this number is refused.
+fn put_start<N: Sink>(notes: &mut N, script: u64) -> Result<(), PutFault>
+    ensures ok { OnOk result (Takes (N.taken notes.old) (N.taken notes.new) (script_start script)) }
+    ensures fault { OnErr result (TakesFront (N.taken notes.old) (N.taken notes.new) (script_start script)) }
     ensures counts { CountsFaults PutFault.Failed (N.faults notes.old) (N.faults notes.new) result }
 {
     let mut digits = Buffer::new();
     let number = digits.format(script).as_bytes();
-    put_three(notes, b"page refused: script ", number, b": not built\n")
+    put_three(notes, b"page refused: script ", number, b": ")
+}
+
+// Puts the note of a page whose script of this number is refused for this cause.
+fn put_script<N: Sink>(notes: &mut N, script: u64, cause: &[u8]) -> Result<(), PutFault>
+    ensures ok { OnOk result (Takes (N.taken notes.old) (N.taken notes.new) (script_note script cause.now)) }
+    ensures fault { OnErr result (TakesFront (N.taken notes.old) (N.taken notes.new) (script_note script cause.now)) }
+    ensures counts { CountsFaults PutFault.Failed (N.faults notes.old) (N.faults notes.new) result }
+{
+    match put_start(notes, script) {
+        Ok(()) => put_two(notes, cause, b"\n"),
+        Err(fault) => Err(fault),
+    }
+}
+
+// Puts the note of a page whose script of this number breaks an early rule.
+fn put_early<N: Sink>(notes: &mut N, script: u64, rule: EarlyRule) -> Result<(), PutFault>
+    ensures ok { OnOk result (Takes (N.taken notes.old) (N.taken notes.new) (note_of (Status.PageRefused (Some (Refusal.Early script rule))))) }
+    ensures fault { OnErr result (TakesFront (N.taken notes.old) (N.taken notes.new) (note_of (Status.PageRefused (Some (Refusal.Early script rule))))) }
+    ensures counts { CountsFaults PutFault.Failed (N.faults notes.old) (N.faults notes.new) result }
+{
+    let mut digits = Buffer::new();
+    match put_start(notes, script) {
+        Ok(()) => {
+            let number = digits.format(rule.number()).as_bytes();
+            put_three(notes, b"early error ", number, b"\n")
+        }
+        Err(fault) => Err(fault),
+    }
+}
+
+// Puts the note of a page that is refused for this cause.
+fn put_refusal<N: Sink>(notes: &mut N, refusal: Refusal) -> Result<(), PutFault>
+    ensures ok { OnOk result (Takes (N.taken notes.old) (N.taken notes.new) (note_of (Status.PageRefused (Some refusal)))) }
+    ensures fault { OnErr result (TakesFront (N.taken notes.old) (N.taken notes.new) (note_of (Status.PageRefused (Some refusal)))) }
+    ensures counts { CountsFaults PutFault.Failed (N.faults notes.old) (N.faults notes.new) result }
+{
+    match refusal {
+        Refusal::NotUtf8 => notes.put(b"page refused: not utf-8\n"),
+        Refusal::NotPage => notes.put(b"page refused: not a page\n"),
+        Refusal::NotTokens(script) => put_script(notes, script, b"not tokens"),
+        Refusal::NotScript(script) => put_script(notes, script, b"not a script"),
+        Refusal::NotStrict(script) => put_script(notes, script, b"not strict"),
+        Refusal::Early(script, rule) => put_early(notes, script, rule),
+        Refusal::TooDeep(script) => put_script(notes, script, b"too deep"),
+        Refusal::ReservedName(script) => put_script(notes, script, b"reserved name"),
+        Refusal::NotForm(script) => put_script(notes, script, b"not in form"),
+        Refusal::NotBuilt(script) => put_script(notes, script, b"not built"),
+    }
 }
 
 // Puts the note of a status.
@@ -59,8 +109,7 @@ fn put_note<N: Sink>(notes: &mut N, status: Status) -> Result<(), PutFault>
     match status {
         Status::Ok => notes.put(b""),
         Status::PageRefused(None) => notes.put(b"page refused: too long\n"),
-        Status::PageRefused(Some(Refusal::NotUtf8)) => notes.put(b"page refused: not utf-8\n"),
-        Status::PageRefused(Some(Refusal::NotBuilt(script))) => put_not_built(notes, script),
+        Status::PageRefused(Some(refusal)) => put_refusal(notes, refusal),
         Status::Usage => notes.put(
             b"usage: imagen check P, replay P E, instrument P, save P E, stress N\n",
         ),

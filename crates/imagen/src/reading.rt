@@ -1,14 +1,21 @@
 //! Reading the files of a command.
 
-ghost use Rattle.std.specs.Prelude.{◌≡◌, ℕ, List, IfOk, IfErr};
-ghost use Rattle.js_parser.specs.Items.{IsFirst};
-ghost use Rattle.imagen.specs.Replay.{IsPage, IsEventFile};
+ghost use Rattle.std.specs.Prelude.{◌≡◌, ℕ, List, IfOk, IfErr, IfSome, MatchOption};
+ghost use Rattle.first_scripts.specs.Items.{IsFirst};
+ghost use Rattle.js_core.specs.Tree as tree;
+ghost use Rattle.page_check.specs.Accept.{IsRefused};
+ghost use Rattle.imagen.specs.Page.{IsPage, IsNotRun, IsRunnable, Runs};
+ghost use Rattle.imagen.specs.Replay.{IsEventFile};
 ghost use Rattle.imagen.specs.Ending.{Of, StopsAtPage, StopsAtEvents, CountsReads};
 
 use crate::events::{EventFault, events};
-use crate::page::{AcceptFault, Accepted, accept};
 use crate::status::Status;
+use first_scripts::first::is_first;
+use js_core::memory::OutOfMemory;
+use js_core::syntax::Script;
 use js_machine::event::Event;
+use page_check::accept::accept;
+use page_check::page::{AcceptFault, Accepted, Refusal};
 use page_io::files::{Files, ReadFault};
 use std::alloc::Global;
 
@@ -21,8 +28,7 @@ pub const EVENT_FILE_LIMIT: u64 = 4_194_304;
 /// Reads and accepts a page.
 pub fn read_page<F: Files>(alloc: Global, files: &mut F, name: &str) -> Result<Accepted, Status>
     ensures ok { IfOk result (λ page. Of (F.content files.old name.now) (λ bytes. IsPage bytes page)) }
-    ensures first { IfOk result (λ page. IsFirst page.script) }
-    ensures stops { IfErr result (λ status. StopsAtPage status (F.content files.old name.now)) }
+    ensures stops { IfErr result (λ status. StopsAtPage IsRefused status (F.content files.old name.now)) }
     ensures same { (n : List ℕ) → F.content files.new n ≡ F.content files.old n }
     ensures counts { CountsReads (F.faults files.old) (F.faults files.new) (F.failed files.new) name.now result }
 {
@@ -36,6 +42,39 @@ pub fn read_page<F: Files>(alloc: Global, files: &mut F, name: &str) -> Result<A
         Ok(page) => Ok(page),
         Err(AcceptFault::Refused(refusal)) => Err(Status::PageRefused(Some(refusal))),
         Err(AcceptFault::OutOfMemory) => Err(Status::OutOfMemory),
+    }
+}
+
+/// The one script of a page, where it is of a form that runs so far.
+fn runnable(alloc: Global, page: Accepted) -> Result<Option<Script>, OutOfMemory>
+    ensures { IfOk result (λ found. MatchOption found ((script : tree.Stmts) → ¬ Runs page script) (Runs page)) }
+{
+    let Accepted { scripts, .. } = page;
+    let mut scripts = scripts;
+    let Some(script) = scripts.pop() else {
+        return Ok(None);
+    };
+    if scripts.is_empty() && is_first(alloc, &script)? {
+        Ok(Some(script))
+    } else {
+        Ok(None)
+    }
+}
+
+/// Reads a page that is to run.
+#[tactic(auto, using(crate::proofs::Refusals::told_runs, crate::proofs::Refusals::told_not_built, crate::proofs::Refusals::stops_run))]
+pub fn read_script<F: Files>(alloc: Global, files: &mut F, name: &str) -> Result<Script, Status>
+    ensures ok { IfOk result (λ script. Of (F.content files.old name.now) (λ bytes. IsRunnable bytes script)) }
+    ensures first { IfOk result (λ script. IsFirst script) }
+    ensures stops { IfErr result (λ status. StopsAtPage IsNotRun status (F.content files.old name.now)) }
+    ensures same { (n : List ℕ) → F.content files.new n ≡ F.content files.old n }
+    ensures counts { CountsReads (F.faults files.old) (F.faults files.new) (F.failed files.new) name.now result }
+{
+    let page = read_page(alloc, files, name)?;
+    match runnable(alloc, page) {
+        Ok(Some(script)) => Ok(script),
+        Ok(None) => Err(Status::PageRefused(Some(Refusal::NotBuilt(1)))),
+        Err(OutOfMemory) => Err(Status::OutOfMemory),
     }
 }
 

@@ -2,7 +2,7 @@
 
 ghost use Rattle.std.specs.Prelude.{◌≡◌, IfOk};
 ghost use Rattle.js_core.specs.Line.{lines_text};
-ghost use Rattle.js_parser.specs.Items.{IsFirst};
+ghost use Rattle.first_scripts.specs.Items.{IsFirst};
 ghost use Rattle.js_machine.specs.Run.{run_of, lines_of_run};
 
 use js_core::line::Line;

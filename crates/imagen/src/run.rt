@@ -5,6 +5,7 @@ ghost use Rattle.imagen.specs.Command.{command_of};
 ghost use Rattle.imagen.specs.Ending.{OnCommand, Ends};
 ghost use Rattle.imagen.specs.Notes.{note_of, Noted};
 
+use crate::check::check;
 use crate::command;
 use crate::command::Command;
 use crate::notes::write_note;
@@ -20,8 +21,7 @@ fn obey<F: Files, O: Sink>(alloc: Global, words: &[String], files: &mut F, out: 
     ensures usage { (result ≡ Status.Usage) ↔ (command_of (map string_bytes words.now) ≡ None) }
     ensures untouched { result ≡ Status.Usage → (files.new ≡ files.old) × (out.new ≡ out.old) }
     ensures command { OnCommand (command_of (map string_bytes words.now)) (λ command. Ends command result (record {
-      page = F.content files.old command.page;
-      events = F.content files.old command.events;
+      content = F.content files.old;
       reads_before = F.faults files.old;
       reads_now = F.faults files.new;
       failed = F.failed files.new;
@@ -33,7 +33,10 @@ fn obey<F: Files, O: Sink>(alloc: Global, words: &[String], files: &mut F, out: 
 {
     match command::command_of(words) {
         None => Status::Usage,
-        Some(Command { work, page, events }) => perform(alloc, work, page, events, files, out),
+        Some(Command::Check(page)) => check(alloc, page, files, out),
+        Some(Command::Session(work, page, events)) => {
+            perform(alloc, work, page, events, files, out)
+        }
     }
 }
 
@@ -50,8 +53,7 @@ pub fn run<F: Files, O: Sink, N: Sink, K: Keeper>(
     ensures usage { (result ≡ Status.Usage) ↔ (command_of (map string_bytes words.now) ≡ None) }
     ensures untouched { result ≡ Status.Usage → (files.new ≡ files.old) × (out.new ≡ out.old) }
     ensures command { OnCommand (command_of (map string_bytes words.now)) (λ command. Ends command result (record {
-      page = F.content files.old command.page;
-      events = F.content files.old command.events;
+      content = F.content files.old;
       reads_before = F.faults files.old;
       reads_now = F.faults files.new;
       failed = F.failed files.new;

@@ -1,19 +1,19 @@
 //! The text that `save` writes.
 
-ghost use Rattle.std.specs.Prelude.{◌≡◌, ◌<◌, ◌≤◌, ◌++◌, IfOk, OnOk, Some, map, pos, neg_ℤ};
-ghost use Rattle.std.specs.List.{All};
+ghost use Rattle.std.specs.Prelude.{◌≡◌, ◌≤◌, IfOk, OnOk, Some, map, pos, neg_ℤ, codes};
 ghost use Rattle.std.specs.Rc.{rc_value};
 ghost use Rattle.js_core.specs.Whole.{InRange};
 ghost use Rattle.js_core.specs.Height.{stmts_height, maybe_expr_height, expr_height};
 ghost use Rattle.js_core.specs.Tree as tree;
 ghost use Rattle.js_core.specs.Tree.{stmts_of};
-ghost use Rattle.js_parser.specs.Items.{IsFirst};
+ghost use Rattle.first_scripts.specs.Items.{IsFirst};
 ghost use Rattle.js_machine.specs.Run.{run_of};
 ghost use Rattle.js_machine.specs.Saved as spec;
 ghost use Rattle.imagen.specs.Saving.{saved_page, before};
 
 use crate::replay::run_page;
 use indexmap::map::Slice;
+use js_core::ascii::ascii_text;
 use js_core::memory::OutOfMemory;
 use js_core::operators::BinaryOp;
 use js_core::syntax::{Code, Declarator, Expr, ExprNode, Script, Stmt, StmtNode};
@@ -22,11 +22,11 @@ use js_core::whole::Whole;
 use js_machine::cell::Cell;
 use js_machine::event::Event;
 use js_machine::first::First;
-use js_parser::printing::print_items;
+use js_print::print::print;
 use std::alloc::Global;
 use std::rc::Rc;
 
-const SAVED_HEAD: &[u8] = b"<!--imagen 1--><html><script>\"use strict\";";
+const SAVED_HEAD: &[u8] = b"<!--imagen 1--><html><script>";
 
 const SAVED_TAIL: &[u8] = b"</script></html>";
 
@@ -146,26 +146,27 @@ fn push_functions(codes: &[Rc<Code>], items: &mut Vec<Stmt>) -> Result<(), OutOf
     Ok(())
 }
 
-// The items that a page is saved as.
-fn saved_items(alloc: Global, page: &First) -> Result<Vec<Stmt>, OutOfMemory>
-    requires { IsFirst (spec.saved_script page.now) }
-    ensures { IfOk result (λ items. stmts_of items.items ≡ spec.saved_items page.now) }
+// The directive `"use strict";`.
+fn directive(alloc: Global) -> Result<Stmt, OutOfMemory>
+    ensures { IfOk result (λ s. s ≡ tree.expr (tree.text (codes "use strict"))) }
 {
-    let mut items = Vec::new(alloc);
-    push_variables(alloc, page.names(), &mut items)?;
-    push_functions(page.codes().as_slice(), &mut items)?;
-    Ok(items)
+    Ok(Stmt {
+        node: StmtNode::Expr(Expr {
+            node: ExprNode::Text(ascii_text(alloc, b"use strict")?),
+        }),
+    })
 }
 
-// Appends ASCII characters, each a unit.
-fn push_ascii(units: &[u16], out: &mut Vec<u8>) -> Result<(), OutOfMemory>
-    requires { All (λ u. u < 128) units.now }
-    ensures { OnOk result (out.new.items ≡ out.old.items ++ units.now) }
+// The script that a page is saved as.
+fn saved_script(alloc: Global, page: &First) -> Result<Script, OutOfMemory>
+    requires { IsFirst (spec.saved_script page.now) }
+    ensures { IfOk result (λ script. script ≡ spec.saved_script page.now) }
 {
-    for unit in units {
-        out.push(*unit as u8)?;
-    }
-    Ok(())
+    let mut body = Vec::new(alloc);
+    body.push(directive(alloc)?)?;
+    push_variables(alloc, page.names(), &mut body)?;
+    push_functions(page.codes().as_slice(), &mut body)?;
+    Ok(Script { body })
 }
 
 // The saved page of what a page has.
@@ -173,11 +174,9 @@ fn page_text(alloc: Global, page: &First) -> Result<Vec<u8>, OutOfMemory>
     requires { IsFirst (spec.saved_script page.now) }
     ensures { IfOk result (λ text. text.items ≡ saved_page page.now) }
 {
-    let items = saved_items(alloc, page)?;
-    let mut units = Vec::new(alloc);
-    print_items(&items, &mut units)?;
+    let script = saved_script(alloc, page)?;
     let mut text = Vec::from_slice(alloc, SAVED_HEAD)?;
-    push_ascii(&units, &mut text)?;
+    print(alloc, &script, &mut text)?;
     text.extend_from_slice(SAVED_TAIL)?;
     Ok(text)
 }

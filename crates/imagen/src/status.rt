@@ -1,20 +1,13 @@
 //! How the program ends.
 
-/// Why a page is refused.
-#[derive(Clone, Copy, Debug, PartialEq, Eq)]
-pub enum Refusal {
-    /// The page is no UTF-8.
-    NotUtf8,
-    /// The script of this number, counted from 1, has no reading that runs so far.
-    NotBuilt(u64),
-}
+use page_check::page::Refusal;
 
 /// How a command ends. The number of each is the exit status of the program.
 #[derive(Clone, Copy, Debug, PartialEq, Eq)]
 pub enum Status {
     /// 0: the whole text was written.
     Ok,
-    /// 1: the page has more than 16,777,216 bytes, or is refused.
+    /// 1: the page has more than 16,777,216 bytes, or is refused for this cause.
     PageRefused(Option<Refusal>),
     /// 2: the words are no command line.
     Usage,

@@ -1,8 +1,10 @@
 use crate::run::run;
-use crate::status::{Refusal, Status};
+use crate::status::Status;
+use page_check::page::Refusal;
 use page_io::memory_files::MemoryFiles;
 use page_io::memory_keeper::MemoryKeeper;
 use page_io::memory_sink::MemorySink;
+use scope_analysis::early_rule::EarlyRule;
 use std::alloc::Global;
 use std::process::Abort;
 use std::test::Fail;
@@ -119,6 +121,11 @@ fn replay_writes_the_lines_of_the_page_and_its_events(rt: HostRuntime) -> Result
             "[]",
             "log 1\nlog 0\nlog 2\n",
         ),
+        (
+            "var a=(0x10) // sixteen\r\nvar b=(a-(1))+2\rconsole.log(/* three\nterms */b)",
+            "[]",
+            "log 17\n",
+        ),
     ];
     for (items, events, lines) in rows {
         let page = page(rt.alloc(), items)?;
@@ -152,6 +159,12 @@ fn a_saved_page_goes_on_as_if_it_had_never_moved(rt: HostRuntime) -> Result<(), 
             "var n=1000;function f(){n=n+1;f();}function t(){console.log(n);}",
             "log 1000\n",
         ),
+        (
+            "var n=1\nfunction t(){n=n-1+2;console.log(n)}",
+            "[]",
+            "var n=1;function t(){n=(n-1)+2;console.log(n);}",
+            "log 2\n",
+        ),
     ];
     for (items, events, kept, line) in rows {
         let page = page(rt.alloc(), items)?;
@@ -169,36 +182,107 @@ fn a_saved_page_goes_on_as_if_it_had_never_moved(rt: HostRuntime) -> Result<(), 
     Ok(())
 }
 
+// A page is refused with this status and note by each command, which writes nothing.
+fn is_refused(
+    rt: &(impl Abort + AllocGlobal),
+    page: &[u8],
+    status: Status,
+    note: &str,
+) -> Result<(), Fail> {
+    let words: [&[&str]; 3] = [&["check", "p"], &["replay", "p", "e"], &["save", "p", "e"]];
+    for command in words {
+        let ended = ended(rt.alloc(), command, page, b"{}", 1000)?;
+        assert_eq!(rt; ended.status, status, "{note}");
+        assert!(rt; ended.text.is_empty(), "{note}");
+        assert!(rt; ended.note.as_slice() == note.as_bytes(), "{note}");
+    }
+    Ok(())
+}
+
 #[test]
-fn replay_refuses_pages_and_writes_nothing(rt: HostRuntime) -> Result<(), Fail> {
-    let not_built = Status::PageRefused(Some(Refusal::NotBuilt(1)));
-    let loops = page(rt.alloc(), "var c=1;while(c){}")?;
-    let twice = page(rt.alloc(), "function f(){}function f(){}")?;
-    let marked: &[u8] = b"<!--imagen 2--><html><script>\"use strict\";</script></html>";
-    let long = vec![in rt.alloc(); b' '; 16_777_217]?;
-    let script = "page refused: script 1: not built\n";
-    let rows = [
-        (loops.as_bytes(), not_built, script),
-        (twice.as_bytes(), not_built, script),
-        (marked, not_built, script),
-        (b"", not_built, script),
+fn pages_are_refused_for_the_first_cause(rt: HostRuntime) -> Result<(), Fail> {
+    let scripts = [
+        ("var a='", Refusal::NotTokens(1), "not tokens"),
+        ("var ;", Refusal::NotScript(1), "not a script"),
         (
-            b"\xE2\x82",
-            Status::PageRefused(Some(Refusal::NotUtf8)),
-            "page refused: not utf-8\n",
+            "delete x;",
+            Refusal::Early(1, EarlyRule::DeletedName),
+            "early error 3",
         ),
         (
-            long.as_slice(),
-            Status::PageRefused(None),
-            "page refused: too long\n",
+            "function NaN(){}",
+            Refusal::Early(1, EarlyRule::RedeclaredGlobal),
+            "early error 9",
+        ),
+        ("var $$x;", Refusal::ReservedName(1), "reserved name"),
+    ];
+    for (items, refusal, cause) in scripts {
+        let page = page(rt.alloc(), items)?;
+        let note = format!(in rt.alloc(); "page refused: script 1: {cause}\n")?;
+        is_refused(
+            &rt,
+            page.as_bytes(),
+            Status::PageRefused(Some(refusal)),
+            note.as_str(),
+        )?;
+    }
+    let deep = repeated(rt.alloc(), "x=", "!", 198, "0;")?;
+    let deep = page(rt.alloc(), deep.as_str())?;
+    let long = vec![in rt.alloc(); b' '; 16_777_217]?;
+    let open =
+        "<!--imagen 1--><html><script>\"use strict\";(function(a){return function(){a;};})();</script></html>";
+    let pages: [(&[u8], Option<Refusal>, &str); 6] = [
+        (long.as_slice(), None, "too long"),
+        (b"\xE2\x82", Some(Refusal::NotUtf8), "not utf-8"),
+        (
+            b"<!--imagen 2--><html><script>\"use strict\";</script></html>",
+            Some(Refusal::NotPage),
+            "not a page",
+        ),
+        (
+            b"<html><script>var x;</script></html>",
+            Some(Refusal::NotStrict(1)),
+            "script 1: not strict",
+        ),
+        (
+            deep.as_bytes(),
+            Some(Refusal::TooDeep(1)),
+            "script 1: too deep",
+        ),
+        (
+            open.as_bytes(),
+            Some(Refusal::NotForm(1)),
+            "script 1: not in form",
         ),
     ];
-    for (bytes, refused, note) in rows {
-        let ended = replayed(rt.alloc(), bytes, "{}")?;
-        assert_eq!(rt; ended.status, refused);
-        assert!(rt; ended.text.is_empty());
-        assert!(rt; ended.note.as_slice() == note.as_bytes());
+    for (bytes, refusal, cause) in pages {
+        let note = format!(in rt.alloc(); "page refused: {cause}\n")?;
+        is_refused(&rt, bytes, Status::PageRefused(refusal), note.as_str())?;
     }
+    Ok(())
+}
+
+#[test]
+fn check_takes_pages_that_do_not_run_yet(rt: HostRuntime) -> Result<(), Fail> {
+    let rows = [
+        "var c=1;while(c){}",
+        "function f(){}function f(){}",
+        "var a=1,b=2;\na++\n(b)\nconsole.log(a);",
+        "var a=1,b=2;\na\n(b)",
+    ];
+    for items in rows {
+        let page = page(rt.alloc(), items)?;
+        let checked = ended(rt.alloc(), &["check", "p"], page.as_bytes(), b"", 1000)?;
+        assert_eq!(rt; checked.status, Status::Ok, "{items}");
+        assert!(rt; checked.text.as_slice() == b"plain\n".as_slice(), "{items}");
+        let run = replayed(rt.alloc(), page.as_bytes(), "[]")?;
+        assert_eq!(rt; run.status, Status::PageRefused(Some(Refusal::NotBuilt(1))));
+        assert!(rt; run.text.is_empty());
+        assert!(rt; run.note.as_slice() == b"page refused: script 1: not built\n".as_slice());
+    }
+    let saved = saved(rt.alloc(), page(rt.alloc(), COUNTER)?.as_bytes(), "[]")?;
+    let checked = ended(rt.alloc(), &["check", "p"], &saved.text, b"", 1000)?;
+    assert!(rt; checked.text.as_slice() == b"form\n".as_slice());
     Ok(())
 }
 
@@ -242,7 +326,7 @@ fn replay_refuses_an_event_file_that_is_too_long(rt: HostRuntime) -> Result<(), 
 fn words_files_and_output_have_their_statuses(rt: HostRuntime) -> Result<(), Fail> {
     let page = page(rt.alloc(), "console.log(12);")?;
     let usage = "usage: imagen check P, replay P E, instrument P, save P E, stress N\n";
-    let rows: [(&[&str], u64, Status, &str, &str); 10] = [
+    let rows: [(&[&str], u64, Status, &str, &str); 15] = [
         (&[], 100, Status::Usage, "", usage),
         (&["replay"], 100, Status::Usage, "", usage),
         (&["save", "p"], 100, Status::Usage, "", usage),
@@ -265,6 +349,17 @@ fn words_files_and_output_have_their_statuses(rt: HostRuntime) -> Result<(), Fai
         (&["replay", "p", "e"], 3, Status::WriteFault, "log", "wri"),
         (&["save", "p", "e"], 4, Status::WriteFault, "<!--", "writ"),
         (&["replay", "p", "e"], 7, Status::Ok, "log 12\n", ""),
+        (&["check"], 100, Status::Usage, "", usage),
+        (&["check", "p", "e"], 100, Status::Usage, "", usage),
+        (
+            &["check", "none"],
+            100,
+            Status::ReadFault,
+            "",
+            "read fault\n",
+        ),
+        (&["check", "p"], 3, Status::WriteFault, "pla", "wri"),
+        (&["check", "p"], 6, Status::Ok, "plain\n", ""),
     ];
     for (words, room, status, written, note) in rows {
         let ended = ended(rt.alloc(), words, page.as_bytes(), b"[]", room)?;

@@ -2,12 +2,12 @@
 
 ghost use Rattle.std.specs.Prelude.{◌≡◌, IfOk};
 ghost use Rattle.js_core.specs.Line.{lines_text};
-ghost use Rattle.js_parser.specs.Items.{IsFirst};
+ghost use Rattle.first_scripts.specs.Items.{IsFirst};
 ghost use Rattle.js_machine.specs.Run.{run_of, lines_of_run};
-ghost use Rattle.imagen.specs.Ending.{Ends, IsTextOf};
+ghost use Rattle.imagen.specs.Ending.{EndsSession, IsTextOf};
 
 use crate::command::Work;
-use crate::reading::{read_events, read_page};
+use crate::reading::{read_events, read_script};
 use crate::replay::replayed_text;
 use crate::saving::saved_text;
 use crate::status::Status;
@@ -34,8 +34,8 @@ fn text_of(
     }
 }
 
-/// Does a command on the files of these names. The order is: reading and accepting the page, reading the events, loading and acting,
-/// writing. The first cause to end is the answer.
+/// Does a command on the files of these names. The order is: reading and accepting the page, reading the events, loading
+/// and acting, writing. The first cause to end is the answer.
 pub fn perform<F: Files, O: Sink>(
     alloc: Global,
     work: Work,
@@ -44,9 +44,8 @@ pub fn perform<F: Files, O: Sink>(
     files: &mut F,
     out: &mut O,
 ) -> Status
-    ensures { Ends (record { work = work; page = page.now; events = events.now }) result (record {
-      page = F.content files.old page.now;
-      events = F.content files.old events.now;
+    ensures { EndsSession work page.now events.now result (record {
+      content = F.content files.old;
       reads_before = F.faults files.old;
       reads_now = F.faults files.new;
       failed = F.failed files.new;
@@ -56,15 +55,15 @@ pub fn perform<F: Files, O: Sink>(
       taken_now = O.taken out.new;
     }) }
 {
-    let page = match read_page(alloc, files, page) {
-        Ok(page) => page,
+    let script = match read_script(alloc, files, page) {
+        Ok(script) => script,
         Err(status) => return status,
     };
     let list = match read_events(alloc, files, events) {
         Ok(list) => list,
         Err(status) => return status,
     };
-    let Ok(text) = text_of(alloc, work, &page.script, &list) else {
+    let Ok(text) = text_of(alloc, work, &script, &list) else {
         return Status::OutOfMemory;
     };
     match out.put(&text) {

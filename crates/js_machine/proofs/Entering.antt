@@ -7,8 +7,8 @@ use Rattle.std.specs.Map.{lookup}
 use Rattle.indexmap.specs.IndexMap.{insert_entry}
 use Rattle.js_core.specs.Tree as tree
 use Rattle.js_core.specs.Tree.{code, function, var, no_stmts, then_stmt, then_declarator}
-use Rattle.js_parser.specs.Names.{is_one_of}
-use Rattle.js_parser.specs.Items.{IsFirst, items_of, items_are_declared, are_distinct, functions_of, variables_of, is_well_declared}
+use Rattle.first_scripts.specs.Names.{is_one_of}
+use Rattle.first_scripts.specs.Items.{IsFirst, items_of, items_are_declared, are_distinct, functions_of, variables_of, is_well_declared}
 use Rattle.js_machine.specs.declared.cell.Cell.{Cell}
 use Rattle.js_machine.specs.declared.cell.Cell.TheVariants.{Undefined, Function}
 use Rattle.js_machine.specs.Entry.{bind_functions, bind_variables, bound}

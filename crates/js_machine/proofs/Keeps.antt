@@ -11,8 +11,8 @@ use Rattle.js_core.specs.declared.throw.Throw.TheVariants.{NotDefined, NotFuncti
 use Rattle.js_core.specs.Whole.{largest, is_whole}
 use Rattle.js_core.specs.Tree as tree
 use Rattle.js_core.specs.Tree.{name, num, member, call, binary, assign, no_exprs, then_expr, no_expr, one_expr, code, var, function, expr, no_stmts, then_stmt, no_declarators, then_declarator}
-use Rattle.js_parser.specs.Names.{is_value_name}
-use Rattle.js_parser.specs.Items.{IsTerm, IsSum, IsStatement, AreStatements, expr_is_declared, stmt_is_declared, stmts_are_declared}
+use Rattle.first_scripts.specs.Names.{is_value_name}
+use Rattle.first_scripts.specs.Items.{IsTerm, IsSum, IsStatement, AreStatements, expr_is_declared, stmt_is_declared, stmts_are_declared}
 use Rattle.js_machine.specs.declared.cell.Cell.{Cell}
 use Rattle.js_machine.specs.declared.cell.Cell.TheVariants.{Undefined, Num, Function}
 use Rattle.js_machine.specs.Act.{Store, Outcome, Ended, Thrown, Abandoned, Act, then_on, ret, bind, raise, ask, change, one_less, take_step}

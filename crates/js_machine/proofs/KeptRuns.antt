@@ -8,8 +8,8 @@ use Rattle.js_core.specs.declared.line.LineKind.TheVariants.{Uncaught, Stopped a
 use Rattle.js_core.specs.Throw.{thrown_text}
 use Rattle.js_core.specs.Tree as tree
 use Rattle.js_core.specs.Tree.{no_expr, one_expr, code, var, function, expr, no_stmts, then_stmt, no_declarators, then_declarator}
-use Rattle.js_parser.specs.Names.{is_one_of}
-use Rattle.js_parser.specs.Items.{IsFirst, AreItems, variables_of, functions_of, stmts_are_declared, expr_is_declared, item_is_declared, items_are_declared, are_distinct, with_directive, items_of, height_limit}
+use Rattle.first_scripts.specs.Names.{is_one_of}
+use Rattle.first_scripts.specs.Items.{IsFirst, AreItems, variables_of, functions_of, stmts_are_declared, expr_is_declared, item_is_declared, items_are_declared, are_distinct, with_directive, items_of, height_limit}
 use Rattle.js_machine.specs.declared.cell.Cell.TheVariants.{Undefined}
 use Rattle.js_machine.specs.declared.event.Event.{Event}
 use Rattle.js_machine.specs.declared.event.Event.TheVariants.{Call}

@@ -5,7 +5,7 @@ use Rattle.std.specs.Map.{keys_of}
 use Rattle.js_core.specs.Whole.{is_whole, whole_of}
 use Rattle.js_core.specs.declared.throw.Throw.TheVariants.{OutOfRange}
 use Rattle.js_core.specs.Tree as tree
-use Rattle.js_parser.specs.Items.{variables_of, with_directive}
+use Rattle.first_scripts.specs.Items.{variables_of, with_directive}
 use Rattle.js_machine.specs.declared.cell.Cell.{Cell}
 use Rattle.js_machine.specs.declared.cell.Cell.TheVariants.{Undefined, Num, Function}
 use Rattle.js_machine.specs.Act.{Store, Ended, Act, then_on, ret, bind}

@@ -7,8 +7,8 @@ use Rattle.std.proofs.lemmas.Cmp.{nat_list_eq_equiv}
 use Rattle.std.proofs.lemmas.Slice.Eq.{bytes_eq-Decides}
 use Rattle.js_core.specs.Tree as tree
 use Rattle.js_core.specs.Tree.{code, function, no_stmts, then_stmt}
-use Rattle.js_parser.specs.Names.{is_one_of}
-use Rattle.js_parser.specs.Items.{functions_of}
+use Rattle.first_scripts.specs.Names.{is_one_of}
+use Rattle.first_scripts.specs.Items.{functions_of}
 use Rattle.js_machine.specs.declared.cell.Cell.{Cell}
 use Rattle.js_machine.specs.declared.cell.Cell.TheVariants.{Undefined, Function}
 use Rattle.js_machine.specs.Globals.{held_by, with_name}

@@ -1,17 +1,18 @@
 -- A page that is saved goes on as if it had not been saved.
-use Rattle.std.proofs.Common.{◌≡◌, List, [], ◌∷◌, ◌++◌, length, drop, refl, ap, sym, ◌∙◌, append-nil}
+use Rattle.std.proofs.Common.{◌≡◌, ◌≤◌, max, List, [], ◌∷◌, ◌++◌, length, drop, refl, ap, sym, ◌∙◌, append-nil}
 use Rattle.std.proofs.lemmas.List.{length-append}
 use Rattle.std.proofs.Math.Seq.{drop-append-add}
 use Rattle.js_core.specs.declared.line.Line.{Line}
+use Rattle.js_core.specs.Height.{stmts_height}
 use Rattle.js_core.specs.Tree as tree
-use Rattle.js_parser.specs.Items.{IsFirst, with_directive}
+use Rattle.first_scripts.specs.Items.{IsFirst, with_directive}
 use Rattle.js_machine.specs.declared.event.Event.{Event}
 use Rattle.js_machine.specs.Act.{Store}
-use Rattle.js_machine.specs.Run.{LinesGrow, load_of, do_event, run_all, run_of, lines_of_run, lines_added}
-use Rattle.js_machine.specs.Saved.{saved_script, without_lines, SavedIsFirst, SavedLoads, SavedGoesOn, SavedAgain, SavedGoesOnLater, MovesKeepLines, joined}
+use Rattle.js_machine.specs.Run.{LinesGrow, codes_of, load_of, do_event, run_all, run_of, lines_of_run, lines_added}
+use Rattle.js_machine.specs.Saved.{saved_script, without_lines, SavedIsFirst, SavedLoads, SavedGoesOn, SavedAgain, SavedGoesOnLater, MovesKeepLines, SavedKeepsFunctions, SavedIsLow, saved_variable_height, joined}
 use Rattle.js_machine.proofs.Frames.{after_lines, do_event_framed, run_all_framed}
 use Rattle.js_machine.proofs.KeptRuns.{by_items, run_kept}
-use Rattle.js_machine.proofs.SavedShape.{saved_is_first}
+use Rattle.js_machine.proofs.SavedShape.{saved_is_first, saved_functions_are, saved_is_low}
 use Rattle.js_machine.proofs.SavedLoading.{saved_loads}
 
 pub first : SavedIsFirst
@@ -19,6 +20,12 @@ first script events h = by_items (λ p. IsFirst (saved_script (run_of p events))
 
 pub loads : SavedLoads
 loads script events h = by_items (λ p. load_of (saved_script (run_of p events)) ≡ without_lines (run_of p events)) (λ items g. saved_loads items g (run_of (with_directive items) events) (run_kept items g events)) script h
+
+pub functions : SavedKeepsFunctions
+functions script events h = by_items (λ p. codes_of (saved_script (run_of p events)) ≡ codes_of p) (λ items g. saved_functions_are items (run_of (with_directive items) events) (run_kept items g events)) script h
+
+pub low : SavedIsLow
+low script events h = by_items (λ p. stmts_height (saved_script (run_of p events)) ≤ max (stmts_height p) saved_variable_height) (λ items g. saved_is_low items (run_of (with_directive items) events) (run_kept items g events)) script h
 
 -- ---- lines
 

@@ -9,13 +9,13 @@ use Rattle.js_core.specs.Height.{expr_height, stmt_height, stmts_height}
 use Rattle.js_core.specs.Whole.{largest}
 use Rattle.js_core.specs.Tree as tree
 use Rattle.js_core.specs.Tree.{name, num, binary, member, call, assign, no_exprs, then_expr, no_expr, one_expr, code, var, function, expr, no_stmts, then_stmt, no_declarators, then_declarator}
-use Rattle.js_parser.specs.Names.{is_one_of, is_name, is_value_name}
-use Rattle.js_parser.specs.Items.{IsFirst, IsSum, AreItems, variables_of, functions_of, expr_is_declared, item_is_declared, items_are_declared, are_distinct, is_well_declared, with_directive, height_limit}
+use Rattle.first_scripts.specs.Names.{is_one_of, is_name, is_value_name}
+use Rattle.first_scripts.specs.Items.{IsFirst, IsSum, AreItems, variables_of, functions_of, expr_is_declared, item_is_declared, items_are_declared, are_distinct, is_well_declared, with_directive, height_limit}
 use Rattle.js_machine.specs.declared.cell.Cell.{Cell}
 use Rattle.js_machine.specs.declared.cell.Cell.TheVariants.{Undefined, Num, Function}
 use Rattle.js_machine.specs.Act.{Store}
 use Rattle.js_machine.specs.Run.{codes_of, function_names, first_ones}
-use Rattle.js_machine.specs.Saved.{saved_number, saved_variable, saved_variables, saved_functions, saved_items, saved_script}
+use Rattle.js_machine.specs.Saved.{saved_number, saved_variable, saved_variables, saved_functions, saved_items, saved_script, saved_variable_height}
 use Rattle.js_machine.proofs.SavedNames.{Names, one_of-first_ones}
 use Rattle.js_machine.proofs.Keeps.{IsPlainNumber, IsPlain, ArePlain, Keeps}
 use Rattle.js_machine.proofs.KeptRuns.{FirstItems}
@@ -171,6 +171,10 @@ functions_low no_stmts n h = h
 functions_low (then_stmt (function c) ss) n h = max_keeps (stmt_height (function c)) (stmts_height ss) (stmts_height (saved_functions (codes_of ss))) n h (functions_low ss n)
 functions_low (then_stmt s ss) n h = functions_low ss n (right_within (stmt_height s) (stmts_height ss) n h)
 
+-- a script with these functions, and variables before them
+items_low : (es : Names) (items : tree.Stmts) (n : ℕ) → 4 ≤ n → stmts_height (with_directive items) ≤ n → stmts_height (with_directive (saved_variables es (saved_functions (codes_of items)))) ≤ n
+items_low es items n h g = max-le {a = 2} (omega arith) (variables_low es (saved_functions (codes_of items)) n h (functions_low items n (right_within 2 (stmts_height items) n g)))
+
 -- ---- the script
 
 shaped_items : (items : tree.Stmts) → FirstItems items → (es : Names) → ArePlain es → keys_of es ≡ first_ones [] (variables_of items) → IsFirst (with_directive (saved_variables es (saved_functions (codes_of items))))
@@ -189,9 +193,22 @@ shaped_items items first es plain known =
           (functions_declared (is_one_of vars) (is_one_of (functions_of items)) items (ap (λ t. items_are_declared t (is_one_of (functions_of items)) items) same ∙ first.declared)))
           first.distinct
           (ap (λ t. list_all (λ f. not (t f)) (functions_of items)) same ∙ first.apart);
-      low = max-le {a = 2} (omega arith) (variables_low es functions height_limit (omega arith) (functions_low items height_limit (right_within 2 (stmts_height items) height_limit first.low)));
+      low = items_low es items height_limit (omega arith) first.low;
     }
 
 -- a page with kept functions, names and plain variables is saved as a first script
 pub saved_is_first : (items : tree.Stmts) → FirstItems items → (s : Store) → Keeps (function_names 0 (codes_of items)) (codes_of items) (first_ones [] (variables_of items)) s → IsFirst (saved_script s)
 saved_is_first items first s k = subst (λ i. IsFirst (with_directive i)) (sym (saved_items_are (codes_of items) (first_ones [] (variables_of items)) s k)) (shaped_items items first k.held k.plain k.known)
+
+-- it has the functions of the page's script
+pub saved_functions_are : (items : tree.Stmts) (s : Store) → Keeps (function_names 0 (codes_of items)) (codes_of items) (first_ones [] (variables_of items)) s → codes_of (saved_script s) ≡ codes_of items
+saved_functions_are items s k =
+    ap codes_of (saved_items_are (codes_of items) (first_ones [] (variables_of items)) s k)
+    ∙ codes_after k.held (saved_functions (codes_of items)) ∙ codes_saved (codes_of items)
+
+-- it is no higher than the page's script, or than a saved variable
+pub saved_is_low : (items : tree.Stmts) (s : Store) → Keeps (function_names 0 (codes_of items)) (codes_of items) (first_ones [] (variables_of items)) s → stmts_height (saved_script s) ≤ max (stmts_height (with_directive items)) saved_variable_height
+saved_is_low items s k =
+    let limit = max (stmts_height (with_directive items)) saved_variable_height in
+    subst (λ i. stmts_height (with_directive i) ≤ limit) (sym (saved_items_are (codes_of items) (first_ones [] (variables_of items)) s k))
+    (items_low k.held items limit (le-max_right (stmts_height (with_directive items)) saved_variable_height) (le-max_left (stmts_height (with_directive items)) saved_variable_height))

@@ -3,7 +3,7 @@ use Rattle.std.specs.Prelude.{ℕ, ◌+◌, List, [], ◌∷◌, Some, None, is_
 use Rattle.indexmap.specs.IndexMap.{insert_entry}
 use Rattle.js_core.specs.Tree as tree
 use Rattle.js_core.specs.Tree.{code, no_declarators, then_declarator}
-use Rattle.js_parser.specs.Items.{variables_of}
+use Rattle.first_scripts.specs.Items.{variables_of}
 use Rattle.js_machine.specs.declared.cell.Cell.{Cell}
 use Rattle.js_machine.specs.declared.cell.Cell.TheVariants.{Undefined, Function}
 use Rattle.js_machine.specs.Act.{Store}

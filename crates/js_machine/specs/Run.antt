@@ -5,8 +5,8 @@ use Rattle.js_core.specs.declared.line.LineKind.TheVariants.{Uncaught, Stopped a
 use Rattle.js_core.specs.Throw.{thrown_text}
 use Rattle.js_core.specs.Tree as tree
 use Rattle.js_core.specs.Tree.{code, function, no_stmts, then_stmt}
-use Rattle.js_parser.specs.Names.{is_one_of}
-use Rattle.js_parser.specs.Items.{variables_of}
+use Rattle.first_scripts.specs.Names.{is_one_of}
+use Rattle.first_scripts.specs.Items.{variables_of}
 use Rattle.js_machine.specs.declared.cell.Cell.{Cell}
 use Rattle.js_machine.specs.declared.cell.Cell.TheVariants.{Undefined, Function}
 use Rattle.js_machine.specs.declared.event.Event.{Event}

@@ -1,15 +1,16 @@
 -- A page as a script of its own, and what that script is worth.
-use Rattle.std.specs.Prelude.{ℕ, ℤ, suc, pos, negsuc, ◌≡◌, ◌++◌, List, [], ◌∷◌, Option, Some, None, codes}
+use Rattle.std.specs.Prelude.{ℕ, ℤ, suc, pos, negsuc, ◌≡◌, ◌≤◌, max, ◌++◌, List, [], ◌∷◌, Option, Some, None, codes}
 use Rattle.js_core.specs.declared.operators.BinaryOp.TheVariants.{Sub}
 use Rattle.js_core.specs.declared.line.Line.{Line}
+use Rattle.js_core.specs.Height.{stmts_height}
 use Rattle.js_core.specs.Tree as tree
 use Rattle.js_core.specs.Tree.{name, num, binary, no_expr, one_expr, var, function, no_stmts, then_stmt, no_declarators, then_declarator}
-use Rattle.js_parser.specs.Items.{IsFirst, with_directive}
+use Rattle.first_scripts.specs.Items.{IsFirst, with_directive}
 use Rattle.js_machine.specs.declared.cell.Cell.{Cell}
 use Rattle.js_machine.specs.declared.cell.Cell.TheVariants.{Undefined, Num, Function}
 use Rattle.js_machine.specs.declared.event.Event.{Event}
 use Rattle.js_machine.specs.Act.{Store}
-use Rattle.js_machine.specs.Run.{load_of, run_of, lines_of_run, lines_after}
+use Rattle.js_machine.specs.Run.{codes_of, load_of, run_of, lines_of_run, lines_after}
 
 -- the expression of a number: `NaN`, its digits, or `0-` and the digits of a negative one
 abbrev pub saved_number : Option ℤ → tree.Expr
@@ -82,3 +83,15 @@ SavedGoesOnLater = (script : tree.Stmts) (earlier between later : List Event) �
 -- a page that moves any number of times puts out the lines of the page that never moved
 abbrev pub MovesKeepLines : Type 0
 MovesKeepLines = (script : tree.Stmts) (events : List Event) (more : List (List Event)) → IsFirst script → lines_in_parts script events more ≡ lines_of_run script (joined events more)
+
+-- a page is saved with its script's functions, each as it was
+abbrev pub SavedKeepsFunctions : Type 0
+SavedKeepsFunctions = (script : tree.Stmts) (events : List Event) → IsFirst script → codes_of (saved_script (run_of script events)) ≡ codes_of script
+
+-- no variable is saved higher: this is the height of `var N=0-D;`
+abbrev pub saved_variable_height : ℕ
+saved_variable_height = 4
+
+-- what is saved is no higher than the page's script, or than the declarations of variables
+abbrev pub SavedIsLow : Type 0
+SavedIsLow = (script : tree.Stmts) (events : List Event) → IsFirst script → stmts_height (saved_script (run_of script events)) ≤ max (stmts_height script) saved_variable_height

@@ -3,7 +3,7 @@
 ghost use Rattle.std.specs.Prelude.{◌≡◌, OnOk};
 ghost use Rattle.js_core.specs.Tree.{stmts_of};
 ghost use Rattle.js_core.specs.Views.{declarators_of};
-ghost use Rattle.js_parser.specs.Items.{variables_of};
+ghost use Rattle.first_scripts.specs.Items.{variables_of};
 ghost use Rattle.js_machine.specs.Entry.{bind_functions, bind_variables, first_of};
 
 use crate::codes::Codes;

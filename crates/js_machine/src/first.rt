@@ -2,7 +2,7 @@
 
 ghost use Rattle.std.specs.Prelude.{◌≡◌, ◌<◌, ◌^◌, IfOk, OnOk, ℕ, List};
 ghost use Rattle.js_core.specs.Tree as tree;
-ghost use Rattle.js_parser.specs.Items.{IsFirst};
+ghost use Rattle.first_scripts.specs.Items.{IsFirst};
 ghost use Rattle.js_machine.specs.declared.event.Event.TheVariants.{Call};
 ghost use Rattle.js_machine.specs.Entry.{bound};
 ghost use Rattle.js_machine.specs.Globals.{held_by};

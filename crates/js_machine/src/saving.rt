@@ -7,6 +7,8 @@ ghost use Rattle.js_machine.specs.Saved.{
   SavedAgain,
   SavedGoesOnLater,
   MovesKeepLines,
+  SavedKeepsFunctions,
+  SavedIsLow,
 };
 
 /// The law of saved scripts: what a page is saved as goes on as the page.
@@ -23,4 +25,8 @@ pub fn a_saved_script_goes_on()
     ensures goes_on_later { SavedGoesOnLater }
     // A page that moves any number of times puts out the lines of one that never moves.
     ensures moves { MovesKeepLines }
+    // It has the functions of the page's script, each as it was.
+    ensures functions { SavedKeepsFunctions }
+    // It is no higher than the page's script, or than the declaration of a variable that holds a negative number.
+    ensures low { SavedIsLow }
 {}

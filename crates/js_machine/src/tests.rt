@@ -4,10 +4,12 @@ use crate::cell::Cell;
 use crate::event::Event;
 use crate::first::{First, load_first};
 use crate::numbers::{text_of, whole_add, whole_sub};
+use first_scripts::first::is_first;
 use js_core::line::LineKind;
 use js_core::units::Units;
 use js_core::whole::Whole;
-use js_parser::first::first;
+use js_lexer::tokens::tokens;
+use script_parser::script::script;
 use std::alloc::Global;
 use std::test::Fail;
 
@@ -21,7 +23,11 @@ fn whole(n: i64) -> Whole {
 // The page of the script `"use strict";` and these items.
 fn page(alloc: Global, items: &str) -> Result<First, Fail> {
     let text = format!(in alloc; "\"use strict\";{items}")?;
-    let script = first(alloc, &Units::from_utf8(alloc, text.as_str())?)?;
+    let tokens = tokens(alloc, &Units::from_utf8(alloc, text.as_str())?)?;
+    let script = script(alloc, tokens.as_slice())?;
+    if !is_first(alloc, &script)? {
+        return Err(Fail::from("no first script"));
+    }
     Ok(load_first(alloc, &script)?)
 }
 

@@ -1,6 +1,6 @@
 use Rattle.std.proofs.Common.{◌≡◌, drop}
 use Rattle.js_core.specs.Tree.{stmts_of}
-use Rattle.js_parser.specs.Items.{variables_of}
+use Rattle.first_scripts.specs.Items.{variables_of}
 use Rattle.js_machine.specs.Entry.{bind_variables}
 use Rattle.js_machine.proofs.entry.declare_variables.Given as goal
 

@@ -1,0 +1,4 @@
+mod Apart
+mod Declared
+mod Each
+mod Refused

@@ -1,0 +1,11 @@
+//! The scripts of the first pages: global variables, functions without formals, assignments of sums, log lines and calls.
+#![tactic(auto)]
+
+pub mod first;
+mod letters;
+pub mod name_form;
+mod name_table;
+mod name_use;
+mod shapes;
+#[cfg(test)]
+mod tests;
