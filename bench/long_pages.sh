@@ -1,7 +1,7 @@
 #!/bin/sh
-# How the time of a replay grows with the length of a script: pages of 10,000 to 200,000 assignments, and events on a small
-# page. The last column stays about the same where the time is in proportion. Build the program first: `./imagen replay`
-# on an example.
+# How the time of a command grows with the page and the events: `replay` of 10,000 to 200,000 assignments, and of events on a
+# small page; `check` of object literals and of functions with many names. The last column stays about the same where the
+# time is in proportion. Build the program first: `./imagen replay` on an example.
 top=$(cd "$(dirname "$0")/.." && pwd) || exit 1
 program=$top/crates/imagen/out/imagen
 work=$(mktemp -d) || exit 1
@@ -12,32 +12,71 @@ repeated() {
     yes "$1" | head -n "$2" | tr -d '\n'
 }
 
-# milliseconds of a replay of the page and events in $work
-time_of_replay() {
+# numbered FORMAT COUNT: the text of the format for each number below the count
+numbered() {
+    seq 0 $(($2 - 1)) | xargs printf "$1"
+}
+
+# page MARK SCRIPT..: the page with this mark and script, in $work
+page() {
+    mark=$1
+    shift
+    {
+        printf '%s<html><script>"use strict";' "$mark"
+        "$@"
+        printf '</script></html>'
+    } >"$work/page.html"
+}
+
+# row WHAT COUNT COMMAND..: runs the command and prints what a part takes
+row() {
+    what=$1 count=$2
+    shift 2
     from=$(date +%s%N)
-    "$program" replay "$work/page.html" "$work/events.json" >/dev/null || exit 1
+    "$program" "$@" >/dev/null || exit 1
     to=$(date +%s%N)
-    echo $(((to - from) / 1000000))
+    printf '%-10s   %6d   %12d   %18d\n' "$what" "$count" $(((to - from) / 1000000)) $(((to - from) / count))
+}
+
+statements() {
+    printf 'var n=0;'
+    repeated 'n=n+1;' "$1"
+}
+
+literal() {
+    printf 'var o={'
+    numbered 'f%d:0,' "$1"
+    printf '};'
+}
+
+# A function with so many variables, and as many uses of them.
+variables() {
+    printf '(function(){'
+    numbered 'var v%d;' "$1"
+    numbered 'v%d;' "$1"
+    printf '}());'
 }
 
 echo 'what          parts   milliseconds   nanoseconds a part'
+printf '[]' >"$work/events.json"
 for count in 10000 50000 100000 200000; do
-    {
-        printf '<html><script>"use strict";var n=0;'
-        repeated 'n=n+1;' "$count"
-        printf '</script></html>'
-    } >"$work/page.html"
-    printf '[]' >"$work/events.json"
-    taken=$(time_of_replay)
-    printf 'statements   %6d   %12d   %18d\n' "$count" "$taken" $((taken * 1000000 / count))
+    page '' statements "$count"
+    row statements "$count" replay "$work/page.html" "$work/events.json"
 done
-printf '<html><script>"use strict";var n=0;function t(){n=n+1;console.log(n);}</script></html>' >"$work/page.html"
+for count in 10000 50000 100000; do
+    page '' literal "$count"
+    row fields "$count" check "$work/page.html"
+done
+for count in 10000 50000 100000; do
+    page '<!--imagen 1-->' variables "$count"
+    row variables "$count" check "$work/page.html"
+done
+page '' printf 'var n=0;function t(){n=n+1;console.log(n);}'
 for count in 10000 50000 100000; do
     {
         printf '['
         repeated '{"call":"t"},' $((count - 1))
         printf '{"call":"t"}]'
     } >"$work/events.json"
-    taken=$(time_of_replay)
-    printf 'events       %6d   %12d   %18d\n' "$count" "$taken" $((taken * 1000000 / count))
+    row events "$count" replay "$work/page.html" "$work/events.json"
 done

@@ -96,7 +96,7 @@ pub fn page_script(alloc: Global, kind: Kind, text: &Units) -> Result<Script, Sc
     if let Some(rule) = early(alloc, &script)? {
         return Err(ScriptFault::Early(rule));
     }
-    if is_too_deep(kind, &script) {
+    if is_too_deep(alloc, kind, &script)? {
         return Err(ScriptFault::TooDeep);
     }
     if !keeps_form(alloc, kind, &script)? {
@@ -105,12 +105,12 @@ pub fn page_script(alloc: Global, kind: Kind, text: &Units) -> Result<Script, Sc
     Ok(script)
 }
 
-fn is_too_deep(kind: Kind, script: &Script) -> bool
-    ensures { result ≡ spec.is_too_deep kind script.now }
+fn is_too_deep(alloc: Global, kind: Kind, script: &Script) -> Result<bool, OutOfMemory>
+    ensures { IfOk result (λ deep. deep ≡ spec.is_too_deep kind script.now) }
 {
     match kind {
-        Kind::Plain => script.height() > PLAIN_HEIGHT,
-        Kind::Form => script.height() > FORM_HEIGHT || has_high_function(script),
+        Kind::Plain => Ok(script.height() > PLAIN_HEIGHT),
+        Kind::Form => Ok(script.height() > FORM_HEIGHT || has_high_function(alloc, script)?),
     }
 }
 
@@ -119,7 +119,7 @@ fn keeps_form(alloc: Global, kind: Kind, script: &Script) -> Result<bool, OutOfM
     ensures { IfOk result (λ keeps. keeps ≡ spec.keeps_form kind script.now) }
 {
     match kind {
-        Kind::Plain => Ok(!has_reserved_name(script)),
+        Kind::Plain => Ok(!has_reserved_name(alloc, script)?),
         Kind::Form => in_form(alloc, script),
     }
 }

@@ -1,5 +1,5 @@
 -- One more element of a list is looked at, where none before it passed.
-use Rattle.std.proofs.Common.{◌≡◌, ◌≤◌, ◌-◌, ◌||◌, Bool, false, List, [], ◌∷◌, length, get_or, take, drop, arith, rules}
+use Rattle.std.proofs.Common.{◌≡◌, ◌≤◌, ◌-◌, ◌||◌, Bool, false, List, [], ◌∷◌, length, get_or, take, drop, arith}
 use Rattle.std.proofs.lemmas.Grind.{common_steps}
 use Rattle.js_core.specs.Tree as tree
 use Rattle.js_core.specs.Tree.{exprs_of, stmts_of}

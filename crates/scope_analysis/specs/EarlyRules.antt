@@ -1,5 +1,5 @@
 -- The early rules: what a script may not have (ECMA-262 5.1 section 16, in strict code, and rules of this program).
-use Rattle.std.specs.Prelude.{ℕ, Bool, true, false, not, ◌||◌, List, [], ◌∷◌, ◌++◌, Option, Some, None}
+use Rattle.std.specs.Prelude.{ℕ, Bool, true, false, not, ◌||◌, List, [], ◌∷◌, Option, Some, None}
 use Rattle.std.specs.List.{list_any, find}
 use Rattle.js_core.specs.Tree as tree
 use Rattle.js_core.specs.Tree.{name, num, text, bool, null, this, list, literal, func, member, index, call, construct, unary, update, binary, logical_and, logical_or, conditional, assign, comma, no_exprs, then_expr, no_expr, one_expr, no_holes, then_hole, no_fields, then_field, code, var, function, expr, empty, block, if_else, do_while, while, for, for_in, continue, break, return, throw, try, switch, no_stmts, then_stmt, no_body, one_body, no_declarators, then_declarator, no_init, init_var, init_expr, no_catch, one_catch, no_cases, then_case}
@@ -9,7 +9,7 @@ use Rattle.scope_analysis.specs.declared.early_rule.EarlyRule.{EarlyRule}
 use Rattle.scope_analysis.specs.declared.early_rule.EarlyRule.TheVariants as rule
 use Rattle.scope_analysis.specs.declared.jump.Jump.TheVariants as jump
 use Rattle.scope_analysis.specs.declared.name_use.Use.{Use}
-use Rattle.scope_analysis.specs.Names.{has_repeat, maybe_name, code_name, code_formals, code_body, own_name}
+use Rattle.scope_analysis.specs.Names.{has_repeat, code_name, code_formals, code_body, own_name}
 use Rattle.scope_analysis.specs.Nodes.{Node, of_scopes, expression, statement, stmts_any}
 use Rattle.scope_analysis.specs.Identifiers.{identifiers, is_restricted}
 use Rattle.scope_analysis.specs.Jumps.{leaves, strays}

@@ -97,11 +97,14 @@ is_constant_formal formals declared uses x = is_among x formals && (not (is_assi
 abbrev pub is_opened : List (List ℕ) → List (List ℕ) → tree.Stmts → List Use → List ℕ → Bool
 is_opened formals declared body uses x = not (is_among x formals) && (is_once x declared && (opens_with x body && is_assigned_once x uses))
 
--- a variable of a function with these formals, other declared names and this body, whose uses are these: no function
--- inside uses it, or one may
+-- a variable of a function with these formals, other declared names and this body, whose uses are these: a saved page can
+-- rebuild it where a function inside uses it
+abbrev pub can_be_rebuilt : List (List ℕ) → List (List ℕ) → tree.Stmts → List Use → List ℕ → Bool
+can_be_rebuilt formals declared body uses x = is_reserved x && (is_constant_formal formals declared uses x || is_opened formals declared body uses x)
+
+-- no function inside uses such a variable, or one may
 abbrev pub may_be_captured : List (List ℕ) → List (List ℕ) → tree.Stmts → List Use → List ℕ → Bool
-may_be_captured formals declared body uses x =
-    not (is_captured x uses) || (is_reserved x && (is_constant_formal formals declared uses x || is_opened formals declared body uses x))
+may_be_captured formals declared body uses x = not (is_captured x uses) || can_be_rebuilt formals declared body uses x
 
 -- each variable of the function but its own name is one of these, where these are the uses of its body
 abbrev pub are_variables_in_form : tree.Code → List Use → Bool

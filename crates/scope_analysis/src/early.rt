@@ -61,15 +61,19 @@ fn breaks(alloc: Global, rule: EarlyRule, statements: &[Stmt]) -> Result<bool, O
     ensures { IfOk result (λ broken. broken ≡ spec.breaks rule (stmts_of statements.now)) }
 {
     match rule {
-        EarlyRule::RepeatedFormal => Ok(any_in_statements(NodeTest::RepeatsFormal, statements)),
-        EarlyRule::RepeatedField => Ok(any_in_statements(NodeTest::RepeatsField, statements)),
-        EarlyRule::DeletedName => Ok(any_in_statements(NodeTest::DeletesName, statements)),
-        EarlyRule::RestrictedName => Ok(any_in_statements(NodeTest::HasRestrictedName, statements)),
+        EarlyRule::RepeatedFormal => any_in_statements(alloc, NodeTest::RepeatsFormal, statements),
+        EarlyRule::RepeatedField => any_in_statements(alloc, NodeTest::RepeatsField, statements),
+        EarlyRule::DeletedName => any_in_statements(alloc, NodeTest::DeletesName, statements),
+        EarlyRule::RestrictedName => any_in_statements(
+            alloc,
+            NodeTest::HasRestrictedName,
+            statements,
+        ),
         EarlyRule::StrayReturn => Ok(leaves(Jump::Return, statements)),
         EarlyRule::StrayJump => {
-            Ok(strays(statements) || any_in_statements(NodeTest::HasStrayJump, statements))
+            Ok(strays(statements) || any_in_statements(alloc, NodeTest::HasStrayJump, statements)?)
         }
-        EarlyRule::BadTarget => Ok(any_in_statements(NodeTest::HasBadTarget, statements)),
+        EarlyRule::BadTarget => any_in_statements(alloc, NodeTest::HasBadTarget, statements),
         EarlyRule::AssignedOwnName => assigns_own_name(alloc, statements),
         EarlyRule::RedeclaredGlobal => Ok(redeclares_global(statements)),
     }

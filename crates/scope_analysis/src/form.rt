@@ -28,20 +28,20 @@ pub fn in_form(alloc: Global, script: &Script) -> Result<bool, OutOfMemory>
 }
 
 /// Whether the script has an identifier that begins with `$$`: a reference, a variable, a function's name, a formal or a
-/// catch parameter. Names of properties are none. No memory.
-pub fn has_reserved_name(script: &Script) -> bool
-    ensures { result ≡ spec.has_reserved_name script.now }
+/// catch parameter. Names of properties are none.
+pub fn has_reserved_name(alloc: Global, script: &Script) -> Result<bool, OutOfMemory>
+    ensures { IfOk result (λ found. found ≡ spec.has_reserved_name script.now) }
 {
-    any_in_script(NodeTest::HasReservedName, script)
+    any_in_script(alloc, NodeTest::HasReservedName, script)
 }
 
 /// Whether the script has a function that is no factory and that has, as an expression, a height of more than 400. A
 /// factory is a function expression without a name that is called where it stands, whose formals all begin with `$$` and
-/// whose body is one `return` of a function expression. No memory.
-pub fn has_high_function(script: &Script) -> bool
-    ensures { result ≡ spec.has_high_function script.now }
+/// whose body is one `return` of a function expression.
+pub fn has_high_function(alloc: Global, script: &Script) -> Result<bool, OutOfMemory>
+    ensures { IfOk result (λ found. found ≡ spec.has_high_function script.now) }
 {
-    any_in_script(NodeTest::IsHighFunction, script)
+    any_in_script(alloc, NodeTest::IsHighFunction, script)
 }
 
 fn are_in_form(alloc: Global, statements: &[Stmt]) -> Result<bool, OutOfMemory>
@@ -52,7 +52,7 @@ fn are_in_form(alloc: Global, statements: &[Stmt]) -> Result<bool, OutOfMemory>
     let mut declared = Vec::new(alloc);
     push_declared_names(statements, &mut declared)?;
     let is_open = any_use_is_reserved(uses.as_slice()) || any_is_reserved(declared.as_slice());
-    let is_inner = has_inner_declaration(statements);
+    let is_inner = has_inner_declaration(alloc, statements)?;
     Ok(!is_open && !is_inner && !is_out)
 }
 
@@ -68,25 +68,25 @@ fn any_is_reserved(names: &[Units]) -> bool
     names.iter().any(|name| is_reserved(name))
 }
 
-fn has_inner_declaration(statements: &[Stmt]) -> bool
-    ensures { result ≡ spec.has_inner_declaration (stmts_of statements.now) }
+fn has_inner_declaration(alloc: Global, statements: &[Stmt]) -> Result<bool, OutOfMemory>
+    ensures { IfOk result (λ found. found ≡ spec.has_inner_declaration (stmts_of statements.now)) }
 {
     let mut rest = statements;
     while let [statement, after @ ..] = rest {
-        if declares_inside(statement) {
-            return true;
+        if declares_inside(alloc, statement)? {
+            return Ok(true);
         }
         rest = after;
     }
-    false
+    Ok(false)
 }
 
-fn declares_inside(statement: &Stmt) -> bool
-    ensures { result ≡ spec.declares_inside statement.now }
+fn declares_inside(alloc: Global, statement: &Stmt) -> Result<bool, OutOfMemory>
+    ensures { IfOk result (λ found. found ≡ spec.declares_inside statement.now) }
 {
     match &statement.node {
-        StmtNode::Function(code) => any_in_code(NodeTest::IsDeclaration, code),
-        _ => any_in_statement(NodeTest::IsDeclaration, statement),
+        StmtNode::Function(code) => any_in_code(alloc, NodeTest::IsDeclaration, code),
+        _ => any_in_statement(alloc, NodeTest::IsDeclaration, statement),
     }
 }
 
@@ -135,15 +135,15 @@ mod tests {
         let names = [("$$", true), ("$$x", true), ("$x", false), ("x$$", false)];
         for (text, reserved) in names {
             let thrown = script(a, StmtNode::Throw(name(a, text)?))?;
-            assert_eq!(rt; has_reserved_name(&thrown), reserved, "{text}");
+            assert_eq!(rt; has_reserved_name(a, &thrown)?, reserved, "{text}");
             let own = function(a, text, &["x"], StmtNode::Empty)?;
             assert_eq!(rt;
-                has_reserved_name(&script(a, StmtNode::Expr(own))?),
+                has_reserved_name(a, &script(a, StmtNode::Expr(own))?)?,
                 reserved
             );
             let formal = function(a, "", &["x", text], StmtNode::Empty)?;
             assert_eq!(rt;
-                has_reserved_name(&script(a, StmtNode::Expr(formal))?),
+                has_reserved_name(a, &script(a, StmtNode::Expr(formal))?)?,
                 reserved
             );
         }

@@ -7,6 +7,7 @@ pub mod form;
 mod identifiers;
 pub mod jump;
 pub mod jumps;
+pub mod name_table;
 pub mod name_test;
 pub mod name_use;
 pub mod names;

@@ -2,14 +2,16 @@
 //!
 //! What is nested is recursed into, which is bounded by the height of trees. A list is gone over in a loop.
 
-ghost use Rattle.std.specs.Prelude.{◌≡◌, ◌++◌, OnOk, option_map};
+ghost use Rattle.std.specs.Prelude.{◌≡◌, ◌++◌, IfOk, OnOk, option_map};
 ghost use Rattle.js_core.specs.Tree.{stmts_of, maybe_stmts};
 ghost use Rattle.js_core.specs.Views.{declarators_of, init_of, catch_of, cases_of};
 ghost use Rattle.scope_analysis.specs.Names as spec;
 
+use indexmap::IndexSet;
 use js_core::memory::OutOfMemory;
 use js_core::syntax::{Case, Catch, Code, Declarator, Expr, ExprNode, ForInit, Stmt, StmtNode};
 use js_core::units::Units;
+use std::alloc::Global;
 
 /// Whether the name is one of these.
 pub fn is_among(name: &Units, names: &[Units]) -> bool
@@ -19,17 +21,19 @@ pub fn is_among(name: &Units, names: &[Units]) -> bool
 }
 
 /// Whether a name stands twice among these.
-pub fn has_repeat(names: &[Units]) -> bool
-    ensures { result ≡ spec.has_repeat names.now }
+#[tactic(auto, using(crate::proofs::Repeats::repeats_once_more))]
+pub fn has_repeat(alloc: Global, names: &[Units]) -> Result<bool, OutOfMemory>
+    ensures { IfOk result (λ found. found ≡ spec.has_repeat names.now) }
 {
+    let mut seen = IndexSet::new(alloc);
     let mut rest = names;
     while let [name, after @ ..] = rest {
-        if is_among(name, after) {
-            return true;
+        if !seen.insert(name.clone()?)? {
+            return Ok(true);
         }
         rest = after;
     }
-    false
+    Ok(false)
 }
 
 /// Appends the names that the variable statements and function declarations among these statements of a function
@@ -125,7 +129,8 @@ fn push_case_names(cases: &[Case], out: &mut Vec<Units>) -> Result<(), OutOfMemo
     Ok(())
 }
 
-fn push_name(name: &Units, out: &mut Vec<Units>) -> Result<(), OutOfMemory>
+/// Appends the name.
+pub fn push_name(name: &Units, out: &mut Vec<Units>) -> Result<(), OutOfMemory>
     ensures { OnOk result (out.new.items ≡ out.old.items ++ spec.maybe_name (Some name.now)) }
 {
     out.push(name.clone()?)?;

@@ -1,59 +1,69 @@
 //! How the nodes of a tree do in their tests. The parts of a node are not looked at, but for the statements of a function
 //! that jump.
 
-ghost use Rattle.std.specs.Prelude.{◌≡◌, false, ◌&&◌, nat_lt, ◌+◌};
+ghost use Rattle.std.specs.Prelude.{◌≡◌, false, ◌&&◌, ◌++◌, nat_lt, ◌+◌, IfOk, OnOk};
 ghost use Rattle.std.specs.List.{list_all};
 ghost use Rattle.js_core.specs.Height.{code_height};
 ghost use Rattle.js_core.specs.Tree.{fields_of, stmts_of};
 ghost use Rattle.scope_analysis.specs.EarlyRules as rules;
 ghost use Rattle.scope_analysis.specs.Form as form;
 ghost use Rattle.scope_analysis.specs.Identifiers.{is_reserved};
-ghost use Rattle.scope_analysis.specs.Names.{is_among};
 ghost use Rattle.scope_analysis.specs.Nodes as nodes;
 ghost use Rattle.scope_analysis.specs.NodeTests.{passes};
 
 use crate::identifiers::{expression_fits, fits, statement_fits};
 use crate::jumps::strays;
 use crate::name_test::{NameTest, is_reserved};
-use crate::names::has_repeat;
+use crate::names::{has_repeat, push_name};
 use crate::node_test::NodeTest;
+use js_core::memory::OutOfMemory;
 use js_core::operators::UnaryOp;
 use js_core::syntax::{Catch, Code, Expr, ExprNode, Stmt, StmtNode};
 use js_core::units::Units;
+use std::alloc::Global;
 
 /// The greatest height, as an expression, of a function in a form page that is no factory.
 const FUNCTION_LIMIT: u64 = 400;
 
 /// Whether the expression passes the test.
-pub fn expression_passes(test: NodeTest, is_callee: bool, expression: &Expr) -> bool
-    ensures { result ≡ passes test (nodes.expression is_callee expression.now) }
+pub fn expression_passes(
+    alloc: Global,
+    test: NodeTest,
+    is_callee: bool,
+    expression: &Expr,
+) -> Result<bool, OutOfMemory>
+    ensures { IfOk result (λ found. found ≡ passes test (nodes.expression is_callee expression.now)) }
 {
     match test {
-        NodeTest::RepeatsFormal => has_repeated_formal(expression),
-        NodeTest::RepeatsField => has_repeated_field(expression),
-        NodeTest::DeletesName => deletes_name(expression),
-        NodeTest::HasRestrictedName => expression_fits(NameTest::IsRestricted, expression),
-        NodeTest::HasStrayJump => has_stray_jump(expression),
-        NodeTest::HasBadTarget => assigns_badly(expression),
-        NodeTest::IsDeclaration => false,
-        NodeTest::HasReservedName => expression_fits(NameTest::IsReserved, expression),
-        NodeTest::IsHighFunction => is_high_function(is_callee, expression),
+        NodeTest::RepeatsFormal => has_repeated_formal(alloc, expression),
+        NodeTest::RepeatsField => has_repeated_field(alloc, expression),
+        NodeTest::DeletesName => Ok(deletes_name(expression)),
+        NodeTest::HasRestrictedName => Ok(expression_fits(NameTest::IsRestricted, expression)),
+        NodeTest::HasStrayJump => Ok(has_stray_jump(expression)),
+        NodeTest::HasBadTarget => Ok(assigns_badly(expression)),
+        NodeTest::IsDeclaration => Ok(false),
+        NodeTest::HasReservedName => Ok(expression_fits(NameTest::IsReserved, expression)),
+        NodeTest::IsHighFunction => Ok(is_high_function(is_callee, expression)),
     }
 }
 
 /// Whether the statement passes the test.
-pub fn statement_passes(test: NodeTest, statement: &Stmt) -> bool
-    ensures { result ≡ passes test (nodes.statement statement.now) }
+pub fn statement_passes(
+    alloc: Global,
+    test: NodeTest,
+    statement: &Stmt,
+) -> Result<bool, OutOfMemory>
+    ensures { IfOk result (λ found. found ≡ passes test (nodes.statement statement.now)) }
 {
     match test {
-        NodeTest::RepeatsFormal => declares_repeated_formal(statement),
-        NodeTest::RepeatsField | NodeTest::DeletesName => false,
-        NodeTest::HasRestrictedName => statement_fits(NameTest::IsRestricted, statement),
-        NodeTest::HasStrayJump => declares_stray_jump(statement),
-        NodeTest::HasBadTarget => has_bad_target(statement),
-        NodeTest::IsDeclaration => is_declaration(statement),
-        NodeTest::HasReservedName => statement_fits(NameTest::IsReserved, statement),
-        NodeTest::IsHighFunction => declares_high_function(statement),
+        NodeTest::RepeatsFormal => declares_repeated_formal(alloc, statement),
+        NodeTest::RepeatsField | NodeTest::DeletesName => Ok(false),
+        NodeTest::HasRestrictedName => Ok(statement_fits(NameTest::IsRestricted, statement)),
+        NodeTest::HasStrayJump => Ok(declares_stray_jump(statement)),
+        NodeTest::HasBadTarget => Ok(has_bad_target(statement)),
+        NodeTest::IsDeclaration => Ok(is_declaration(statement)),
+        NodeTest::HasReservedName => Ok(statement_fits(NameTest::IsReserved, statement)),
+        NodeTest::IsHighFunction => Ok(declares_high_function(statement)),
     }
 }
 
@@ -74,21 +84,21 @@ pub fn clause_passes(test: NodeTest, clause: &Catch) -> bool
     }
 }
 
-fn has_repeated_formal(expression: &Expr) -> bool
-    ensures { result ≡ rules.repeats_formal (nodes.expression false expression.now) }
+fn has_repeated_formal(alloc: Global, expression: &Expr) -> Result<bool, OutOfMemory>
+    ensures { IfOk result (λ found. found ≡ rules.repeats_formal (nodes.expression false expression.now)) }
 {
     match &expression.node {
-        ExprNode::Func(code) => has_repeat(code.formals.as_slice()),
-        _ => false,
+        ExprNode::Func(code) => has_repeat(alloc, code.formals.as_slice()),
+        _ => Ok(false),
     }
 }
 
-fn declares_repeated_formal(statement: &Stmt) -> bool
-    ensures { result ≡ rules.repeats_formal (nodes.statement statement.now) }
+fn declares_repeated_formal(alloc: Global, statement: &Stmt) -> Result<bool, OutOfMemory>
+    ensures { IfOk result (λ found. found ≡ rules.repeats_formal (nodes.statement statement.now)) }
 {
     match &statement.node {
-        StmtNode::Function(code) => has_repeat(code.formals.as_slice()),
-        _ => false,
+        StmtNode::Function(code) => has_repeat(alloc, code.formals.as_slice()),
+        _ => Ok(false),
     }
 }
 
@@ -110,39 +120,32 @@ fn declares_stray_jump(statement: &Stmt) -> bool
     }
 }
 
-fn has_repeated_field(expression: &Expr) -> bool
-    ensures { result ≡ rules.repeats_field (nodes.expression false expression.now) }
+fn has_repeated_field(alloc: Global, expression: &Expr) -> Result<bool, OutOfMemory>
+    ensures { IfOk result (λ found. found ≡ rules.repeats_field (nodes.expression false expression.now)) }
 {
     match &expression.node {
-        ExprNode::Literal(fields) => repeats_name(fields.as_slice()),
-        _ => false,
+        ExprNode::Literal(fields) => repeats_name(alloc, fields.as_slice()),
+        _ => Ok(false),
     }
 }
 
-fn repeats_name(fields: &[(Units, Expr)]) -> bool
-    ensures { result ≡ rules.repeats_name (fields_of fields.now) }
+fn repeats_name(alloc: Global, fields: &[(Units, Expr)]) -> Result<bool, OutOfMemory>
+    ensures { IfOk result (λ found. found ≡ rules.repeats_name (fields_of fields.now)) }
+{
+    let mut names = Vec::new(alloc);
+    push_field_names(fields, &mut names)?;
+    has_repeat(alloc, names.as_slice())
+}
+
+fn push_field_names(fields: &[(Units, Expr)], out: &mut Vec<Units>) -> Result<(), OutOfMemory>
+    ensures { OnOk result (out.new.items ≡ out.old.items ++ rules.field_names (fields_of fields.now)) }
 {
     let mut rest = fields;
     while let [(name, _), after @ ..] = rest {
-        if has_field(name, after) {
-            return true;
-        }
+        push_name(name, out)?;
         rest = after;
     }
-    false
-}
-
-fn has_field(name: &Units, fields: &[(Units, Expr)]) -> bool
-    ensures { result ≡ is_among name.now (rules.field_names (fields_of fields.now)) }
-{
-    let mut rest = fields;
-    while let [(other, _), after @ ..] = rest {
-        if *name == *other {
-            return true;
-        }
-        rest = after;
-    }
-    false
+    Ok(())
 }
 
 fn deletes_name(expression: &Expr) -> bool

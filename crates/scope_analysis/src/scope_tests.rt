@@ -1,7 +1,6 @@
 //! How functions and catch clauses do in their tests, by the uses inside.
 
-ghost use Rattle.std.specs.Prelude.{◌≡◌};
-ghost use Rattle.std.specs.List.{list_all};
+ghost use Rattle.std.specs.Prelude.{◌≡◌, IfOk};
 ghost use Rattle.js_core.specs.Tree.{fields_of, stmts_of, maybe_expr};
 ghost use Rattle.js_core.specs.Views.{declarators_of};
 ghost use Rattle.scope_analysis.specs.EarlyRules as rules;
@@ -10,54 +9,59 @@ ghost use Rattle.scope_analysis.specs.Names as names;
 ghost use Rattle.scope_analysis.specs.ScopeTests.{expression_scope, declaration_scope, clause_scope};
 ghost use Rattle.scope_analysis.specs.Uses.{stmts_uses};
 
+use crate::name_table::captured_table;
 use crate::name_test::is_reserved;
 use crate::name_use::Use;
 use crate::names::is_among;
 use crate::scope_test::ScopeTest;
 use crate::use_lists::{is_assigned, is_assigned_once, is_captured};
+use js_core::memory::OutOfMemory;
 use js_core::operators::UnaryOp;
 use js_core::syntax::{Catch, Code, Declarator, Expr, ExprNode, Stmt, StmtNode};
 use js_core::units::Units;
+use std::alloc::Global;
 
 /// Whether a function expression passes the test, by the names that its body declares, all names that it binds, and the
 /// uses of its body.
 pub fn expression_scope_passes(
+    alloc: Global,
     test: ScopeTest,
     code: &Code,
     declared: &[Units],
     bound: &[Units],
     uses: &[Use],
-) -> bool
+) -> Result<bool, OutOfMemory>
     requires declared { declared.now ≡ names.declared_names (names.code_body code.now) }
     requires bound { bound.now ≡ names.bound_names code.now }
     requires uses { uses.now ≡ stmts_uses (names.code_body code.now) }
-    ensures { result ≡ expression_scope test code.now }
+    ensures { IfOk result (λ found. found ≡ expression_scope test code.now) }
 {
     match test {
-        ScopeTest::AssignsOwnName => assigns_own(&code.name, bound, uses),
+        ScopeTest::AssignsOwnName => Ok(assigns_own(&code.name, bound, uses)),
         ScopeTest::IsOutOfForm => {
-            !(are_variables_in_form(code, declared, bound, uses)
-                && is_own_free(&code.name, bound, uses))
+            let good = are_variables_in_form(alloc, code, declared, bound, uses)?;
+            Ok(!(good && is_own_free(&code.name, bound, uses)))
         }
     }
 }
 
 /// Whether a function declaration does.
 pub fn declaration_scope_passes(
+    alloc: Global,
     test: ScopeTest,
     code: &Code,
     declared: &[Units],
     bound: &[Units],
     uses: &[Use],
-) -> bool
+) -> Result<bool, OutOfMemory>
     requires declared { declared.now ≡ names.declared_names (names.code_body code.now) }
     requires bound { bound.now ≡ names.bound_names code.now }
     requires uses { uses.now ≡ stmts_uses (names.code_body code.now) }
-    ensures { result ≡ declaration_scope test code.now }
+    ensures { IfOk result (λ found. found ≡ declaration_scope test code.now) }
 {
     match test {
-        ScopeTest::AssignsOwnName => false,
-        ScopeTest::IsOutOfForm => !are_variables_in_form(code, declared, bound, uses),
+        ScopeTest::AssignsOwnName => Ok(false),
+        ScopeTest::IsOutOfForm => Ok(!are_variables_in_form(alloc, code, declared, bound, uses)?),
     }
 }
 
@@ -92,44 +96,39 @@ fn is_own_free(own: &Option<Units>, bound: &[Units], uses: &[Use]) -> bool
     }
 }
 
-fn are_variables_in_form(code: &Code, declared: &[Units], bound: &[Units], uses: &[Use]) -> bool
+fn are_variables_in_form(
+    alloc: Global,
+    code: &Code,
+    declared: &[Units],
+    bound: &[Units],
+    uses: &[Use],
+) -> Result<bool, OutOfMemory>
     requires declared { declared.now ≡ names.declared_names (names.code_body code.now) }
     requires bound { bound.now ≡ names.bound_names code.now }
-    ensures { result ≡ spec.are_variables_in_form code.now uses.now }
+    ensures { IfOk result (λ good. good ≡ spec.are_variables_in_form code.now uses.now) }
 {
-    are_names_in_form(
-        code.formals.as_slice(),
-        declared,
-        code.body.as_slice(),
-        uses,
-        bound,
-    )
+    let captured = captured_table(alloc, uses)?;
+    let formals = code.formals.as_slice();
+    let body = code.body.as_slice();
+    let mut rest = bound;
+    while let [name, after @ ..] = rest {
+        if captured.contains(name) && !can_be_rebuilt(formals, declared, body, uses, name) {
+            return Ok(false);
+        }
+        rest = after;
+    }
+    Ok(true)
 }
 
-fn are_names_in_form(
-    formals: &[Units],
-    declared: &[Units],
-    body: &[Stmt],
-    uses: &[Use],
-    bound: &[Units],
-) -> bool
-    ensures { result ≡ list_all (spec.may_be_captured formals.now declared.now (stmts_of body.now) uses.now) bound.now }
-{
-    bound.iter().all(|name| may_be_captured(formals, declared, body, uses, name))
-}
-
-fn may_be_captured(
+fn can_be_rebuilt(
     formals: &[Units],
     declared: &[Units],
     body: &[Stmt],
     uses: &[Use],
     name: &Units,
 ) -> bool
-    ensures { result ≡ spec.may_be_captured formals.now declared.now (stmts_of body.now) uses.now name.now }
+    ensures { result ≡ spec.can_be_rebuilt formals.now declared.now (stmts_of body.now) uses.now name.now }
 {
-    if !is_captured(name, uses) {
-        return true;
-    }
     is_reserved(name)
         && (is_constant_formal(formals, declared, uses, name)
             || is_opened(formals, declared, body, uses, name))

@@ -1,13 +1,13 @@
 //! Lists of uses: what is appended to them, and what is asked of them.
 
 ghost use Rattle.std.specs.Prelude.{◌≡◌, [], ◌∷◌, ◌++◌, OnOk};
-ghost use Rattle.scope_analysis.specs.Form.{is_assigned_once, is_not_captured};
-ghost use Rattle.scope_analysis.specs.EarlyRules.{assigns_maybe};
-ghost use Rattle.scope_analysis.specs.Names.{is_among, maybe_name};
+ghost use Rattle.scope_analysis.specs.Form.{is_assigned_once};
+ghost use Rattle.scope_analysis.specs.Names.{maybe_name};
 ghost use Rattle.scope_analysis.specs.Uses as spec;
 
+use crate::name_table::name_table;
 use crate::name_use::Use;
-use crate::names::is_among;
+use crate::names::{push_maybe_name, push_names};
 use js_core::memory::OutOfMemory;
 use js_core::units::Units;
 
@@ -45,16 +45,6 @@ fn push_same(inner: &Use, out: &mut Vec<Use>) -> Result<(), OutOfMemory>
     Ok(())
 }
 
-/// Whether the name is the one that may be there, or one of these.
-fn is_bound(name: &Units, own: &Option<Units>, bound: &[Units]) -> bool
-    ensures { result ≡ is_among name.now (maybe_name own.now ++ bound.now) }
-{
-    match own {
-        None => is_among(name, bound),
-        Some(own) => *name == *own || is_among(name, bound),
-    }
-}
-
 /// Appends, of the uses of a function's body, those that the function leaves to the scopes round it, where these are the
 /// own name that it may have and the other names that it binds.
 pub fn push_leaving_function(
@@ -65,9 +55,13 @@ pub fn push_leaving_function(
 ) -> Result<(), OutOfMemory>
     ensures { OnOk result (out.new.items ≡ out.old.items ++ spec.leaving_function (maybe_name own.now ++ bound.now) uses.now) }
 {
+    let mut names = Vec::new(*out.allocator());
+    push_maybe_name(own, &mut names)?;
+    push_names(bound, &mut names)?;
+    let table = name_table(*out.allocator(), names.as_slice())?;
     let mut rest = uses;
     while let [inner, after @ ..] = rest {
-        if !is_bound(&inner.name, own, bound) {
+        if !table.contains(&inner.name) {
             push_crossing(inner, out)?;
         }
         rest = after;

@@ -1,9 +1,9 @@
 //! The uses of names in a tree, and whether a function or a catch clause in it passes a test.
 //!
 //! What is nested is recursed into, which is bounded by the height of trees. A list is gone over in a loop. The uses of a
-//! body are found once, and each is copied, with a shared name, into each scope round it that it is left to. So a use
-//! costs as much as there are functions and catch clauses round it, each by the number of names that it binds. Each is at
-//! least one level high, so that at most 440 stand round a use in a script of height 440, and the whole is linear in the
+//! body are found once, and each is copied, with a shared name, into each scope round it that it is left to. The names that
+//! a function binds are found by a table, so a use costs as much as there are functions and catch clauses round it. Each is
+//! at least one level high, so that at most 440 stand round a use in a script of height 440, and the whole is linear in the
 //! number of uses.
 //!
 //! Each function appends the uses of a piece and answers whether a node of the piece passes the test.
@@ -12,9 +12,8 @@ ghost use Rattle.std.specs.Prelude.{◌≡◌, ◌||◌, ◌++◌, false, OnOk, 
 ghost use Rattle.js_core.specs.Tree.{exprs_of, maybe_expr, holes_of, fields_of, stmts_of, maybe_stmts};
 ghost use Rattle.js_core.specs.Tree as tree;
 ghost use Rattle.js_core.specs.Views.{declarators_of, init_of, catch_of, cases_of};
-ghost use Rattle.scope_analysis.specs.Names as names;
 ghost use Rattle.scope_analysis.specs.Nodes as nodes;
-ghost use Rattle.scope_analysis.specs.ScopeTests.{scope_passes, expression_scope, declaration_scope, clause_scope};
+ghost use Rattle.scope_analysis.specs.ScopeTests.{scope_passes, clause_scope};
 ghost use Rattle.scope_analysis.specs.Uses as spec;
 
 use crate::name_use::Use;
@@ -298,12 +297,13 @@ fn push_declaration_uses(
     push_names(code.formals.as_slice(), &mut bound)?;
     push_names(declared.as_slice(), &mut bound)?;
     let here = declaration_scope_passes(
+        *out.allocator(),
         test,
         code,
         declared.as_slice(),
         bound.as_slice(),
         uses.as_slice(),
-    );
+    )?;
     push_leaving_function(&None, bound.as_slice(), uses.as_slice(), out)?;
     Ok(here || inside)
 }
@@ -321,12 +321,13 @@ fn push_function_uses(test: ScopeTest, code: &Code, out: &mut Vec<Use>) -> Resul
     push_names(code.formals.as_slice(), &mut bound)?;
     push_names(declared.as_slice(), &mut bound)?;
     let here = expression_scope_passes(
+        *out.allocator(),
         test,
         code,
         declared.as_slice(),
         bound.as_slice(),
         uses.as_slice(),
-    );
+    )?;
     push_leaving_function(&code.name, bound.as_slice(), uses.as_slice(), out)?;
     Ok(here || inside)
 }

@@ -1,0 +1,95 @@
+-- Names of a list in which none stands twice, and one more behind them; and what a table says of names.
+use Rattle.std.proofs.Common.{◌≡◌, ◌≤◌, ◌-◌, ℕ, Bool, true, false, not, List, [], ◌∷◌, ◌++◌, ◌||◌, length, get_or, take, drop, refl, arith, bytes_eq}
+use Rattle.std.proofs.lemmas.Grind.{common_steps}
+use Rattle.std.proofs.lemmas.Slice.Eq.{bytes_eq-Decides}
+use Rattle.std.proofs.lemmas.List.Folds.{list_any-append}
+use Rattle.indexmap.specs.IndexSet.{insert_key}
+use Rattle.scope_analysis.specs.Names.{is_among, has_repeat}
+
+or_right : (a b : Bool) → b ≡ true → (a || b) ≡ true
+or_right true b e = refl
+or_right false b e = e
+
+left_false : (a b : Bool) → (a || b) ≡ false → a ≡ false
+left_false true b e = absurd (cc)
+left_false false b e = refl
+
+right_false : (a b : Bool) → (a || b) ≡ false → b ≡ false
+right_false true b e = absurd (cc)
+right_false false b e = e
+
+or_false : (b : Bool) → b ≡ (b || false)
+or_false true = refl
+or_false false = refl
+
+same_name : (x : List ℕ) → bytes_eq x x ≡ true
+same_name x = (bytes_eq-Decides x x).1 refl
+
+other_name : (x k : List ℕ) → bytes_eq x k ≡ false → bytes_eq k x ≡ false
+other_name x k e = by_case (bytes_eq k x) refl
+  where
+    by_case : (b : Bool) → bytes_eq k x ≡ b → bytes_eq k x ≡ false
+    by_case true p =
+        let found : true ≡ false = rw (← e, (bytes_eq-Decides k x).0 p, same_name x) refl in
+        absurd (cc)
+    by_case false p = p
+
+stands_there : (x : List ℕ) (ks xs : List (List ℕ)) → is_among x (ks ++ x ∷ xs) ≡ true
+stands_there x [] xs = rw (same_name x) refl
+stands_there x (k ∷ ks) xs = or_right (bytes_eq x k) (is_among x (ks ++ x ∷ xs)) (stands_there x ks xs)
+
+-- a name that stands there already
+pub repeats_once_more : (ks : List (List ℕ)) (x : List ℕ) (xs : List (List ℕ)) → is_among x ks ≡ true → has_repeat (ks ++ x ∷ xs) ≡ true
+repeats_once_more [] x xs e = absurd (cc)
+repeats_once_more (k ∷ ks) x xs e = by_case (bytes_eq x k) refl (repeats_once_more ks x xs)
+  where
+    by_case : (b : Bool) → bytes_eq x k ≡ b → (is_among x ks ≡ true → has_repeat (ks ++ x ∷ xs) ≡ true) → has_repeat (k ∷ (ks ++ x ∷ xs)) ≡ true
+    by_case true p more = rw ((bytes_eq-Decides x k).0 p, stands_there k ks xs) refl
+    by_case false p more = or_right (is_among k (ks ++ x ∷ xs)) (has_repeat (ks ++ x ∷ xs)) (more (rw p at e))
+
+-- a name that does not
+pub stays_apart : (ks : List (List ℕ)) (x : List ℕ) → has_repeat ks ≡ false → is_among x ks ≡ false → has_repeat (ks ++ x ∷ []) ≡ false
+stays_apart [] x apart free = refl
+stays_apart (k ∷ ks) x apart free =
+    let here = other_name x k (left_false (bytes_eq x k) (is_among x ks) free) in
+    let before = left_false (is_among k ks) (has_repeat ks) apart in
+    let after = stays_apart ks x (right_false (is_among k ks) (has_repeat ks) apart) (right_false (bytes_eq x k) (is_among x ks) free) in
+    rw (list_any-append (bytes_eq k) ks (x ∷ []), before, here, after) refl
+
+-- what a set that takes a name says of it
+pub is_free : (ks : List (List ℕ)) (x : List ℕ) (new : Bool) → new ≡ not (is_among x ks) → new ≡ true → is_among x ks ≡ false
+is_free ks x new added e = by_case (is_among x ks) refl
+  where
+    by_case : (b : Bool) → is_among x ks ≡ b → is_among x ks ≡ false
+    by_case true p =
+        let none : true ≡ false = rw (← e, added, p) refl in
+        absurd (cc)
+    by_case false p = p
+
+stays_among : (x v : List ℕ) (ks : List (List ℕ)) → is_among v ks ≡ true → is_among x ks ≡ (is_among x ks || (bytes_eq x v || false))
+stays_among x v ks e = by_case (bytes_eq x v) refl
+  where
+    by_case : (b : Bool) → bytes_eq x v ≡ b → is_among x ks ≡ (is_among x ks || (bytes_eq x v || false))
+    by_case true p = rw ((bytes_eq-Decides x v).0 p, e) refl
+    by_case false p = rw (p) (or_false (is_among x ks))
+
+-- a name that is put into a table
+pub among_inserted : (ks : List (List ℕ)) (v x : List ℕ) → is_among x (insert_key bytes_eq ks v) ≡ (is_among x ks || (bytes_eq x v || false))
+among_inserted ks v x = by_case (is_among v ks) refl
+  where
+    by_case : (b : Bool) → is_among v ks ≡ b → is_among x (insert_key bytes_eq ks v) ≡ (is_among x ks || (bytes_eq x v || false))
+    by_case true p = rw (p) (stays_among x v ks p)
+    by_case false p = rw (p) (list_any-append (bytes_eq x) ks (v ∷ []))
+
+or_moved : (a b c : Bool) → ((a || (b || false)) || c) ≡ (a || (b || c))
+or_moved true b c = refl
+or_moved false true c = refl
+or_moved false false c = refl
+
+-- the next name of a list is put into a table
+pub next_among : (x v : List ℕ) (ks new rest : List (List ℕ)) (whole : Bool) → 1 ≤ length rest → v ≡ get_or rest 0 v → new ≡ insert_key bytes_eq ks v → (is_among x ks || is_among x rest) ≡ whole → (is_among x new || is_among x (take (length rest - 1) (drop 1 rest))) ≡ whole
+next_among x v ks new [] whole h is put left = absurd (omega arith)
+next_among x v ks new (y ∷ ys) whole h is put left =
+    let here : is_among x new ≡ (is_among x ks || (bytes_eq x y || false)) = rw (put, among_inserted ks v x, is) refl in
+    let moved = or_moved (is_among x ks) (bytes_eq x y) (is_among x ys) in
+    rw (here) (grind (arith, common_steps, moved))
