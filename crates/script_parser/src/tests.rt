@@ -33,10 +33,15 @@ fn printed(rt: &impl AllocGlobal, text: &str) -> Result<Vec<u8>, Fail> {
     Ok(out)
 }
 
+/// The tree of each text is printed so, and what is printed is read as the same tree again.
 fn reads(rt: &(impl Abort + AllocGlobal), cases: &[(&str, &str)]) -> Result<(), Fail> {
     for (text, expected) in cases {
         let found = printed(rt, *text)?;
         assert_eq!(rt; found.as_slice(), expected.as_bytes(), "{text}");
+        if *expected != REFUSED {
+            let again = printed(rt, *expected)?;
+            assert_eq!(rt; again.as_slice(), expected.as_bytes(), "{expected}");
+        }
     }
     Ok(())
 }
