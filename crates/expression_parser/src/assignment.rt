@@ -1,6 +1,6 @@
 //! Conditional expressions, assignments and commas (ECMA-262 5.1 sections 11.12 to 11.14).
 
-ghost use Rattle.std.specs.Prelude.{◌≡◌, true};
+ghost use Rattle.std.specs.Prelude.{true};
 ghost use Rattle.js_grammar.specs.ExpressionReader as reader;
 ghost use Rattle.js_grammar.specs.Parser.{separated};
 ghost use Rattle.expression_parser.specs.Inside.{Nests, Joins, limit, expression_in, body_in};

@@ -1,6 +1,6 @@
 //! Binary expressions (ECMA-262 5.1 sections 11.5 to 11.11), by how tightly their operators bind.
 
-ghost use Rattle.std.specs.Prelude.{◌≡◌, ◌<◌};
+ghost use Rattle.std.specs.Prelude.{◌<◌};
 ghost use Rattle.js_grammar.specs.ExpressionReader as reader;
 ghost use Rattle.expression_parser.specs.Inside.{Nests, limit, expression_in, body_in};
 ghost use Rattle.expression_parser.specs.Reads.{Reads};

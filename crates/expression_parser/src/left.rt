@@ -1,6 +1,5 @@
 //! Left-hand sides (ECMA-262 5.1 section 11.2): properties, calls and `new`.
 
-ghost use Rattle.std.specs.Prelude.{◌≡◌};
 ghost use Rattle.js_grammar.specs.ExpressionReader as reader;
 ghost use Rattle.js_grammar.specs.Parser.{and_then};
 ghost use Rattle.expression_parser.specs.Inside.{Nests, limit, expression_in, body_in};

@@ -1,6 +1,6 @@
 //! Lists of items: what repeats.
 
-ghost use Rattle.std.specs.Prelude.{◌≡◌, Bool, List, length};
+ghost use Rattle.std.specs.Prelude.{Bool, List, length};
 ghost use Rattle.js_grammar.specs.Parser as parser;
 ghost use Rattle.js_grammar.specs.Parser.{Parser};
 ghost use Rattle.js_grammar.specs.Symbols.{Lexeme};

@@ -1,6 +1,6 @@
 //! Builders of expressions. Each refuses a tree that is higher than the limit.
 
-ghost use Rattle.std.specs.Prelude.{◌≡◌, [], ◌∷◌};
+ghost use Rattle.std.specs.Prelude.{◌≡◌};
 ghost use Rattle.js_core.specs.Tree as tree;
 ghost use Rattle.js_core.specs.Tree.{exprs_of, holes_of, fields_of, stmts_of, code};
 ghost use Rattle.js_grammar.specs.Operators as operators;

@@ -1,6 +1,6 @@
 //! Primary expressions (ECMA-262 5.1 section 11.1) and function expressions (section 13).
 
-ghost use Rattle.std.specs.Prelude.{◌≡◌, Some};
+ghost use Rattle.std.specs.Prelude.{Some};
 ghost use Rattle.js_grammar.specs.ExpressionReader as reader;
 ghost use Rattle.js_core.specs.declared.token.Punct.TheVariants.{RightBrace, RightBracket};
 ghost use Rattle.js_grammar.specs.Parser.{many};

@@ -1,6 +1,6 @@
 //! Postfix and unary expressions (ECMA-262 5.1 sections 11.3 and 11.4).
 
-ghost use Rattle.std.specs.Prelude.{◌≡◌, true};
+ghost use Rattle.std.specs.Prelude.{true};
 ghost use Rattle.js_grammar.specs.ExpressionReader as reader;
 ghost use Rattle.js_grammar.specs.Parser.{and_then};
 ghost use Rattle.expression_parser.specs.Inside.{Nests, limit, expression_in, body_in};

@@ -1,6 +1,6 @@
 //! Reading the files of a command.
 
-ghost use Rattle.std.specs.Prelude.{◌≡◌, ℕ, List, IfOk, IfErr, IfSome, MatchOption};
+ghost use Rattle.std.specs.Prelude.{◌≡◌, ℕ, List, IfOk, IfErr, MatchOption};
 ghost use Rattle.first_scripts.specs.Items.{IsFirst};
 ghost use Rattle.js_core.specs.Tree as tree;
 ghost use Rattle.page_check.specs.Accept.{IsRefused};

@@ -1,9 +1,7 @@
 //! What the commands do.
 
-ghost use Rattle.std.specs.Prelude.{◌≡◌, IfOk};
-ghost use Rattle.js_core.specs.Line.{lines_text};
+ghost use Rattle.std.specs.Prelude.{IfOk};
 ghost use Rattle.first_scripts.specs.Items.{IsFirst};
-ghost use Rattle.js_machine.specs.Run.{run_of, lines_of_run};
 ghost use Rattle.imagen.specs.Ending.{EndsSession, IsTextOf};
 
 use crate::command::Work;

@@ -1,6 +1,6 @@
 //! The global names and what they hold, and the lines that are put out.
 
-ghost use Rattle.std.specs.Prelude.{◌≡◌, ◌++◌, ◌∷◌, [], IfOk, OnOk};
+ghost use Rattle.std.specs.Prelude.{◌≡◌, ◌++◌, ◌∷◌, [], OnOk};
 ghost use Rattle.js_machine.specs.Globals.{World, held_by, with_name};
 ghost use Rattle.js_machine.specs.Entry.{bind_function, bind_variable};
 

@@ -1,7 +1,6 @@
 //! Sums of numbers, and the text of what a name holds.
 
-ghost use Rattle.std.specs.Prelude.{◌≡◌, ◌+ℤ◌, ◌-ℤ◌, ℤ, IfOk, Some};
-ghost use Rattle.js_core.specs.Whole.{whole_of};
+ghost use Rattle.std.specs.Prelude.{◌≡◌, IfOk, Some};
 ghost use Rattle.js_machine.specs.Numbers as spec;
 
 use crate::cell::Cell;

@@ -5,7 +5,7 @@ ghost use Rattle.std.specs.List.{list_any};
 ghost use Rattle.js_core.specs.Views.{declarators_of, init_of};
 ghost use Rattle.scope_analysis.specs.Identifiers as spec;
 ghost use Rattle.scope_analysis.specs.NameTests.{fits};
-ghost use Rattle.scope_analysis.specs.Names.{declarator_names, init_names, maybe_name};
+ghost use Rattle.scope_analysis.specs.Names.{declarator_names, init_names};
 
 use crate::name_test::{NameTest, is_reserved, is_restricted};
 use js_core::syntax::{Code, Declarator, Expr, ExprNode, ForInit, Stmt, StmtNode};

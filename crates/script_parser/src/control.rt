@@ -1,6 +1,5 @@
 //! Blocks (ECMA-262 5.1 section 12.1) and `if` (section 12.5).
 
-ghost use Rattle.std.specs.Prelude.{◌≡◌};
 ghost use Rattle.js_grammar.specs.StatementReader as reader;
 ghost use Rattle.expression_parser.specs.Inside.{Nests, limit, expression_in, body_in};
 ghost use Rattle.expression_parser.specs.Reads.{Reads};

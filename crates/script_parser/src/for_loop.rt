@@ -1,6 +1,6 @@
 //! `for` (ECMA-262 5.1 sections 12.6.3 and 12.6.4).
 
-ghost use Rattle.std.specs.Prelude.{◌≡◌, true, false};
+ghost use Rattle.std.specs.Prelude.{true, false};
 ghost use Rattle.js_core.specs.Views.{init_of};
 ghost use Rattle.js_grammar.specs.StatementReader as reader;
 ghost use Rattle.expression_parser.specs.Inside.{Nests, limit, expression_in, body_in};

@@ -1,6 +1,5 @@
 //! `continue`, `break`, `return` and `throw` (ECMA-262 5.1 sections 12.7 to 12.9 and 12.13).
 
-ghost use Rattle.std.specs.Prelude.{◌≡◌};
 ghost use Rattle.js_grammar.specs.StatementReader as reader;
 ghost use Rattle.expression_parser.specs.Inside.{Nests, limit, expression_in, body_in};
 ghost use Rattle.expression_parser.specs.Reads.{Reads};

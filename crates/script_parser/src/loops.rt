@@ -1,6 +1,5 @@
 //! `do` and `while` (ECMA-262 5.1 sections 12.6.1 and 12.6.2).
 
-ghost use Rattle.std.specs.Prelude.{◌≡◌};
 ghost use Rattle.js_grammar.specs.StatementReader as reader;
 ghost use Rattle.expression_parser.specs.Inside.{Nests, limit, expression_in, body_in};
 ghost use Rattle.expression_parser.specs.Reads.{Reads};

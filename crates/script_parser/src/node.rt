@@ -2,7 +2,7 @@
 
 ghost use Rattle.std.specs.Prelude.{◌≡◌, ◌≤◌, ◌+◌, option_map};
 ghost use Rattle.js_core.specs.Height as height;
-ghost use Rattle.js_core.specs.Tree.{maybe_expr, stmts_of, maybe_stmts};
+ghost use Rattle.js_core.specs.Tree.{maybe_expr, maybe_stmts};
 ghost use Rattle.js_core.specs.Views.{declarators_of, init_of, catch_of, cases_of, stmt_of};
 ghost use Rattle.js_grammar.specs.StatementReader as reader;
 ghost use Rattle.expression_parser.specs.Inside.{limit};

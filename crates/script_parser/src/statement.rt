@@ -1,6 +1,6 @@
 //! Statements (ECMA-262 5.1 section 12) and source elements (section 14).
 
-ghost use Rattle.std.specs.Prelude.{◌≡◌, Some, false};
+ghost use Rattle.std.specs.Prelude.{◌≡◌, Some};
 ghost use Rattle.js_grammar.specs.declared.sign.Sign.TheVariants.{Word};
 ghost use Rattle.js_grammar.specs.StatementReader as reader;
 ghost use Rattle.expression_parser.specs.Inside.{Nests, limit, expression_in, body_in};

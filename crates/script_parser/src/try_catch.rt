@@ -1,6 +1,5 @@
 //! `try` (ECMA-262 5.1 section 12.14).
 
-ghost use Rattle.std.specs.Prelude.{◌≡◌};
 ghost use Rattle.js_core.specs.Views.{catch_of};
 ghost use Rattle.js_grammar.specs.StatementReader as reader;
 ghost use Rattle.expression_parser.specs.Inside.{Nests, limit, expression_in, body_in};

@@ -1,7 +1,6 @@
 //! Declarations of variables (ECMA-262 5.1 section 12.2), and expression statements (section 12.4).
 
-ghost use Rattle.std.specs.Prelude.{◌≡◌, true};
-ghost use Rattle.js_core.specs.Tree as tree;
+ghost use Rattle.std.specs.Prelude.{true};
 ghost use Rattle.js_grammar.specs.StatementReader as reader;
 ghost use Rattle.expression_parser.specs.Inside.{Nests, limit, expression_in, body_in};
 ghost use Rattle.expression_parser.specs.Reads.{Reads};
