@@ -2,14 +2,8 @@
 # Times the lexer on scripts of 10,000, 100,000 and 1,000,000 units: the best of five runs, the nanoseconds for each unit,
 # and their ratio to the smallest script's, which stays near 1 as the lexer is linear. Beside it stands, for orientation,
 # the best time of `node --check` on the same script, its start included, where there is a node.
-set -e
-top=$(cd "$(dirname "$0")/.." && pwd)
-work=$(mktemp -d)
-trap 'rm -rf "$work"' EXIT
-mkdir -p "$work/crates/lexer_bench/src"
-cp -r "$top/crates/js_core" "$top/crates/js_lexer" "$work/crates/"
-cp "$top/HANDLES" "$work/"
-printf 'js_core:\njs_lexer: js_core unicode_ident\nlexer_bench: js_core js_lexer\n' >"$work/crates.txt"
+. "$(dirname "$0")/frame.sh"
+repository lexer_bench js_core js_lexer
 cat >"$work/crates/lexer_bench/src/main.rt" <<'END'
 //! Prints for each file that is named how many units it has, and the nanoseconds in which its tokens are found.
 #![tactic(auto)]
@@ -56,26 +50,19 @@ script() {
         for (left = size - length(text); left > 0; left--) printf "-"
     }'
 }
-sizes='10000 100000 1000000'
-for size in $sizes; do script "$size" >"$work/$size.js"; done
-: >"$work/0.js"
-(cd "$work/crates/lexer_bench" && nice -n 10 rt run -- "$work/0.js") >"$work/build.log" 2>&1 || { cat "$work/build.log" >&2; exit 1; }
 # The least of five times of node, in milliseconds.
 node_time() {
+    command -v node >/dev/null || { echo -; return; }
     for _ in 1 2 3 4 5; do
         begin=$(date +%s%N)
         node --check "$1"
         echo $((($(date +%s%N) - begin) / 1000000))
     done | sort -n | head -n 1
 }
-echo '| Units | ns | ns for each unit | ratio | node --check, ms |'
-echo '|---|---|---|---|---|'
-first=
-for size in $sizes; do
-    best=$(for _ in 1 2 3 4 5; do "$work/crates/lexer_bench/out/lexer_bench" "$work/$size.js"; done | sort -n -k 2 | head -n 1)
-    each=$(echo "$best" | awk '{ printf "%.2f", $2 / $1 }')
-    first=${first:-$each}
-    node=-
-    if command -v node >/dev/null; then node=$(node_time "$work/$size.js"); fi
-    awk -v b="$best" -v e="$each" -v f="$first" -v n="$node" 'BEGIN { split(b, p, " "); printf "| %d | %d | %s | %.2f | %s |\n", p[1], p[2], e, e / f, n }'
+: >"$work/0.js"
+build "$work/0.js"
+heading Units unit 'node --check, ms'
+for size in 10000 100000 1000000; do
+    script "$size" >"$work/$size.js"
+    row "$work/$size.js" "$(node_time "$work/$size.js")"
 done

@@ -2,15 +2,8 @@
 # Times the parser on scripts of 10,000 and 100,000 short statements: the best of five runs, the nanoseconds for each
 # statement, and their ratio to the shorter script's, which stays near 1 as the parser is linear in the number of statements.
 # The tokens are found before the clock starts.
-set -e
-top=$(cd "$(dirname "$0")/.." && pwd)
-work=$(mktemp -d)
-trap 'rm -rf "$work"' EXIT
-mkdir -p "$work/crates/parser_bench/src"
-for crate in js_core js_lexer js_grammar js_print expression_parser script_parser; do cp -r "$top/crates/$crate" "$work/crates/"; done
-cp "$top/HANDLES" "$work/"
-grep -E '^(js_core|js_lexer|js_grammar|js_print|expression_parser|script_parser):' "$top/crates.txt" >"$work/crates.txt"
-echo 'parser_bench: js_core js_lexer expression_parser script_parser' >>"$work/crates.txt"
+. "$(dirname "$0")/frame.sh"
+repository parser_bench js_core js_lexer js_grammar js_print expression_parser script_parser
 cat >"$work/crates/parser_bench/src/main.rt" <<'END'
 //! Prints for each file that is named how many statements its script has, and the nanoseconds in which it is parsed.
 #![tactic(auto)]
@@ -64,16 +57,10 @@ script() {
         }
     }'
 }
-sizes='10000 100000'
-for size in $sizes; do script "$size" >"$work/$size.js"; done
 : >"$work/0.js"
-(cd "$work/crates/parser_bench" && nice -n 10 rt run -- "$work/0.js") >"$work/build.log" 2>&1 || { cat "$work/build.log" >&2; exit 1; }
-echo '| Statements | ns | ns for each statement | ratio |'
-echo '|---|---|---|---|'
-first=
-for size in $sizes; do
-    best=$(for _ in 1 2 3 4 5; do "$work/crates/parser_bench/out/parser_bench" "$work/$size.js"; done | sort -n -k 2 | head -n 1)
-    each=$(echo "$best" | awk '{ printf "%.2f", $2 / $1 }')
-    first=${first:-$each}
-    awk -v b="$best" -v e="$each" -v f="$first" 'BEGIN { split(b, p, " "); printf "| %d | %d | %s | %.2f |\n", p[1], p[2], e, e / f }'
+build "$work/0.js"
+heading Statements statement
+for size in 10000 100000; do
+    script "$size" >"$work/$size.js"
+    row "$work/$size.js"
 done

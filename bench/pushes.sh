@@ -2,14 +2,8 @@
 # Times 10,000, 100,000 and 1,000,000 elements that are put behind the last one of an array: the best of five runs, the
 # nanoseconds for each element, and their ratio to the shortest array's. It rises only with the time that the machine
 # takes to reach memory, since an element costs the same steps at any length.
-set -e
-top=$(cd "$(dirname "$0")/.." && pwd)
-work=$(mktemp -d)
-trap 'rm -rf "$work"' EXIT
-mkdir -p "$work/crates/heap_bench/src"
-cp -r "$top/crates/js_core" "$top/crates/object_heap" "$work/crates/"
-cp "$top/HANDLES" "$work/"
-printf 'js_core:\nobject_heap: js_core indexmap\nheap_bench: js_core object_heap\n' >"$work/crates.txt"
+. "$(dirname "$0")/frame.sh"
+repository heap_bench js_core object_heap
 cat >"$work/crates/heap_bench/src/main.rt" <<'END'
 //! Prints for each number of elements that is named the nanoseconds in which an array gets as many, one by one.
 #![tactic(auto)]
@@ -67,13 +61,6 @@ fn main(rt: HostRuntime) -> io::Result<()> {
     Ok(())
 }
 END
-(cd "$work/crates/heap_bench" && nice -n 10 rt run -- 1) >"$work/build.log" 2>&1 || { cat "$work/build.log" >&2; exit 1; }
-echo '| Elements | ns | ns for each element | ratio |'
-echo '|---|---|---|---|'
-first=
-for count in 10000 100000 1000000; do
-    best=$(for _ in 1 2 3 4 5; do "$work/crates/heap_bench/out/heap_bench" "$count"; done | sort -n -k 2 | head -n 1)
-    each=$(echo "$best" | awk '{ printf "%.1f", $2 / $1 }')
-    first=${first:-$each}
-    awk -v b="$best" -v e="$each" -v f="$first" 'BEGIN { split(b, p, " "); printf "| %d | %d | %s | %.2f |\n", p[1], p[2], e, e / f }'
-done
+build 1
+heading Elements element
+for count in 10000 100000 1000000; do row "$count"; done
