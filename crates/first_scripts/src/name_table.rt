@@ -1,6 +1,6 @@
 //! The names that a script declares.
 
-ghost use Rattle.std.specs.Prelude.{◌≡◌, ℕ, List, false, true, Some, if◌then◌else◌, option_map, bytes_eq, IfOk, MatchOption, OnOk};
+ghost use Rattle.std.specs.Prelude.{◌≡◌, ℕ, List, false, true, Some, if◌then◌else◌, option_map, bytes_eq, IfOk, MatchOption};
 ghost use Rattle.js_core.specs.Tree.{stmts_of};
 ghost use Rattle.indexmap.specs.IndexMap.{get};
 ghost use Rattle.first_scripts.specs.Kinds as spec;

@@ -1,6 +1,6 @@
 //! What stands between tokens: white space, line ends and comments.
 
-ghost use Rattle.std.specs.Prelude.{◌≡◌, ◌==◌, ◌<◌, ◌≤◌, IfSome, not, drop, length, MatchOption, None, Some};
+ghost use Rattle.std.specs.Prelude.{◌≡◌, ◌==◌, ◌<◌, ◌≤◌, IfSome, not, length, MatchOption, None, Some};
 ghost use Rattle.std.specs.List.{prefix_len};
 ghost use Rattle.js_core.specs.Characters as common;
 ghost use Rattle.js_lexer.specs.Characters as characters;

@@ -5,7 +5,6 @@ ghost use Rattle.std.specs.List.{prefix_len};
 ghost use Rattle.js_core.specs.declared.token.Token.{Token as PureToken};
 ghost use Rattle.js_core.specs.declared.token.TokenKind.{TokenKind as PureKind};
 ghost use Rattle.js_lexer.specs.Characters as characters;
-ghost use Rattle.js_lexer.specs.Tokens as spec;
 ghost use Rattle.js_lexer.specs.Tokens.{TokenAt, Tokens};
 
 use crate::characters::{is_decimal_digit, is_identifier_part, is_identifier_start, is_quote};

@@ -3,7 +3,7 @@
 ghost use Rattle.std.specs.Prelude.{◌≡◌, IfOk};
 ghost use Rattle.object_heap.specs.Attempt.{Follows};
 ghost use Rattle.object_heap.specs.Define.{define_ordinary, with_value};
-ghost use Rattle.object_heap.specs.Property.{own_property, created, updated, may_update, keeps, keeps_value};
+ghost use Rattle.object_heap.specs.Property.{created, updated, may_update, keeps, keeps_value};
 ghost use Rattle.object_heap.specs.Refused.{throw_of};
 
 use crate::fault::{HeapFault, Refused};

@@ -1,6 +1,6 @@
 //! The heap: objects and environments by age (ECMA-262 5.1 sections 8.6, 8.12 and 10.2).
 
-ghost use Rattle.std.specs.Prelude.{◌≡◌, ◌<◌, ◌↔◌, IfOk, OnOk, OnErr, length, option_map, IsTrue, IsSome, slice_get};
+ghost use Rattle.std.specs.Prelude.{◌≡◌, ◌<◌, IfOk, OnOk, OnErr, length, option_map, IsTrue, IsSome, slice_get};
 ghost use Rattle.std.specs.Option.{ForSome, option_copied};
 ghost use Rattle.std.specs.Map.Iter.{deref_pair};
 ghost use Rattle.object_heap.specs.Chain.{object_at, get, can_put};

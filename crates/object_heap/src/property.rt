@@ -1,9 +1,8 @@
 //! Properties and what is asked of them.
 
-ghost use Rattle.std.specs.Prelude.{◌≡◌, IfOk};
-ghost use Rattle.object_heap.specs.Property.{same_value, may_update, created, updated};
+ghost use Rattle.std.specs.Prelude.{◌≡◌};
+ghost use Rattle.object_heap.specs.Property.{same_value};
 
-use js_core::memory::OutOfMemory;
 use js_core::value::Value;
 
 /// A property with its attributes (ECMA-262 5.1 section 8.6.1). There are no accessors.

@@ -1,6 +1,6 @@
 //! The operators on bits.
 
-ghost use Rattle.std.specs.Prelude.{◌≡◌, Some, pos};
+ghost use Rattle.std.specs.Prelude.{◌≡◌, Some};
 ghost use Rattle.js_core.specs.Whole.{InRange};
 ghost use Rattle.whole_ops.specs.Bits as spec;
 
