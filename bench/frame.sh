@@ -16,6 +16,19 @@ repository() {
     echo "$program: $*" >>"$work/crates.txt"
 }
 
+# main_over_files: ends the program's source, which has a function time_file, with a main that calls it for each word
+main_over_files() {
+    cat >>"$work/crates/$program/src/main.rt" <<'END'
+
+fn main(rt: HostRuntime) -> io::Result<()> {
+    for word in std::env::args(&rt)?.skip(1) {
+        time_file(&rt, word.as_str())?;
+    }
+    Ok(())
+}
+END
+}
+
 # build WORD..: proves and builds the program, and runs it once
 build() {
     (cd "$work/crates/$program" && nice -n 10 rt run -- "$@") >"$work/build.log" 2>&1 || { cat "$work/build.log" >&2; exit 1; }

@@ -28,14 +28,8 @@ fn time_file(rt: &HostRuntime, name: &str) -> io::Result<()> {
     }
     Ok(())
 }
-
-fn main(rt: HostRuntime) -> io::Result<()> {
-    for word in std::env::args(&rt)?.skip(1) {
-        time_file(&rt, word.as_str())?;
-    }
-    Ok(())
-}
 END
+main_over_files
 # A script of so many units, cut off in a comment.
 script() {
     awk -v size="$1" 'BEGIN {

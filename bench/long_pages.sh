@@ -1,7 +1,8 @@
 #!/bin/sh
 # How the time of a command grows with the page and the events: `replay` of 10,000 to 200,000 assignments, and of events on a
-# small page; `check` of object literals and of functions with many names. The last column stays about the same where the
-# time is in proportion. Build the program first: `./imagen replay` on an example.
+# small page; `check` of object literals, and of functions with many variables or with many formals that a function inside
+# uses. The last column stays about the same where the time is in proportion. Build the program first: `./imagen replay` on
+# an example.
 top=$(cd "$(dirname "$0")/.." && pwd) || exit 1
 program=$top/crates/imagen/out/imagen
 work=$(mktemp -d) || exit 1
@@ -57,6 +58,15 @@ variables() {
     printf '}());'
 }
 
+# A function with so many formals, all of which the function inside it uses.
+formals() {
+    printf '(function($$f'
+    numbered ',$$f%d' "$1"
+    printf '){return function(){'
+    numbered '$$f%d;' "$1"
+    printf '};}());'
+}
+
 echo 'what          parts   milliseconds   nanoseconds a part'
 printf '[]' >"$work/events.json"
 for count in 10000 50000 100000 200000; do
@@ -70,6 +80,10 @@ done
 for count in 10000 50000 100000; do
     page '<!--imagen 1-->' variables "$count"
     row variables "$count" check "$work/page.html"
+done
+for count in 10000 50000 100000; do
+    page '<!--imagen 1-->' formals "$count"
+    row formals "$count" check "$work/page.html"
 done
 page '' printf 'var n=0;function t(){n=n+1;console.log(n);}'
 for count in 10000 50000 100000; do

@@ -37,14 +37,8 @@ fn time_file(rt: &HostRuntime, name: &str) -> io::Result<()> {
     };
     time_script(rt, found.as_slice())
 }
-
-fn main(rt: HostRuntime) -> io::Result<()> {
-    for word in std::env::args(&rt)?.skip(1) {
-        time_file(&rt, word.as_str())?;
-    }
-    Ok(())
-}
 END
+main_over_files
 # A script of so many statements.
 script() {
     awk -v count="$1" 'BEGIN {

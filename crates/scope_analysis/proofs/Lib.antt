@@ -1,3 +1,4 @@
 pub mod Callees
 pub mod Repeats
 pub mod Steps
+pub mod Tables

@@ -1,9 +1,7 @@
--- Names of a list in which none stands twice, and one more behind them; and what a table says of names.
-use Rattle.std.proofs.Common.{◌≡◌, ◌≤◌, ◌-◌, ℕ, Bool, true, false, not, List, [], ◌∷◌, ◌++◌, ◌||◌, length, get_or, take, drop, refl, arith, bytes_eq}
-use Rattle.std.proofs.lemmas.Grind.{common_steps}
+-- Names of a list in which none stands twice, and one more behind them.
+use Rattle.std.proofs.Common.{◌≡◌, ℕ, Bool, true, false, not, List, [], ◌∷◌, ◌++◌, ◌||◌, refl, bytes_eq}
 use Rattle.std.proofs.lemmas.Slice.Eq.{bytes_eq-Decides}
 use Rattle.std.proofs.lemmas.List.Folds.{list_any-append}
-use Rattle.indexmap.specs.IndexSet.{insert_key}
 use Rattle.scope_analysis.specs.Names.{is_among, has_repeat}
 
 or_right : (a b : Bool) → b ≡ true → (a || b) ≡ true
@@ -17,10 +15,6 @@ left_false false b e = refl
 right_false : (a b : Bool) → (a || b) ≡ false → b ≡ false
 right_false true b e = absurd (cc)
 right_false false b e = e
-
-or_false : (b : Bool) → b ≡ (b || false)
-or_false true = refl
-or_false false = refl
 
 same_name : (x : List ℕ) → bytes_eq x x ≡ true
 same_name x = (bytes_eq-Decides x x).1 refl
@@ -65,31 +59,3 @@ is_free ks x new added e = by_case (is_among x ks) refl
         let none : true ≡ false = rw (← e, added, p) refl in
         absurd (cc)
     by_case false p = p
-
-stays_among : (x v : List ℕ) (ks : List (List ℕ)) → is_among v ks ≡ true → is_among x ks ≡ (is_among x ks || (bytes_eq x v || false))
-stays_among x v ks e = by_case (bytes_eq x v) refl
-  where
-    by_case : (b : Bool) → bytes_eq x v ≡ b → is_among x ks ≡ (is_among x ks || (bytes_eq x v || false))
-    by_case true p = rw ((bytes_eq-Decides x v).0 p, e) refl
-    by_case false p = rw (p) (or_false (is_among x ks))
-
--- a name that is put into a table
-pub among_inserted : (ks : List (List ℕ)) (v x : List ℕ) → is_among x (insert_key bytes_eq ks v) ≡ (is_among x ks || (bytes_eq x v || false))
-among_inserted ks v x = by_case (is_among v ks) refl
-  where
-    by_case : (b : Bool) → is_among v ks ≡ b → is_among x (insert_key bytes_eq ks v) ≡ (is_among x ks || (bytes_eq x v || false))
-    by_case true p = rw (p) (stays_among x v ks p)
-    by_case false p = rw (p) (list_any-append (bytes_eq x) ks (v ∷ []))
-
-or_moved : (a b c : Bool) → ((a || (b || false)) || c) ≡ (a || (b || c))
-or_moved true b c = refl
-or_moved false true c = refl
-or_moved false false c = refl
-
--- the next name of a list is put into a table
-pub next_among : (x v : List ℕ) (ks new rest : List (List ℕ)) (whole : Bool) → 1 ≤ length rest → v ≡ get_or rest 0 v → new ≡ insert_key bytes_eq ks v → (is_among x ks || is_among x rest) ≡ whole → (is_among x new || is_among x (take (length rest - 1) (drop 1 rest))) ≡ whole
-next_among x v ks new [] whole h is put left = absurd (omega arith)
-next_among x v ks new (y ∷ ys) whole h is put left =
-    let here : is_among x new ≡ (is_among x ks || (bytes_eq x y || false)) = rw (put, among_inserted ks v x, is) refl in
-    let moved = or_moved (is_among x ks) (bytes_eq x y) (is_among x ys) in
-    rw (here) (grind (arith, common_steps, moved))

@@ -89,18 +89,18 @@ abbrev pub boxes : List ℕ → tree.Stmts → Bool
 boxes x no_stmts = false
 boxes x (then_stmt s ss) = is_boxing x s
 
--- one of these formals that is never assigned to, and not among the other declared names
-abbrev pub is_constant_formal : List (List ℕ) → List (List ℕ) → List Use → List ℕ → Bool
-is_constant_formal formals declared uses x = is_among x formals && (not (is_assigned x uses) && not (is_among x declared))
+-- never assigned to, and not among the other declared names
+abbrev pub is_constant : List (List ℕ) → List Use → List ℕ → Bool
+is_constant declared uses x = not (is_assigned x uses) && not (is_among x declared)
 
--- none of these formals, declared once and by the first statement of the body, and assigned to there alone
-abbrev pub is_opened : List (List ℕ) → List (List ℕ) → tree.Stmts → List Use → List ℕ → Bool
-is_opened formals declared body uses x = not (is_among x formals) && (is_once x declared && (opens_with x body && is_assigned_once x uses))
+-- declared by the first statement of the body and nowhere else, and assigned to there alone
+abbrev pub is_opened : List (List ℕ) → tree.Stmts → List Use → List ℕ → Bool
+is_opened declared body uses x = opens_with x body && (is_once x declared && is_assigned_once x uses)
 
 -- a variable of a function with these formals, other declared names and this body, whose uses are these: a saved page can
 -- rebuild it where a function inside uses it
 abbrev pub can_be_rebuilt : List (List ℕ) → List (List ℕ) → tree.Stmts → List Use → List ℕ → Bool
-can_be_rebuilt formals declared body uses x = is_reserved x && (is_constant_formal formals declared uses x || is_opened formals declared body uses x)
+can_be_rebuilt formals declared body uses x = is_reserved x && (if is_among x formals then is_constant declared uses x else is_opened declared body uses x)
 
 -- no function inside uses such a variable, or one may
 abbrev pub may_be_captured : List (List ℕ) → List (List ℕ) → tree.Stmts → List Use → List ℕ → Bool

@@ -8,3 +8,4 @@ pub mod NodeTests
 pub mod Nodes
 pub mod ScopeTests
 pub mod Uses
+pub mod Variables

@@ -20,3 +20,4 @@ mod scope_tests;
 mod test_trees;
 mod use_lists;
 pub mod uses;
+mod variables;

@@ -1,13 +1,15 @@
 //! Tables of names, by which a name is found without going over a list.
 
-ghost use Rattle.std.specs.Prelude.{◌≡◌, ℕ, List, bytes_eq, IfOk};
+ghost use Rattle.std.specs.Prelude.{◌≡◌, ◌++◌, ℕ, List, bytes_eq, IfOk};
 ghost use Rattle.indexmap.specs.IndexSet.{contains};
 ghost use Rattle.scope_analysis.specs.Names as spec;
-ghost use Rattle.scope_analysis.specs.Uses.{is_captured};
+ghost use Rattle.scope_analysis.specs.Uses.{is_assigned, is_captured};
 
 use crate::name_use::Use;
+use crate::names::{push_bound_names, push_maybe_name};
 use indexmap::IndexSet;
 use js_core::memory::OutOfMemory;
+use js_core::syntax::Code;
 use js_core::units::Units;
 use std::alloc::Global;
 
@@ -19,6 +21,35 @@ pub fn name_table(alloc: Global, names: &[Units]) -> Result<IndexSet<Units>, Out
     let mut rest = names;
     while let [name, after @ ..] = rest {
         table.insert(name.clone()?)?;
+        rest = after;
+    }
+    Ok(table)
+}
+
+/// A table of the own name that the function may have, and of the other names that it binds.
+pub fn bound_table(
+    alloc: Global,
+    own: &Option<Units>,
+    code: &Code,
+) -> Result<IndexSet<Units>, OutOfMemory>
+    ensures { IfOk result (λ table. (x : List ℕ) → contains bytes_eq table x ≡ spec.is_among x (spec.maybe_name own.now ++ spec.bound_names code.now)) }
+{
+    let mut names = Vec::new(alloc);
+    push_maybe_name(own, &mut names)?;
+    push_bound_names(code, &mut names)?;
+    name_table(alloc, names.as_slice())
+}
+
+/// A table of the names that are assigned to.
+pub fn assigned_table(alloc: Global, uses: &[Use]) -> Result<IndexSet<Units>, OutOfMemory>
+    ensures { IfOk result (λ table. (x : List ℕ) → contains bytes_eq table x ≡ is_assigned x uses.now) }
+{
+    let mut table = IndexSet::new(alloc);
+    let mut rest = uses;
+    while let [inner, after @ ..] = rest {
+        if inner.assigns {
+            table.insert(inner.name.clone()?)?;
+        }
         rest = after;
     }
     Ok(table)

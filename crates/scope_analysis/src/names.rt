@@ -186,7 +186,7 @@ fn push_target_name(declared: bool, target: &Expr, out: &mut Vec<Units>) -> Resu
 }
 
 /// Appends names.
-pub fn push_names(names: &[Units], out: &mut Vec<Units>) -> Result<(), OutOfMemory>
+fn push_names(names: &[Units], out: &mut Vec<Units>) -> Result<(), OutOfMemory>
     ensures { OnOk result (out.new.items ≡ out.old.items ++ names.now) }
 {
     let mut rest = names;
@@ -203,4 +203,26 @@ pub fn push_bound_names(code: &Code, out: &mut Vec<Units>) -> Result<(), OutOfMe
 {
     push_names(code.formals.as_slice(), out)?;
     push_declared_names(code.body.as_slice(), out)
+}
+
+/// The name of a function expression that is a variable of it: no formal, variable or function in it has that name
+/// (section 13).
+pub fn own_name(alloc: Global, code: &Code) -> Result<Option<Units>, OutOfMemory>
+    ensures { IfOk result (λ own. own ≡ spec.own_name code.now) }
+{
+    match &code.name {
+        None => Ok(None),
+        Some(name) => unless_bound(alloc, name, code),
+    }
+}
+
+fn unless_bound(alloc: Global, name: &Units, code: &Code) -> Result<Option<Units>, OutOfMemory>
+    ensures { IfOk result (λ own. own ≡ spec.unless_among (Some name.now) (spec.bound_names code.now)) }
+{
+    let mut bound = Vec::new(alloc);
+    push_bound_names(code, &mut bound)?;
+    if is_among(name, bound.as_slice()) {
+        return Ok(None);
+    }
+    Ok(Some(name.clone()?))
 }

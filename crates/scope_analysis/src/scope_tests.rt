@@ -1,6 +1,7 @@
 //! How functions and catch clauses do in their tests, by the uses inside.
 
 ghost use Rattle.std.specs.Prelude.{◌≡◌, IfOk};
+ghost use Rattle.std.specs.List.{list_all};
 ghost use Rattle.js_core.specs.Tree.{fields_of, stmts_of, maybe_expr};
 ghost use Rattle.js_core.specs.Views.{declarators_of};
 ghost use Rattle.scope_analysis.specs.EarlyRules as rules;
@@ -8,39 +9,34 @@ ghost use Rattle.scope_analysis.specs.Form as spec;
 ghost use Rattle.scope_analysis.specs.Names as names;
 ghost use Rattle.scope_analysis.specs.ScopeTests.{expression_scope, declaration_scope, clause_scope};
 ghost use Rattle.scope_analysis.specs.Uses.{stmts_uses};
+ghost use Rattle.scope_analysis.specs.Variables.{Tells};
 
-use crate::name_table::captured_table;
 use crate::name_test::is_reserved;
 use crate::name_use::Use;
-use crate::names::is_among;
+use crate::names::{is_among, own_name, push_bound_names, push_declared_names};
 use crate::scope_test::ScopeTest;
 use crate::use_lists::{is_assigned, is_assigned_once, is_captured};
+use crate::variables::Variables;
 use js_core::memory::OutOfMemory;
 use js_core::operators::UnaryOp;
 use js_core::syntax::{Catch, Code, Declarator, Expr, ExprNode, Stmt, StmtNode};
 use js_core::units::Units;
 use std::alloc::Global;
 
-/// Whether a function expression passes the test, by the names that its body declares, all names that it binds, and the
-/// uses of its body.
+/// Whether a function expression passes the test, by the uses in its body.
 pub fn expression_scope_passes(
     alloc: Global,
     test: ScopeTest,
     code: &Code,
-    declared: &[Units],
-    bound: &[Units],
     uses: &[Use],
 ) -> Result<bool, OutOfMemory>
-    requires declared { declared.now ≡ names.declared_names (names.code_body code.now) }
-    requires bound { bound.now ≡ names.bound_names code.now }
-    requires uses { uses.now ≡ stmts_uses (names.code_body code.now) }
+    requires { uses.now ≡ stmts_uses (names.code_body code.now) }
     ensures { IfOk result (λ found. found ≡ expression_scope test code.now) }
 {
     match test {
-        ScopeTest::AssignsOwnName => Ok(assigns_own(&code.name, bound, uses)),
+        ScopeTest::AssignsOwnName => assigns_own(alloc, code, uses),
         ScopeTest::IsOutOfForm => {
-            let good = are_variables_in_form(alloc, code, declared, bound, uses)?;
-            Ok(!(good && is_own_free(&code.name, bound, uses)))
+            Ok(!(are_variables_in_form(alloc, code, uses)? && is_own_free(alloc, code, uses)?))
         }
     }
 }
@@ -50,18 +46,14 @@ pub fn declaration_scope_passes(
     alloc: Global,
     test: ScopeTest,
     code: &Code,
-    declared: &[Units],
-    bound: &[Units],
     uses: &[Use],
 ) -> Result<bool, OutOfMemory>
-    requires declared { declared.now ≡ names.declared_names (names.code_body code.now) }
-    requires bound { bound.now ≡ names.bound_names code.now }
-    requires uses { uses.now ≡ stmts_uses (names.code_body code.now) }
+    requires { uses.now ≡ stmts_uses (names.code_body code.now) }
     ensures { IfOk result (λ found. found ≡ declaration_scope test code.now) }
 {
     match test {
         ScopeTest::AssignsOwnName => Ok(false),
-        ScopeTest::IsOutOfForm => Ok(!are_variables_in_form(alloc, code, declared, bound, uses)?),
+        ScopeTest::IsOutOfForm => Ok(!are_variables_in_form(alloc, code, uses)?),
     }
 }
 
@@ -78,81 +70,86 @@ pub fn clause_scope_passes(test: ScopeTest, clause: &Catch, uses: &[Use]) -> boo
     }
 }
 
-fn assigns_own(own: &Option<Units>, bound: &[Units], uses: &[Use]) -> bool
-    ensures { result ≡ rules.assigns_maybe (names.unless_among own.now bound.now) uses.now }
+fn assigns_own(alloc: Global, code: &Code, uses: &[Use]) -> Result<bool, OutOfMemory>
+    ensures { IfOk result (λ found. found ≡ rules.assigns_maybe (names.own_name code.now) uses.now) }
 {
-    match own {
-        None => false,
-        Some(own) => !is_among(own, bound) && is_assigned(own, uses),
+    match own_name(alloc, code)? {
+        None => Ok(false),
+        Some(own) => Ok(is_assigned(&own, uses)),
     }
 }
 
-fn is_own_free(own: &Option<Units>, bound: &[Units], uses: &[Use]) -> bool
-    ensures { result ≡ spec.is_not_captured (names.unless_among own.now bound.now) uses.now }
+fn is_own_free(alloc: Global, code: &Code, uses: &[Use]) -> Result<bool, OutOfMemory>
+    ensures { IfOk result (λ good. good ≡ spec.is_not_captured (names.own_name code.now) uses.now) }
 {
-    match own {
-        None => true,
-        Some(own) => is_among(own, bound) || !is_captured(own, uses),
+    match own_name(alloc, code)? {
+        None => Ok(true),
+        Some(own) => Ok(!is_captured(&own, uses)),
     }
 }
 
-fn are_variables_in_form(
-    alloc: Global,
-    code: &Code,
-    declared: &[Units],
-    bound: &[Units],
-    uses: &[Use],
-) -> Result<bool, OutOfMemory>
-    requires declared { declared.now ≡ names.declared_names (names.code_body code.now) }
-    requires bound { bound.now ≡ names.bound_names code.now }
+fn are_variables_in_form(alloc: Global, code: &Code, uses: &[Use]) -> Result<bool, OutOfMemory>
     ensures { IfOk result (λ good. good ≡ spec.are_variables_in_form code.now uses.now) }
 {
-    let captured = captured_table(alloc, uses)?;
-    let formals = code.formals.as_slice();
-    let body = code.body.as_slice();
-    let mut rest = bound;
+    let mut declared = Vec::new(alloc);
+    push_declared_names(code.body.as_slice(), &mut declared)?;
+    let mut bound = Vec::new(alloc);
+    push_bound_names(code, &mut bound)?;
+    let variables = Variables::new(alloc, code, declared.as_slice(), uses)?;
+    Ok(may_all_be_captured(
+        &variables,
+        code,
+        declared.as_slice(),
+        uses,
+        bound.as_slice(),
+    ))
+}
+
+fn may_all_be_captured(
+    variables: &Variables,
+    code: &Code,
+    declared: &[Units],
+    uses: &[Use],
+    candidates: &[Units],
+) -> bool
+    requires { Tells variables.now (names.code_formals code.now) declared.now uses.now }
+    ensures { result ≡ list_all (spec.may_be_captured (names.code_formals code.now) declared.now (names.code_body code.now) uses.now) candidates.now }
+{
+    let mut rest = candidates;
     while let [name, after @ ..] = rest {
-        if captured.contains(name) && !can_be_rebuilt(formals, declared, body, uses, name) {
-            return Ok(false);
+        if variables.captured.contains(name)
+            && !can_be_rebuilt(variables, code, declared, uses, name)
+        {
+            return false;
         }
         rest = after;
     }
-    Ok(true)
+    true
 }
 
 fn can_be_rebuilt(
-    formals: &[Units],
+    variables: &Variables,
+    code: &Code,
     declared: &[Units],
-    body: &[Stmt],
     uses: &[Use],
     name: &Units,
 ) -> bool
-    ensures { result ≡ spec.can_be_rebuilt formals.now declared.now (stmts_of body.now) uses.now name.now }
+    requires { Tells variables.now (names.code_formals code.now) declared.now uses.now }
+    ensures { result ≡ spec.can_be_rebuilt (names.code_formals code.now) declared.now (names.code_body code.now) uses.now name.now }
 {
-    is_reserved(name)
-        && (is_constant_formal(formals, declared, uses, name)
-            || is_opened(formals, declared, body, uses, name))
+    if !is_reserved(name) {
+        return false;
+    }
+    if variables.formals.contains(name) {
+        return !variables.assigned.contains(name) && !variables.declared.contains(name);
+    }
+    is_opened(code.body.as_slice(), declared, uses, name)
 }
 
-fn is_constant_formal(formals: &[Units], declared: &[Units], uses: &[Use], name: &Units) -> bool
-    ensures { result ≡ spec.is_constant_formal formals.now declared.now uses.now name.now }
+fn is_opened(body: &[Stmt], declared: &[Units], uses: &[Use], name: &Units) -> bool
+    ensures { result ≡ spec.is_opened declared.now (stmts_of body.now) uses.now name.now }
 {
-    is_among(name, formals) && !is_assigned(name, uses) && !is_among(name, declared)
-}
-
-fn is_opened(
-    formals: &[Units],
-    declared: &[Units],
-    body: &[Stmt],
-    uses: &[Use],
-    name: &Units,
-) -> bool
-    ensures { result ≡ spec.is_opened formals.now declared.now (stmts_of body.now) uses.now name.now }
-{
-    !is_among(name, formals)
-        && is_once(name, declared)
-        && opens_with(name, body)
-        && is_assigned_once(name, uses)
+    opens_with(name, body) && is_once(name, declared) && is_assigned_once(name, uses)
 }
 
 fn is_parameter_in_form(parameter: &Units, body: &[Stmt], uses: &[Use]) -> bool

@@ -2,13 +2,13 @@
 
 ghost use Rattle.std.specs.Prelude.{◌≡◌, [], ◌∷◌, ◌++◌, OnOk};
 ghost use Rattle.scope_analysis.specs.Form.{is_assigned_once};
-ghost use Rattle.scope_analysis.specs.Names.{maybe_name};
+ghost use Rattle.scope_analysis.specs.Names.{bound_names, maybe_name};
 ghost use Rattle.scope_analysis.specs.Uses as spec;
 
-use crate::name_table::name_table;
+use crate::name_table::bound_table;
 use crate::name_use::Use;
-use crate::names::{push_maybe_name, push_names};
 use js_core::memory::OutOfMemory;
+use js_core::syntax::Code;
 use js_core::units::Units;
 
 /// Appends a use that no function stands round.
@@ -45,23 +45,20 @@ fn push_same(inner: &Use, out: &mut Vec<Use>) -> Result<(), OutOfMemory>
     Ok(())
 }
 
-/// Appends, of the uses of a function's body, those that the function leaves to the scopes round it, where these are the
-/// own name that it may have and the other names that it binds.
+/// Appends, of the uses of a function's body, those that the function leaves to the scopes round it, where this is the own
+/// name that it may have.
 pub fn push_leaving_function(
     own: &Option<Units>,
-    bound: &[Units],
+    code: &Code,
     uses: &[Use],
     out: &mut Vec<Use>,
 ) -> Result<(), OutOfMemory>
-    ensures { OnOk result (out.new.items ≡ out.old.items ++ spec.leaving_function (maybe_name own.now ++ bound.now) uses.now) }
+    ensures { OnOk result (out.new.items ≡ out.old.items ++ spec.leaving_function (maybe_name own.now ++ bound_names code.now) uses.now) }
 {
-    let mut names = Vec::new(*out.allocator());
-    push_maybe_name(own, &mut names)?;
-    push_names(bound, &mut names)?;
-    let table = name_table(*out.allocator(), names.as_slice())?;
+    let bound = bound_table(*out.allocator(), own, code)?;
     let mut rest = uses;
     while let [inner, after @ ..] = rest {
-        if !table.contains(&inner.name) {
+        if !bound.contains(&inner.name) {
             push_crossing(inner, out)?;
         }
         rest = after;

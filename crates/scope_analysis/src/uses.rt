@@ -17,7 +17,6 @@ ghost use Rattle.scope_analysis.specs.ScopeTests.{scope_passes, clause_scope};
 ghost use Rattle.scope_analysis.specs.Uses as spec;
 
 use crate::name_use::Use;
-use crate::names::{push_declared_names, push_names};
 use crate::scope_test::ScopeTest;
 use crate::scope_tests::{clause_scope_passes, declaration_scope_passes, expression_scope_passes};
 use crate::use_lists::{push_leaving_clause, push_leaving_function, push_use};
@@ -291,20 +290,8 @@ fn push_declaration_uses(
 {
     let mut uses = Vec::new(*out.allocator());
     let inside = push_statements_uses(test, code.body.as_slice(), &mut uses)?;
-    let mut declared = Vec::new(*out.allocator());
-    push_declared_names(code.body.as_slice(), &mut declared)?;
-    let mut bound = Vec::new(*out.allocator());
-    push_names(code.formals.as_slice(), &mut bound)?;
-    push_names(declared.as_slice(), &mut bound)?;
-    let here = declaration_scope_passes(
-        *out.allocator(),
-        test,
-        code,
-        declared.as_slice(),
-        bound.as_slice(),
-        uses.as_slice(),
-    )?;
-    push_leaving_function(&None, bound.as_slice(), uses.as_slice(), out)?;
+    let here = declaration_scope_passes(*out.allocator(), test, code, uses.as_slice())?;
+    push_leaving_function(&None, code, uses.as_slice(), out)?;
     Ok(here || inside)
 }
 
@@ -315,20 +302,8 @@ fn push_function_uses(test: ScopeTest, code: &Code, out: &mut Vec<Use>) -> Resul
 {
     let mut uses = Vec::new(*out.allocator());
     let inside = push_statements_uses(test, code.body.as_slice(), &mut uses)?;
-    let mut declared = Vec::new(*out.allocator());
-    push_declared_names(code.body.as_slice(), &mut declared)?;
-    let mut bound = Vec::new(*out.allocator());
-    push_names(code.formals.as_slice(), &mut bound)?;
-    push_names(declared.as_slice(), &mut bound)?;
-    let here = expression_scope_passes(
-        *out.allocator(),
-        test,
-        code,
-        declared.as_slice(),
-        bound.as_slice(),
-        uses.as_slice(),
-    )?;
-    push_leaving_function(&code.name, bound.as_slice(), uses.as_slice(), out)?;
+    let here = expression_scope_passes(*out.allocator(), test, code, uses.as_slice())?;
+    push_leaving_function(&code.name, code, uses.as_slice(), out)?;
     Ok(here || inside)
 }
 

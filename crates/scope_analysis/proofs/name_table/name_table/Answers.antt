@@ -1,7 +1,7 @@
 use Rattle.std.proofs.Common.{arith}
 use Rattle.std.proofs.lemmas.Grind.{common_steps}
 use Rattle.scope_analysis.specs.Names.{is_among}
-use Rattle.scope_analysis.proofs.Repeats.{next_among}
+use Rattle.scope_analysis.proofs.Tables.{next_among}
 use Rattle.scope_analysis.proofs.name_table.name_table.Goals as goal
 
 pub loop-rest-preserved : goal.loop-rest-preserved
