@@ -1,6 +1,6 @@
 //! ASCII characters as 16-bit units.
 
-ghost use Rattle.std.specs.Prelude.{◌≡◌, ◌++◌, take, length, IfOk, OnOk, OnErr};
+ghost use Rattle.std.specs.Prelude.{◌≡◌, ◌++◌, take, length, IfOk, OnOk, OnErr, ◌∷◌, []};
 
 use crate::memory::OutOfMemory;
 use crate::units::Units;
@@ -17,11 +17,30 @@ pub fn push_ascii(text: &[u8], out: &mut Vec<u16>) -> Result<(), OutOfMemory>
     Ok(())
 }
 
-/// The text of ASCII characters.
+/// The text of ASCII characters. Of a literal the clause computes: the text of `b"length"` is `codes "length"`.
 pub fn ascii_text(alloc: Global, text: &[u8]) -> Result<Units, OutOfMemory>
     ensures { IfOk result (λ units. units ≡ text.now) }
 {
     let mut units = Vec::new(alloc);
     push_ascii(text, &mut units)?;
     Units::of(alloc, units.as_slice())
+}
+
+#[cfg(test)]
+mod tests {
+    use super::*;
+    use std::test::Fail;
+
+    fn length_word(alloc: Global) -> Result<Units, OutOfMemory>
+        ensures { IfOk result (λ units. units ≡ 108 ∷ 101 ∷ 110 ∷ 103 ∷ 116 ∷ 104 ∷ []) }
+    {
+        ascii_text(alloc, b"length")
+    }
+
+    #[test]
+    fn a_literal_is_its_codes(rt: HostRuntime) -> Result<(), Fail> {
+        let word = Units::from_utf8(rt.alloc(), "length")?;
+        assert!(rt; length_word(rt.alloc())? == word);
+        Ok(())
+    }
 }

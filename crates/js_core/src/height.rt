@@ -1,17 +1,14 @@
 //! How high a tree is: an expression without parts is 1, and any other node is 1 more than its highest part. A
 //! function expression is 1 more than its highest statement, and a function declaration 3 more.
 //!
-//! What is nested is recursed into, and that is at most 1000 deep. A list is gone over in a loop, so that a long one
-//! takes no more of the machine's stack than a short one.
+//! Each part keeps its height, so that the time is that of a node's direct parts.
 
 ghost use Rattle.std.specs.Prelude.{◌≡◌, ◌≤◌, ◌<◌, ◌+◌, max, IfOk, option_map};
 ghost use Rattle.js_core.specs.Tree.{exprs_of, maybe_expr, holes_of, fields_of, stmts_of, maybe_stmts};
-ghost use Rattle.js_core.specs.Views.{declarators_of, init_of, catch_of, cases_of, stmt_of};
+ghost use Rattle.js_core.specs.Views.{declarators_of, init_of, catch_of, cases_of, expr_of, stmt_of};
 ghost use Rattle.js_core.specs.Height as spec;
 
-use crate::syntax::{
-    Case, Catch, Code, Declarator, Expr, ExprNode, ForInit, Script, Stmt, StmtNode,
-};
+use crate::syntax::{Case, Catch, Declarator, Expr, ExprNode, ForInit, Script, Stmt, StmtNode};
 use crate::units::Units;
 
 impl Script {
@@ -24,14 +21,13 @@ impl Script {
     }
 }
 
-impl Expr {
-    /// The height of the expression. No memory.
-    #[cycle(height)]
+impl ExprNode {
+    /// The height of the expression with this node. No memory.
     pub fn height(&self) -> u64
-        ensures exact { result ≡ spec.expr_height self.now }
-        ensures small { spec.expr_height self.now ≤ 1000 }
+        ensures exact { result ≡ spec.expr_height (expr_of self.now) }
+        ensures small { result ≤ 1001 }
     {
-        match &self.node {
+        match self {
             ExprNode::Name(_)
             | ExprNode::Num(_)
             | ExprNode::Text(_)
@@ -61,25 +57,13 @@ impl Expr {
     }
 }
 
-impl Code {
-    /// The height of the highest statement of the body, or 0 where there is none. No memory.
-    #[cycle(height)]
+impl StmtNode {
+    /// The height of the statement with this node. No memory.
     pub fn height(&self) -> u64
-        ensures exact { result ≡ spec.code_height self.now }
-        ensures small { spec.code_height self.now ≤ 1000 }
+        ensures exact { result ≡ spec.stmt_height (stmt_of self.now) }
+        ensures small { result ≤ 1003 }
     {
-        stmts_height(self.body.as_slice())
-    }
-}
-
-impl Stmt {
-    /// The height of the statement. No memory.
-    #[cycle(height)]
-    pub fn height(&self) -> u64
-        ensures exact { result ≡ spec.stmt_height self.now }
-        ensures small { spec.stmt_height self.now ≤ 1000 }
-    {
-        match &self.node {
+        match self {
             StmtNode::Empty | StmtNode::Continue | StmtNode::Break => 1,
             StmtNode::Var(ds) => declarators_height(ds.as_slice()) + 1,
             StmtNode::Function(code) => code.height() + 3,
@@ -122,10 +106,10 @@ impl Stmt {
     }
 }
 
-#[cycle(height)]
-fn exprs_height(es: &[Expr]) -> u64
-    requires { spec.exprs_height (exprs_of es.now) ≤ 1000 }
-    ensures { result ≡ spec.exprs_height (exprs_of es.now) }
+/// The height of the highest expression, or 0 where there is none.
+pub fn exprs_height(es: &[Expr]) -> u64
+    ensures exact { result ≡ spec.exprs_height (exprs_of es.now) }
+    ensures small { result ≤ 1000 }
 {
     let mut highest = 0;
     for e in es {
@@ -134,10 +118,10 @@ fn exprs_height(es: &[Expr]) -> u64
     highest
 }
 
-#[cycle(height)]
-fn maybe_expr_height(e: &Option<Expr>) -> u64
+/// The height of the expression, or 0 where there is none.
+pub fn maybe_expr_height(e: &Option<Expr>) -> u64
     ensures exact { result ≡ spec.maybe_expr_height (maybe_expr e.now) }
-    ensures small { spec.maybe_expr_height (maybe_expr e.now) ≤ 1000 }
+    ensures small { result ≤ 1000 }
 {
     match e {
         None => 0,
@@ -145,10 +129,10 @@ fn maybe_expr_height(e: &Option<Expr>) -> u64
     }
 }
 
-#[cycle(height)]
-fn holes_height(es: &[Option<Expr>]) -> u64
-    requires { spec.holes_height (holes_of es.now) ≤ 1000 }
-    ensures { result ≡ spec.holes_height (holes_of es.now) }
+/// The height of the highest element of an array literal, or 0 where there is none.
+pub fn holes_height(es: &[Option<Expr>]) -> u64
+    ensures exact { result ≡ spec.holes_height (holes_of es.now) }
+    ensures small { result ≤ 1000 }
 {
     let mut highest = 0;
     for e in es {
@@ -157,10 +141,10 @@ fn holes_height(es: &[Option<Expr>]) -> u64
     highest
 }
 
-#[cycle(height)]
-fn fields_height(fs: &[(Units, Expr)]) -> u64
-    requires { spec.fields_height (fields_of fs.now) ≤ 1000 }
-    ensures { result ≡ spec.fields_height (fields_of fs.now) }
+/// The height of the highest value of an object literal, or 0 where there is none.
+pub fn fields_height(fs: &[(Units, Expr)]) -> u64
+    ensures exact { result ≡ spec.fields_height (fields_of fs.now) }
+    ensures small { result ≤ 1000 }
 {
     let mut highest = 0;
     for (_, e) in fs {
@@ -169,10 +153,10 @@ fn fields_height(fs: &[(Units, Expr)]) -> u64
     highest
 }
 
-#[cycle(height)]
-fn stmts_height(ss: &[Stmt]) -> u64
-    requires { spec.stmts_height (stmts_of ss.now) ≤ 1000 }
-    ensures { result ≡ spec.stmts_height (stmts_of ss.now) }
+/// The height of the highest statement, or 0 where there is none.
+pub fn stmts_height(ss: &[Stmt]) -> u64
+    ensures exact { result ≡ spec.stmts_height (stmts_of ss.now) }
+    ensures small { result ≤ 1000 }
 {
     let mut highest = 0;
     for s in ss {
@@ -181,10 +165,10 @@ fn stmts_height(ss: &[Stmt]) -> u64
     highest
 }
 
-#[cycle(height)]
-fn maybe_stmts_height(ss: &Option<Vec<Stmt>>) -> u64
-    requires { spec.maybe_stmts_height (maybe_stmts (option_map (λ v. v.items) ss.now)) ≤ 1000 }
-    ensures { result ≡ spec.maybe_stmts_height (maybe_stmts (option_map (λ v. v.items) ss.now)) }
+/// The height of the highest statement of a list, or 0 where there is no list.
+pub fn maybe_stmts_height(ss: &Option<Vec<Stmt>>) -> u64
+    ensures exact { result ≡ spec.maybe_stmts_height (maybe_stmts (option_map (λ v. v.items) ss.now)) }
+    ensures small { result ≤ 1000 }
 {
     match ss {
         None => 0,
@@ -192,10 +176,10 @@ fn maybe_stmts_height(ss: &Option<Vec<Stmt>>) -> u64
     }
 }
 
-#[cycle(height)]
-fn declarators_height(ds: &[Declarator]) -> u64
-    requires { spec.declarators_height (declarators_of ds.now) ≤ 1000 }
-    ensures { result ≡ spec.declarators_height (declarators_of ds.now) }
+/// The height of the highest declarator, which is 1 more than its initialiser, or 0 where there is none.
+pub fn declarators_height(ds: &[Declarator]) -> u64
+    ensures exact { result ≡ spec.declarators_height (declarators_of ds.now) }
+    ensures small { result ≤ 1001 }
 {
     let mut highest = 0;
     for d in ds {
@@ -204,10 +188,10 @@ fn declarators_height(ds: &[Declarator]) -> u64
     highest
 }
 
-#[cycle(height)]
-fn init_height(init: &ForInit) -> u64
-    requires { spec.for_init_height (init_of init.now) ≤ 1000 }
-    ensures { result ≡ spec.for_init_height (init_of init.now) }
+/// The height of what stands first in the header of a `for`.
+pub fn init_height(init: &ForInit) -> u64
+    ensures exact { result ≡ spec.for_init_height (init_of init.now) }
+    ensures small { result ≤ 1001 }
 {
     match init {
         ForInit::Nothing => 0,
@@ -216,10 +200,10 @@ fn init_height(init: &ForInit) -> u64
     }
 }
 
-#[cycle(height)]
-fn catch_height(catch: &Option<Catch>) -> u64
-    requires { spec.maybe_catch_height (catch_of catch.now) ≤ 1000 }
-    ensures { result ≡ spec.maybe_catch_height (catch_of catch.now) }
+/// The height of the highest statement of a catch clause, or 0 where there is none.
+pub fn catch_height(catch: &Option<Catch>) -> u64
+    ensures exact { result ≡ spec.maybe_catch_height (catch_of catch.now) }
+    ensures small { result ≤ 1000 }
 {
     match catch {
         None => 0,
@@ -227,10 +211,10 @@ fn catch_height(catch: &Option<Catch>) -> u64
     }
 }
 
-#[cycle(height)]
-fn cases_height(cases: &[Case]) -> u64
-    requires { spec.cases_height (cases_of cases.now) ≤ 1000 }
-    ensures { result ≡ spec.cases_height (cases_of cases.now) }
+/// The height of the highest test or statement of the cases, or 0 where there is none.
+pub fn cases_height(cases: &[Case]) -> u64
+    ensures exact { result ≡ spec.cases_height (cases_of cases.now) }
+    ensures small { result ≤ 1000 }
 {
     let mut highest = 0;
     for case in cases {
@@ -244,6 +228,7 @@ fn cases_height(cases: &[Case]) -> u64
 mod tests {
     use super::*;
     use crate::operators::BinaryOp;
+    use crate::syntax::Code;
     use crate::whole::Whole;
     use std::alloc::Global;
     use std::rc::Rc;
@@ -252,9 +237,7 @@ mod tests {
     fn one() -> Expr
         ensures { spec.expr_height result ≡ 1 }
     {
-        Expr {
-            node: ExprNode::Num(Whole::nan()),
-        }
+        Expr::new(ExprNode::Num(Whole::nan()))
     }
 
     fn sum(alloc: Global, left: Expr, right: Expr) -> Result<Expr, Fail>
@@ -262,13 +245,11 @@ mod tests {
         requires right { spec.expr_height right < 1000 }
         ensures { IfOk result (λ e. spec.expr_height e ≡ max (spec.expr_height left) (spec.expr_height right) + 1) }
     {
-        Ok(Expr {
-            node: ExprNode::Binary(
-                BinaryOp::Add,
-                Box::new(alloc, left)?,
-                Box::new(alloc, right)?,
-            ),
-        })
+        Ok(Expr::new(ExprNode::Binary(
+            BinaryOp::Add,
+            Box::new(alloc, left)?,
+            Box::new(alloc, right)?,
+        )))
     }
 
     fn statements(alloc: Global, node: StmtNode) -> Result<Vec<Stmt>, Fail>
@@ -276,7 +257,7 @@ mod tests {
         ensures { IfOk result (λ ss. spec.stmts_height (stmts_of ss.items) ≡ spec.stmt_height (stmt_of node)) }
     {
         let mut body = Vec::new(alloc);
-        body.push(Stmt { node })?;
+        body.push(Stmt::new(node))?;
         Ok(body)
     }
 
@@ -287,15 +268,9 @@ mod tests {
         let value = sum(alloc, one(), sum(alloc, one(), one())?)?;
         assert_eq!(rt; value.height(), 3);
         let body = statements(alloc, StmtNode::Return(Some(value)))?;
-        let code = Code {
-            name: None,
-            formals: Vec::new(alloc),
-            body,
-        };
+        let code = Code::new(None, Vec::new(alloc), body);
         assert_eq!(rt; code.height(), 4);
-        let declared = Stmt {
-            node: StmtNode::Function(Rc::new(alloc, code)?),
-        };
+        let declared = Stmt::new(StmtNode::Function(Rc::new(alloc, code)?));
         assert_eq!(rt; declared.height(), 7);
         let script = Script {
             body: statements(alloc, declared.node)?,

@@ -33,7 +33,7 @@ fn hex_digit(value: u16) -> u8
 
 /// Takes back what was appended to the bytes after the first `length`, where the appending failed, and hands its answer
 /// on.
-pub(crate) fn truncate_on_error(
+pub fn truncate_on_error(
     out: &mut Vec<u8>,
     length: usize,
     pushed: Result<(), OutOfMemory>,
@@ -50,7 +50,7 @@ pub(crate) fn truncate_on_error(
 
 /// Appends a text as it stands in a line: a backslash is doubled, a control character or a lone surrogate becomes `\u`
 /// and its four upper-case hexadecimal digits, and all else is UTF-8. After an error a part of it may be appended.
-pub(crate) fn push_line_text(units: &[u16], out: &mut Vec<u8>) -> Result<(), OutOfMemory>
+pub fn push_line_text(units: &[u16], out: &mut Vec<u8>) -> Result<(), OutOfMemory>
     ensures ok { OnOk result (out.new.items ≡ out.old.items ++ line_text units.now) }
     ensures err { OnErr result (take (length out.old.items) out.new.items ≡ out.old.items) }
 {

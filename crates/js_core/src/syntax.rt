@@ -1,17 +1,19 @@
 //! Syntax trees of ECMA-262 5.1 annex A.3 to A.5. A clause sees an `Expr`, a `Stmt`, a `Code` or a `Script` as the pure
-//! tree of `specs/Tree.antt`. No tree is higher than 1,000.
+//! tree of `specs/Tree.antt`. No tree is higher than 1,000, and each keeps its height (`specs/Height.antt`).
 
+use crate::height::stmts_height;
 use crate::operators::{BinaryOp, UnaryOp};
 use crate::units::Units;
 use crate::whole::Whole;
 use std::marker::Model;
 use std::rc::Rc;
 
-/// An expression (section 11).
+/// An expression (section 11), made by `Expr::new`.
 #[cycle(syntax)]
 #[derive(Drop)]
 pub struct Expr {
     pub node: ExprNode,
+    height: u64,
 }
 
 /// The kinds of expressions. Parentheses make no node.
@@ -50,13 +52,14 @@ pub enum ExprNode {
     Comma(Vec<Expr>),
 }
 
-/// A function's name, formals and body (section 13).
+/// A function's name, formals and body (section 13), made by `Code::new`.
 #[cycle(syntax)]
 #[derive(Drop)]
 pub struct Code {
     pub name: Option<Units>,
     pub formals: Vec<Units>,
     pub body: Vec<Stmt>,
+    height: u64,
 }
 
 /// A name that a `var` declares, with its initialiser.
@@ -92,11 +95,12 @@ pub struct Catch {
     pub body: Vec<Stmt>,
 }
 
-/// A statement (section 12), or a function declaration.
+/// A statement (section 12), or a function declaration, made by `Stmt::new`.
 #[cycle(syntax)]
 #[derive(Drop)]
 pub struct Stmt {
     pub node: StmtNode,
+    height: u64,
 }
 
 /// The kinds of statements. The body of an `If`, `Do`, `While`, `For` or `ForIn` is a block's list, or the one
@@ -157,10 +161,10 @@ impl Model for Expr {
 
     ghost view = { λ e. expr_of e.node };
 
-    ghost use Rattle.std.specs.Prelude.{◌≤◌};
+    ghost use Rattle.std.specs.Prelude.{◌≡◌, ◌≤◌};
     ghost use Rattle.js_core.specs.Height.{expr_height};
 
-    ghost invariant = { λ e. expr_height (expr_of e.node) ≤ 1000 };
+    ghost invariant = { λ e. (expr_height (expr_of e.node) ≡ e.height) × (e.height ≤ 1000) };
 
     ghost size = { expr_size };
 
@@ -182,10 +186,10 @@ impl Model for Code {
 
     ghost view = { λ c. code c.name c.formals.items (stmts_of c.body.items) };
 
-    ghost use Rattle.std.specs.Prelude.{◌≤◌};
+    ghost use Rattle.std.specs.Prelude.{◌≡◌, ◌≤◌};
     ghost use Rattle.js_core.specs.Height.{stmts_height};
 
-    ghost invariant = { λ c. stmts_height (stmts_of c.body.items) ≤ 1000 };
+    ghost invariant = { λ c. (stmts_height (stmts_of c.body.items) ≡ c.height) × (c.height ≤ 1000) };
 
     ghost size = { code_size };
 
@@ -207,10 +211,10 @@ impl Model for Stmt {
 
     ghost view = { λ s. stmt_of s.node };
 
-    ghost use Rattle.std.specs.Prelude.{◌≤◌};
+    ghost use Rattle.std.specs.Prelude.{◌≡◌, ◌≤◌};
     ghost use Rattle.js_core.specs.Height.{stmt_height};
 
-    ghost invariant = { λ s. stmt_height (stmt_of s.node) ≤ 1000 };
+    ghost invariant = { λ s. (stmt_height (stmt_of s.node) ≡ s.height) × (s.height ≤ 1000) };
 
     ghost size = { stmt_size };
 
@@ -235,4 +239,77 @@ impl Model for Script {
     ghost use Rattle.js_core.specs.Height.{stmts_height};
 
     ghost invariant = { λ s. stmts_height (stmts_of s.body.items) ≤ 1000 };
+}
+
+impl Expr {
+    ghost use Rattle.std.specs.Prelude.{◌≡◌, ◌≤◌};
+    ghost use Rattle.js_core.specs.Height.{expr_height};
+    ghost use Rattle.js_core.specs.Views.{expr_of};
+
+    /// The expression with this node. The time is that of its direct parts.
+    pub fn new(node: ExprNode) -> Expr
+        requires { expr_height (expr_of node) ≤ 1000 }
+        ensures { result ≡ expr_of node }
+    {
+        let height = node.height();
+        Expr { node, height }
+    }
+
+    /// The height of the expression, which is kept. No memory.
+    pub fn height(&self) -> u64
+        ensures exact { result ≡ expr_height self.now }
+        ensures small { expr_height self.now ≤ 1000 }
+    {
+        self.height
+    }
+}
+
+impl Code {
+    ghost use Rattle.std.specs.Prelude.{◌≡◌, ◌≤◌};
+    ghost use Rattle.js_core.specs.Height.{code_height};
+    ghost use Rattle.js_core.specs.Tree.{code, stmts_of};
+
+    /// The function with this name, these formals and this body. The time is that of the body's statements.
+    pub fn new(name: Option<Units>, formals: Vec<Units>, body: Vec<Stmt>) -> Code
+        ensures { result ≡ code name formals.items (stmts_of body.items) }
+    {
+        let height = stmts_height(body.as_slice());
+        Code {
+            name,
+            formals,
+            body,
+            height,
+        }
+    }
+
+    /// The height of the highest statement of the body, or 0 where there is none, which is kept. No memory.
+    pub fn height(&self) -> u64
+        ensures exact { result ≡ code_height self.now }
+        ensures small { code_height self.now ≤ 1000 }
+    {
+        self.height
+    }
+}
+
+impl Stmt {
+    ghost use Rattle.std.specs.Prelude.{◌≡◌, ◌≤◌};
+    ghost use Rattle.js_core.specs.Height.{stmt_height};
+    ghost use Rattle.js_core.specs.Views.{stmt_of};
+
+    /// The statement with this node. The time is that of its direct parts.
+    pub fn new(node: StmtNode) -> Stmt
+        requires { stmt_height (stmt_of node) ≤ 1000 }
+        ensures { result ≡ stmt_of node }
+    {
+        let height = node.height();
+        Stmt { node, height }
+    }
+
+    /// The height of the statement, which is kept. No memory.
+    pub fn height(&self) -> u64
+        ensures exact { result ≡ stmt_height self.now }
+        ensures small { stmt_height self.now ≤ 1000 }
+    {
+        self.height
+    }
 }

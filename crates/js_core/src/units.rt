@@ -1,12 +1,12 @@
 //! Texts of 16-bit units.
 
-ghost use Rattle.std.specs.Prelude.{◌≡◌, ◌++◌, IfOk, OnOk, OnErr, bytes_eq};
+ghost use Rattle.std.specs.Prelude.{◌≡◌, ◌<◌, ◌^◌, ◌++◌, length, IfOk, OnOk, OnErr, bytes_eq};
 ghost use Rattle.std.specs.Cmp.Rules.{comparing, hashing};
 ghost use Rattle.std.specs.Hash as fed;
 ghost use Rattle.std.specs.List.{list_any};
 ghost use Rattle.std.proofs.Common.{rules};
 ghost use Rattle.js_core.specs.LineText.{line_text};
-ghost use Rattle.js_core.specs.Text.{utf16_of};
+ghost use Rattle.js_core.specs.Text.{AllUnits, utf16_of};
 
 use crate::line_text::{push_line_text, truncate_on_error};
 use crate::memory::OutOfMemory;
@@ -92,9 +92,13 @@ impl Units {
 
     /// The units, without memory.
     pub fn as_slice(&self) -> &[u16]
-        ensures { result.now ≡ self.now }
+        ensures value { result.now ≡ self.now }
+        ensures units { AllUnits self.now }
+        ensures short { length self.now < 2 ^ 64 }
     {
-        self.units.as_slice()
+        let units = self.units.as_slice();
+        let _length = units.len();
+        units
     }
 
     /// Appends the text as it stands in a line: a backslash is doubled, the units 0000 to 001F and 007F to 009F and the

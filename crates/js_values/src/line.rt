@@ -1,12 +1,12 @@
 //! The lines that a page puts out.
 
 ghost use Rattle.std.specs.Prelude.{◌≡◌, [], ◌++◌, length, OnOk, OnErr, take, if◌then◌else◌, codes};
-ghost use Rattle.js_core.specs.Line.{kind_words, has_text, line_of};
+ghost use Rattle.js_values.specs.Line.{kind_words, has_text, line_of};
 ghost use Rattle.js_core.specs.LineText.{line_text};
 
-use crate::line_text::{push_line_text, truncate_on_error};
-use crate::memory::OutOfMemory;
-use crate::units::Units;
+use js_core::line_text::{push_line_text, truncate_on_error};
+use js_core::memory::OutOfMemory;
+use js_core::units::Units;
 
 /// What a line tells, which its first words say.
 #[derive(Clone, Copy, Debug, PartialEq, Eq)]

@@ -2,9 +2,9 @@
 use Rattle.std.specs.Prelude.{ℕ, Bool, true, false, List, [], ◌∷◌, ◌++◌, codes, if◌then◌else◌}
 use Rattle.std.specs.List.{flat_map}
 use Rattle.js_core.specs.LineText.{line_text}
-use Rattle.js_core.specs.declared.line.Line.{Line}
-use Rattle.js_core.specs.declared.line.LineKind.{LineKind}
-use Rattle.js_core.specs.declared.line.LineKind.TheVariants.{Log, Alert, Uncaught, Dom, Stopped, NoElement}
+use Rattle.js_values.specs.declared.line.Line.{Line}
+use Rattle.js_values.specs.declared.line.LineKind.{LineKind}
+use Rattle.js_values.specs.declared.line.LineKind.TheVariants.{Log, Alert, Uncaught, Dom, Stopped, NoElement}
 
 -- the words of a kind
 abbrev pub kind_words : LineKind → List ℕ

@@ -1,11 +1,11 @@
 //! The errors that the language and its host throw.
 
 ghost use Rattle.std.specs.Prelude.{◌≡◌, ◌++◌, IfOk, OnOk};
-ghost use Rattle.js_core.specs.Throw.{error_name_of, message_of, thrown_text};
+ghost use Rattle.js_values.specs.Throw.{code_of, kind_of, kind_name, message_of, thrown_text};
 
-use crate::ascii::push_ascii;
-use crate::memory::OutOfMemory;
-use crate::units::Units;
+use js_core::ascii::push_ascii;
+use js_core::memory::OutOfMemory;
+use js_core::units::Units;
 use std::alloc::Global;
 
 /// What is wrong where an error is thrown. It fixes the error's `name` and `message`.
@@ -50,6 +50,33 @@ pub enum Throw {
     UnspecifiedEventType,
 }
 
+/// The kind of an error, whose constructor and prototype it has (ECMA-262 5.1 section 15.11).
+#[derive(Clone, Copy, Debug, PartialEq, Eq)]
+pub enum ErrorKind {
+    /// Error
+    Plain,
+    /// TypeError
+    Type,
+    /// RangeError
+    Range,
+    /// ReferenceError
+    Reference,
+}
+
+impl ErrorKind {
+    /// The name of the kind's constructor, which is the `name` of its errors.
+    pub fn name(self) -> &'static [u8]
+        ensures { result.now ≡ kind_name self }
+    {
+        match self {
+            ErrorKind::Plain => b"Error",
+            ErrorKind::Type => b"TypeError",
+            ErrorKind::Range => b"RangeError",
+            ErrorKind::Reference => b"ReferenceError",
+        }
+    }
+}
+
 impl Throw {
     /// The error's `message`.
     pub fn message(&self, alloc: Global) -> Result<Units, OutOfMemory>
@@ -65,7 +92,7 @@ impl Throw {
         ensures { IfOk result (λ text. text ≡ thrown_text self.now) }
     {
         let mut units = Vec::new(alloc);
-        push_ascii(self.error_name(), &mut units)?;
+        push_ascii(self.kind().name(), &mut units)?;
         push_ascii(b": ", &mut units)?;
         self.push_message(&mut units)?;
         Units::of(alloc, units.as_slice())
@@ -79,11 +106,12 @@ impl Throw {
         push_ascii(words, out)
     }
 
-    fn error_name(&self) -> &'static [u8]
-        ensures { result.now ≡ error_name_of self.now }
+    /// The kind of the error.
+    pub fn kind(&self) -> ErrorKind
+        ensures { result ≡ kind_of self.now }
     {
         match self {
-            Throw::NotDefined(_) => b"ReferenceError",
+            Throw::NotDefined(_) => ErrorKind::Reference,
             Throw::NotFunction
             | Throw::NoProperties
             | Throw::CannotSet
@@ -91,15 +119,29 @@ impl Throw {
             | Throw::CannotDelete
             | Throw::NoPrimitive
             | Throw::NotObject
-            | Throw::WrongArgument => b"TypeError",
+            | Throw::WrongArgument => ErrorKind::Type,
             Throw::OutOfRange | Throw::TextTooLong | Throw::InvalidLength | Throw::TooDeep => {
-                b"RangeError"
+                ErrorKind::Range
             }
             Throw::Hierarchy
             | Throw::InvalidCharacter
             | Throw::NotFound
             | Throw::NotSupported
-            | Throw::UnspecifiedEventType => b"Error",
+            | Throw::UnspecifiedEventType => ErrorKind::Plain,
+        }
+    }
+
+    /// The error's own `code`, which the errors of the host alone have (DOM Level 2 Core and Events).
+    pub fn code(&self) -> Option<u8>
+        ensures { result ≡ code_of self.now }
+    {
+        match self {
+            Throw::Hierarchy => Some(3),
+            Throw::InvalidCharacter => Some(5),
+            Throw::NotFound => Some(8),
+            Throw::NotSupported => Some(9),
+            Throw::UnspecifiedEventType => Some(0),
+            _ => None,
         }
     }
 
