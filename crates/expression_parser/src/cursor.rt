@@ -346,7 +346,7 @@ fn atom_in(kind: &TokenKind, sign: Option<Sign>) -> Result<Expr, ParseFault>
             None => return Err(ParseFault::NotScript),
         },
     };
-    Ok(Expr { node })
+    Ok(Expr::new(node))
 }
 
 /// Whether the sign is `++` (`true`) or `--` (`false`).

@@ -111,7 +111,7 @@ impl<
     }
 
     /// Reads all that goes on with a left-hand side.
-    fn suffixes(
+    pub(crate) fn suffixes(
         &self,
         calls: bool,
         mut left: Expr,

@@ -10,6 +10,7 @@ pub mod binary;
 pub mod cursor;
 pub mod fault;
 pub mod grammar;
+mod groups;
 pub mod height;
 pub mod left;
 pub mod lists;

@@ -7,7 +7,8 @@ ghost use Rattle.js_grammar.specs.Operators as operators;
 ghost use Rattle.expression_parser.specs.Inside.{Builds};
 
 use crate::fault::ParseFault;
-use crate::height::{bound_stmts, check_height, exprs_height, fields_height, holes_height};
+use crate::height::check_height;
+use js_core::height::{exprs_height, fields_height, holes_height};
 use js_core::operators::{BinaryOp, UnaryOp};
 use js_core::syntax::{Code, Expr, ExprNode, Stmt};
 use js_core::units::Units;
@@ -20,9 +21,7 @@ pub fn list(elements: Vec<Option<Expr>>) -> Result<Expr, ParseFault>
     ensures { Builds (tree.list (holes_of elements.items)) result }
 {
     check_height(holes_height(elements.as_slice()) + 1)?;
-    Ok(Expr {
-        node: ExprNode::List(elements),
-    })
+    Ok(Expr::new(ExprNode::List(elements)))
 }
 
 /// An object literal.
@@ -30,21 +29,14 @@ pub fn literal(fields: Vec<(Units, Expr)>) -> Result<Expr, ParseFault>
     ensures { Builds (tree.literal (fields_of fields.items)) result }
 {
     check_height(fields_height(fields.as_slice()) + 1)?;
-    Ok(Expr {
-        node: ExprNode::Literal(fields),
-    })
+    Ok(Expr::new(ExprNode::Literal(fields)))
 }
 
 /// A function's name, formals and body.
 pub fn procedure(name: Option<Units>, formals: Vec<Units>, body: Vec<Stmt>) -> Code
     ensures { result ≡ code name formals.items (stmts_of body.items) }
 {
-    bound_stmts(body.as_slice());
-    Code {
-        name,
-        formals,
-        body,
-    }
+    Code::new(name, formals, body)
 }
 
 /// A function expression.
@@ -52,9 +44,7 @@ pub fn function(alloc: Global, code: Code) -> Result<Expr, ParseFault>
     ensures { Builds (tree.func code) result }
 {
     check_height(code.height() + 1)?;
-    Ok(Expr {
-        node: ExprNode::Func(Rc::new(alloc, code)?),
-    })
+    Ok(Expr::new(ExprNode::Func(Rc::new(alloc, code)?)))
 }
 
 /// A property named by a word.
@@ -62,9 +52,7 @@ pub fn member(alloc: Global, left: Expr, name: Units) -> Result<Expr, ParseFault
     ensures { Builds (tree.member left name) result }
 {
     check_height(left.height() + 1)?;
-    Ok(Expr {
-        node: ExprNode::Member(Box::new(alloc, left)?, name),
-    })
+    Ok(Expr::new(ExprNode::Member(Box::new(alloc, left)?, name)))
 }
 
 /// A property named by an expression.
@@ -72,9 +60,7 @@ pub fn index(alloc: Global, left: Expr, name: Expr) -> Result<Expr, ParseFault>
     ensures { Builds (tree.index left name) result }
 {
     check_height(left.height().max(name.height()) + 1)?;
-    Ok(Expr {
-        node: ExprNode::Index(Box::new(alloc, left)?, Box::new(alloc, name)?),
-    })
+    Ok(Expr::new(ExprNode::Index(Box::new(alloc, left)?, Box::new(alloc, name)?)))
 }
 
 /// A call.
@@ -82,9 +68,7 @@ pub fn call(alloc: Global, callee: Expr, arguments: Vec<Expr>) -> Result<Expr, P
     ensures { Builds (tree.call callee (exprs_of arguments.items)) result }
 {
     check_height(callee.height().max(exprs_height(arguments.as_slice())) + 1)?;
-    Ok(Expr {
-        node: ExprNode::Call(Box::new(alloc, callee)?, arguments),
-    })
+    Ok(Expr::new(ExprNode::Call(Box::new(alloc, callee)?, arguments)))
 }
 
 /// A `new`.
@@ -92,9 +76,7 @@ pub fn construct(alloc: Global, callee: Expr, arguments: Vec<Expr>) -> Result<Ex
     ensures { Builds (tree.construct callee (exprs_of arguments.items)) result }
 {
     check_height(callee.height().max(exprs_height(arguments.as_slice())) + 1)?;
-    Ok(Expr {
-        node: ExprNode::New(Box::new(alloc, callee)?, arguments),
-    })
+    Ok(Expr::new(ExprNode::New(Box::new(alloc, callee)?, arguments)))
 }
 
 /// An operator before its operand.
@@ -111,9 +93,7 @@ fn unary(alloc: Global, op: UnaryOp, operand: Expr) -> Result<Expr, ParseFault>
     ensures { Builds (tree.unary op operand) result }
 {
     check_height(operand.height() + 1)?;
-    Ok(Expr {
-        node: ExprNode::Unary(op, Box::new(alloc, operand)?),
-    })
+    Ok(Expr::new(ExprNode::Unary(op, Box::new(alloc, operand)?)))
 }
 
 /// `++` where `up`, else `--`, before its target where `prefix`, else after it.
@@ -121,13 +101,11 @@ pub fn update(alloc: Global, up: bool, prefix: bool, target: Expr) -> Result<Exp
     ensures { Builds (tree.update up prefix target) result }
 {
     check_height(target.height() + 1)?;
-    Ok(Expr {
-        node: ExprNode::Update {
-            up,
-            prefix,
-            target: Box::new(alloc, target)?,
-        },
-    })
+    Ok(Expr::new(ExprNode::Update {
+        up,
+        prefix,
+        target: Box::new(alloc, target)?,
+    }))
 }
 
 /// An operator between two operands.
@@ -145,27 +123,21 @@ fn either(alloc: Global, left: Expr, right: Expr) -> Result<Expr, ParseFault>
     ensures { Builds (tree.logical_or left right) result }
 {
     check_height(left.height().max(right.height()) + 1)?;
-    Ok(Expr {
-        node: ExprNode::Or(Box::new(alloc, left)?, Box::new(alloc, right)?),
-    })
+    Ok(Expr::new(ExprNode::Or(Box::new(alloc, left)?, Box::new(alloc, right)?)))
 }
 
 fn both(alloc: Global, left: Expr, right: Expr) -> Result<Expr, ParseFault>
     ensures { Builds (tree.logical_and left right) result }
 {
     check_height(left.height().max(right.height()) + 1)?;
-    Ok(Expr {
-        node: ExprNode::And(Box::new(alloc, left)?, Box::new(alloc, right)?),
-    })
+    Ok(Expr::new(ExprNode::And(Box::new(alloc, left)?, Box::new(alloc, right)?)))
 }
 
 fn binary(alloc: Global, op: BinaryOp, left: Expr, right: Expr) -> Result<Expr, ParseFault>
     ensures { Builds (tree.binary op left right) result }
 {
     check_height(left.height().max(right.height()) + 1)?;
-    Ok(Expr {
-        node: ExprNode::Binary(op, Box::new(alloc, left)?, Box::new(alloc, right)?),
-    })
+    Ok(Expr::new(ExprNode::Binary(op, Box::new(alloc, left)?, Box::new(alloc, right)?)))
 }
 
 /// A `? :`.
@@ -173,13 +145,11 @@ pub fn conditional(alloc: Global, test: Expr, left: Expr, right: Expr) -> Result
     ensures { Builds (tree.conditional test left right) result }
 {
     check_height(test.height().max(left.height().max(right.height())) + 1)?;
-    Ok(Expr {
-        node: ExprNode::Cond(
-            Box::new(alloc, test)?,
-            Box::new(alloc, left)?,
-            Box::new(alloc, right)?,
-        ),
-    })
+    Ok(Expr::new(ExprNode::Cond(
+        Box::new(alloc, test)?,
+        Box::new(alloc, left)?,
+        Box::new(alloc, right)?,
+    )))
 }
 
 /// An assignment: `None` is `=`, an operator its compound assignment.
@@ -192,9 +162,7 @@ pub fn assign(
     ensures { Builds (tree.assign op target value) result }
 {
     check_height(target.height().max(value.height()) + 1)?;
-    Ok(Expr {
-        node: ExprNode::Assign(op, Box::new(alloc, target)?, Box::new(alloc, value)?),
-    })
+    Ok(Expr::new(ExprNode::Assign(op, Box::new(alloc, target)?, Box::new(alloc, value)?)))
 }
 
 /// Expressions with commas between them.
@@ -202,7 +170,5 @@ pub fn comma(parts: Vec<Expr>) -> Result<Expr, ParseFault>
     ensures { Builds (tree.comma (exprs_of parts.items)) result }
 {
     check_height(exprs_height(parts.as_slice()) + 1)?;
-    Ok(Expr {
-        node: ExprNode::Comma(parts),
-    })
+    Ok(Expr::new(ExprNode::Comma(parts)))
 }

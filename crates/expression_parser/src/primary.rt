@@ -53,27 +53,19 @@ impl<
         match word {
             Keyword::This => {
                 tokens.skip();
-                Ok(Expr {
-                    node: ExprNode::This,
-                })
+                Ok(Expr::new(ExprNode::This))
             }
             Keyword::Null => {
                 tokens.skip();
-                Ok(Expr {
-                    node: ExprNode::Null,
-                })
+                Ok(Expr::new(ExprNode::Null))
             }
             Keyword::True => {
                 tokens.skip();
-                Ok(Expr {
-                    node: ExprNode::Bool(true),
-                })
+                Ok(Expr::new(ExprNode::Bool(true)))
             }
             Keyword::False => {
                 tokens.skip();
-                Ok(Expr {
-                    node: ExprNode::Bool(false),
-                })
+                Ok(Expr::new(ExprNode::Bool(false)))
             }
             Keyword::Function => {
                 tokens.skip();

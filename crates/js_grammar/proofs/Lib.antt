@@ -1,7 +1,9 @@
 mod BinaryReads
 mod BinarySound
 mod Booleans
+pub mod Callers
 mod Complete
+mod Continues
 mod DeclarationReads
 mod DeclarationsHold
 mod EndsHold
@@ -11,6 +13,7 @@ mod ExpressionShapes
 mod ExpressionSound
 mod ForReads
 mod ForSound
+mod GivenSymbols
 mod Heights
 mod Holds
 mod Inner
@@ -20,6 +23,8 @@ mod LeftSound
 mod ListShapes
 mod ListsHold
 mod ListsRead
+mod PartedExpressions
+mod PartedScripts
 mod PrimaryReads
 mod PrimarySound
 mod ReadingIsGrammar
@@ -33,4 +38,6 @@ mod StatementShapes
 mod StatementSound
 mod Steps
 mod Stops
+mod SyntaxExpressions
+mod SyntaxScripts
 mod Worked

@@ -1,12 +1,14 @@
 -- Where a statement ends without a semicolon (section 7.9).
-use Rattle.std.specs.Prelude.{Bool, true, false, not, ◌&&◌, ◌||◌, List, [], ◌∷◌, Option, Some}
+use Rattle.std.specs.Prelude.{◌≡◌, Bool, true, false, not, ◌&&◌, ◌||◌, List, [], ◌∷◌, Option, Some}
 use Rattle.js_core.specs.declared.token.Punct.TheVariants as p
 pub use Rattle.js_grammar.specs.declared.ending.Ending.{Ending}
 pub use Rattle.js_grammar.specs.declared.ending.Ending.TheVariants.{AfterExpression as after_expression, AfterName as after_name, AfterAll as after_all}
 use Rattle.js_core.specs.declared.keyword.Keyword.TheVariants as kw
 use Rattle.js_grammar.specs.declared.sign.Sign.{Sign}
 use Rattle.js_grammar.specs.declared.sign.Sign.TheVariants.{Mark, Word}
-use Rattle.js_grammar.specs.Symbols.{Lexeme}
+use Rattle.js_core.specs.declared.token.TokenKind.{TokenKind}
+use Rattle.js_lexer.specs.Directives as directives
+use Rattle.js_grammar.specs.Symbols.{Lexeme, symbol_of}
 use Rattle.js_grammar.specs.Operators.{climbs, is_later, is_suffix}
 use Rattle.js_grammar.specs.Parser.{sign_of, is_sign}
 
@@ -49,3 +51,7 @@ abbrev pub is_excluded : Option Sign → Bool
 is_excluded (Some (Mark p.LeftBrace)) = true
 is_excluded (Some (Word kw.Function)) = true
 is_excluded s = false
+
+-- what goes on with an expression in a list of directives goes on with it in the grammar
+abbrev pub ContinuingIsOne : Type 0
+ContinuingIsOne = (k : TokenKind) → directives.continues k ≡ continues (after_expression true) (sign_of (symbol_of k))

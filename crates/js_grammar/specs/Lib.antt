@@ -4,6 +4,7 @@ pub mod ExpressionExamples
 pub mod ExpressionReader
 pub mod Expressions
 pub mod HeightExamples
+pub mod LineEnds
 pub mod Operators
 pub mod Parser
 pub mod Phrases
@@ -13,3 +14,4 @@ pub mod StatementExamples
 pub mod StatementReader
 pub mod Statements
 pub mod Symbols
+pub mod Syntax

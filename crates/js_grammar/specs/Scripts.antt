@@ -1,14 +1,17 @@
 -- Scripts: expressions, statements and bodies of functions tied together, by how deep they nest.
-use Rattle.std.specs.Prelude.{◌≡◌, ℕ, zero, suc, ◌≤◌, Bool, List, []}
+use Rattle.std.specs.Prelude.{◌≡◌, ℕ, zero, suc, ◌≤◌, Bool, IsTrue, List, []}
+use Rattle.std.specs.List.{All}
 use Rattle.js_core.specs.Tree as tree
 use Rattle.js_core.specs.Tree.{stmts_of}
 use Rattle.js_core.specs.Height.{stmts_height}
 use Rattle.js_core.specs.declared.token.Token.{Token}
+use Rattle.js_lexer.specs.Written.{can_be_written}
 use Rattle.js_grammar.specs.Symbols.{lexemes}
 use Rattle.js_grammar.specs.Operators.{Level}
 use Rattle.js_grammar.specs.Phrases.{Phrase}
 use Rattle.js_grammar.specs.Expressions.{AtLevel}
 use Rattle.js_grammar.specs.Statements.{Statement, Elements}
+use Rattle.js_grammar.specs.Syntax.{IsSyntax}
 
 -- what stands inside something else
 pub data Part : Type 0 where
@@ -41,3 +44,7 @@ height_limit = 440
 -- the script of these tokens, which is no higher than the limit
 abbrev pub ScriptOf : ℕ → List Token → tree.Stmts → Type 0
 ScriptOf limit tokens script = Derives tokens script × (stmts_height script ≤ limit)
+
+-- the tree that tokens derive, each of which can be written, keeps the rules on trees
+abbrev pub TokensHaveSyntax : Type 0
+TokensHaveSyntax = (tokens : List Token) (script : tree.Stmts) → All (λ t. IsTrue (can_be_written t.what)) tokens → Derives tokens script → IsSyntax script

@@ -3,11 +3,13 @@
 ghost use Rattle.std.specs.Prelude.{◌≡◌, List, Some, None};
 ghost use Rattle.js_core.specs.Tree as tree;
 ghost use Rattle.js_core.specs.declared.token.Token.{Token};
+ghost use Rattle.js_grammar.specs.Endings.{ContinuingIsOne};
 ghost use Rattle.js_grammar.specs.Examples.{AreRead};
 ghost use Rattle.js_grammar.specs.ExpressionExamples as expressions;
 ghost use Rattle.js_grammar.specs.HeightExamples as heights;
+ghost use Rattle.js_grammar.specs.LineEnds.{LineEndsAreHarmless};
 ghost use Rattle.js_grammar.specs.ScriptReader.{read_script};
-ghost use Rattle.js_grammar.specs.Scripts.{Derives, ScriptOf, height_limit};
+ghost use Rattle.js_grammar.specs.Scripts.{Derives, ScriptOf, height_limit, TokensHaveSyntax};
 ghost use Rattle.js_grammar.specs.StatementExamples as statements;
 
 /// Reading is the grammar, for scripts that are no higher than 440: what is read is a script of the tokens, each script of
@@ -21,6 +23,24 @@ pub fn law_reading_is_the_grammar()
 /// Tokens have at most one script, of whatever height.
 pub fn law_one_script()
     ensures { (tokens : List Token) (s t : tree.Stmts) → Derives tokens s → Derives tokens t → s ≡ t }
+{}
+
+/// The tree that tokens derive keeps the rules on trees (`IsSyntax`), where each of the tokens can be written. That each tree
+/// that keeps them has such tokens is the printer's law.
+pub fn law_derived_trees_are_syntax()
+    ensures { TokensHaveSyntax }
+{}
+
+/// Line ends between the symbols of a script are harmless behind `{` and `;`, before `}`, and behind a `}` where no `++` or `--`
+/// follows: tokens with more of them derive the same script (section 7.9).
+pub fn law_line_ends_are_harmless()
+    ensures { LineEndsAreHarmless }
+{}
+
+/// What goes on with an expression is said once for directives (section 14.1) and once for statements (section 7.9): the two
+/// tables are one.
+pub fn law_one_table_of_what_goes_on()
+    ensures { ContinuingIsOne }
 {}
 
 /// The examples that were worked by hand are read as they say.

@@ -6,3 +6,4 @@ pub mod Reading
 pub mod Separators
 pub mod Strings
 pub mod Tokens
+pub mod Written

@@ -11,3 +11,4 @@ mod strings;
 #[cfg(test)]
 mod tests;
 pub mod tokens;
+mod words;

@@ -13,6 +13,7 @@ use crate::numbers::{literal_len, value_of};
 use crate::punctuators::punctuator;
 use crate::separators::behind_gap;
 use crate::strings::string;
+use crate::words::Words;
 use js_core::memory::OutOfMemory;
 use js_core::token::{Token, TokenKind};
 use js_core::units::Units;
@@ -33,13 +34,14 @@ fn tokens_of(alloc: Global, text: &[u16]) -> Result<Vec<Token>, LexFault>
     ensures refused { IsErrOf result LexFault.NotTokens → (tokens : List PureToken) → Tokens text.now tokens → ⊥ }
 {
     let mut tokens = Vec::new(alloc);
+    let mut words = Words::new(alloc)?;
     let mut rest = text;
     loop {
         let (after_line, start) = behind_gap(rest);
         if start.is_empty() {
             return Ok(tokens);
         }
-        let (what, behind) = token(alloc, start)?;
+        let (what, behind) = token(alloc, &mut words, start)?;
         tokens.push(Token {
             what,
             start: (text.len() - start.len()) as u64,
@@ -51,7 +53,11 @@ fn tokens_of(alloc: Global, text: &[u16]) -> Result<Vec<Token>, LexFault>
 }
 
 /// The longest token with which the text begins, and what stands behind it.
-fn token(alloc: Global, text: &[u16]) -> Result<(TokenKind, &[u16]), LexFault>
+fn token<'a>(
+    alloc: Global,
+    words: &mut Words,
+    text: &'a [u16],
+) -> Result<(TokenKind, &'a [u16]), LexFault>
     ensures read { IfOk result (λ split. TokenAt text.now split.1.now split.0) }
     ensures shorter { IfOk result (λ split. length split.1.now < length text.now) }
     ensures refused { IsErrOf result LexFault.NotTokens → (rest : List ℕ) (what : PureKind) → TokenAt text.now rest what → ⊥ }
@@ -66,7 +72,7 @@ fn token(alloc: Global, text: &[u16]) -> Result<(TokenKind, &[u16]), LexFault>
         return number(text).ok_or(LexFault::NotTokens);
     }
     if is_identifier_start(*unit) {
-        return Ok(word(alloc, text)?);
+        return Ok(word(words, text)?);
     }
     punctuator_token(text).ok_or(LexFault::NotTokens)
 }
@@ -86,13 +92,13 @@ fn string_token(alloc: Global, text: &[u16]) -> Result<(TokenKind, &[u16]), LexF
 }
 
 /// The word with which the text begins.
-fn word(alloc: Global, text: &[u16]) -> Result<(TokenKind, &[u16]), OutOfMemory>
+fn word<'a>(words: &mut Words, text: &'a [u16]) -> Result<(TokenKind, &'a [u16]), OutOfMemory>
     requires { characters.begins_with characters.is_identifier_start text.now ≡ true }
     ensures read { IfOk result (λ split. TokenAt text.now split.1.now split.0) }
     ensures shorter { IfOk result (λ split. length split.1.now < length text.now) }
 {
     let (word, behind) = text.split_at(word_len(text));
-    Ok((TokenKind::Word(Units::of(alloc, word)?), behind))
+    Ok((TokenKind::Word(words.text_of(word)?), behind))
 }
 
 /// How many units of the text may stand in an identifier.

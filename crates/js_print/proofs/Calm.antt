@@ -407,7 +407,7 @@ mutual
 
   case_label_calm : (e : tree.MaybeExpr) → Calm (case_label_lexemes e)
   case_label_calm no_expr = behind _ refl (one _ refl)
-  case_label_calm (one_expr e) = behind _ refl (both (in_place Whole e _ (expr_calm e)) (one _ refl))
+  case_label_calm (one_expr e) = behind _ refl (both (in_place Part e _ (expr_calm e)) (one _ refl))
 
   cases_calm : (cs : tree.Cases) → Calm (cases_lexemes cs)
   cases_calm no_cases = nothing

@@ -18,8 +18,7 @@ use Rattle.js_print.specs.declared.lexeme.Lexeme.{Lexeme}
 use Rattle.js_print.specs.declared.lexeme.Lexeme.TheVariants.{Punct}
 use Rattle.js_print.specs.Lexemes.{stmt_lexemes, stmts_lexemes}
 use Rattle.js_print.specs.Places.{parenthesised, braced as in_braces}
-use Rattle.js_print.specs.ReadBack.{Keeps}
-use Rattle.js_print.proofs.PrintedSymbols.{before, before_both, first, Opens, opens, AreKept, kept_both}
+use Rattle.js_print.proofs.PrintedSymbols.{Keeps, before, before_both, first, Opens, opens, AreKept, kept_both}
 use Rattle.js_print.proofs.PrintedReads.{Exp, Body, Stm, Reads, inside, Each, many_first}
 use Rattle.js_print.proofs.PrintedExpressions.{is_branch}
 

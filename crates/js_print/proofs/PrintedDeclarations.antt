@@ -17,10 +17,9 @@ use Rattle.js_print.specs.declared.lexeme.Lexeme.TheVariants.{Name, Punct}
 use Rattle.js_print.specs.declared.place.Place.TheVariants.{Part, Whole}
 use Rattle.js_print.specs.Lexemes.{expr_lexemes, stmts_lexemes, initialiser_lexemes, declarators_lexemes, maybe_whole_lexemes, init_lexemes, case_label_lexemes, cases_lexemes}
 use Rattle.js_print.specs.Places.{placed}
-use Rattle.js_print.specs.ReadBack.{Keeps}
-use Rattle.js_print.proofs.PrintedSymbols.{before, before_both, AreKept, kept_both, IsIdentifier}
+use Rattle.js_print.proofs.PrintedSymbols.{Keeps, before, before_both, AreKept, kept_both, IsIdentifier}
 use Rattle.js_print.proofs.PrintedReads.{Exp, Body, Stm, Reads, ReadsUpTo, Each, many_first, separated_first}
-use Rattle.js_print.proofs.PrintedPlaces.{Printed, placed_kept, part_of, whole_of}
+use Rattle.js_print.proofs.PrintedPlaces.{Printed, placed_kept, part_of, part_whole, whole_of}
 use Rattle.js_print.proofs.PrintedLists.{PrintedHole}
 use Rattle.js_print.proofs.PrintedExpressions.{is_branch}
 use Rattle.js_print.proofs.PrintedBlocks.{PrintedStatement, all_kept, all_read}
@@ -90,7 +89,7 @@ module _ (Ok : TokenKind → Type 0) (keeps : Keeps Ok) where
 
   label_kept : (o : Option tree.Expr) → PrintedHole Ok keeps o → AreKept Ok (case_label_lexemes (maybe_expr o))
   label_kept None h = (keeps.words keyword.Default, (keeps.marks punct.Colon, tt))
-  label_kept (Some a) h = (keeps.words keyword.Case, kept_both Ok (placed Whole a (expr_lexemes a)) _ (placed_kept Ok keeps Whole h) (keeps.marks punct.Colon, tt))
+  label_kept (Some a) h = (keeps.words keyword.Case, kept_both Ok (placed Part a (expr_lexemes a)) _ (placed_kept Ok keeps Part h) (keeps.marks punct.Colon, tt))
 
   pub cases_kept : (cs : List Clause) → Each PrintedClause cs → AreKept Ok (cases_lexemes (cases_from cs))
   cases_kept [] h = tt
@@ -108,7 +107,7 @@ module _ (Ok : TokenKind → Type 0) (keeps : Keeps Ok) where
       let r = cases_read cs h.1 in
       record { room = s.room + r.room; read = λ d z le. rw (before_both (stmts_lexemes (stmts_of ss)) (cases_lexemes (cases_from cs)) (mark punct.RightBrace false ∷ z)) (many_first (default (s.read d _ (omega arith) (cases_begin cs z))) (r.read d z (omega arith))) }
   cases_read ((Some a, ss) ∷ cs) h =
-      let w = whole_of Ok keeps true h.0.0 in
+      let w = part_whole Ok keeps h.0.0 in
       let s = all_read Ok keeps ss h.0.1 in
       let r = cases_read cs h.1 in
-      record { room = w.1.room + (s.room + r.room); read = λ d z le. rw (before_both (placed Whole a (expr_lexemes a) ++ Punct punct.Colon ∷ []) (stmts_lexemes (stmts_of ss) ++ cases_lexemes (cases_from cs)) (mark punct.RightBrace false ∷ z), before_both (placed Whole a (expr_lexemes a)) (Punct punct.Colon ∷ []), before_both (stmts_lexemes (stmts_of ss)) (cases_lexemes (cases_from cs)) (mark punct.RightBrace false ∷ z)) (many_first (case (w.1.read d _ (omega arith)) (s.read d _ (omega arith) (cases_begin cs z))) (r.read d z (omega arith))) }
+      record { room = w.1.room + (s.room + r.room); read = λ d z le. rw (before_both (placed Part a (expr_lexemes a) ++ Punct punct.Colon ∷ []) (stmts_lexemes (stmts_of ss) ++ cases_lexemes (cases_from cs)) (mark punct.RightBrace false ∷ z), before_both (placed Part a (expr_lexemes a)) (Punct punct.Colon ∷ []), before_both (stmts_lexemes (stmts_of ss)) (cases_lexemes (cases_from cs)) (mark punct.RightBrace false ∷ z)) (many_first (case (w.1.read d _ (omega arith)) (s.read d _ (omega arith) (cases_begin cs z))) (r.read d z (omega arith))) }

@@ -31,8 +31,8 @@ use Rattle.js_print.specs.declared.place.Place.TheVariants.{Operand, Base, Const
 use Rattle.js_print.specs.Lexemes.{maybe_name, names, expr_lexemes, parts_lexemes, holes_lexemes, fields_lexemes, code_lexemes, stmts_lexemes}
 use Rattle.js_print.specs.Operators.{unary_lexeme, update_punct, binary_lexeme, assign_punct}
 use Rattle.js_print.specs.Places.{begins_as_statement, placed, parenthesised, braced}
-use Rattle.js_print.specs.ReadBack.{Keeps, kind_of}
-use Rattle.js_print.proofs.PrintedSymbols.{before, before_both, Opens, opens, opens_both, AreKept, kept_both, IsIdentifier, IsName}
+use Rattle.js_print.specs.ReadBack.{kind_of}
+use Rattle.js_print.proofs.PrintedSymbols.{Keeps, before, before_both, Opens, opens, opens_both, AreKept, kept_both, IsIdentifier, IsName}
 use Rattle.js_print.proofs.PrintedSigns.{infix_sign, prefix_sign, prefix_opens, step_prefix, step_opens, step_sign}
 use Rattle.js_print.proofs.PrintedReads.{Exp, Body, Members, Assignments, Reads, Each, inside, left_of_member, lower, binary_of_unary, binary_of_member}
 use Rattle.js_print.proofs.PrintedPlaces.{Printed, of_assignment, of_member, placed_kept, operand_opens, base_opens, part_opens, operand, base, constructor, operand_inside, operand_part, part_of, part_inside, part_alone}

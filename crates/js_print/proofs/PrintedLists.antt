@@ -14,8 +14,7 @@ use Rattle.js_print.specs.declared.lexeme.Lexeme.TheVariants.{Punct}
 use Rattle.js_print.specs.declared.place.Place.TheVariants.{Part}
 use Rattle.js_print.specs.Lexemes.{expr_lexemes, parts_lexemes, holes_lexemes, fields_lexemes, names}
 use Rattle.js_print.specs.Places.{placed}
-use Rattle.js_print.specs.ReadBack.{Keeps}
-use Rattle.js_print.proofs.PrintedSymbols.{before, before_both, AreKept, kept_both, IsIdentifier}
+use Rattle.js_print.proofs.PrintedSymbols.{Keeps, before, before_both, AreKept, kept_both, IsIdentifier}
 use Rattle.js_print.proofs.PrintedReads.{Exp, Body, Reads, ReadsUpTo, Each, many_first, separated_first}
 use Rattle.js_print.proofs.PrintedPlaces.{Printed, placed_kept, part_inside}
 

@@ -13,8 +13,7 @@ use Rattle.js_print.specs.declared.place.Place.{Place}
 use Rattle.js_print.specs.declared.place.Place.TheVariants.{Operand, Base, Constructor, Part, Whole, Statement}
 use Rattle.js_print.specs.Lexemes.{expr_lexemes}
 use Rattle.js_print.specs.Places.{is_simple, is_number, is_name, is_comma, is_in_test, is_braced, begins_as_statement, is_bare, placed, parenthesised}
-use Rattle.js_print.specs.ReadBack.{Keeps}
-use Rattle.js_print.proofs.PrintedSymbols.{before_both, Opens, opens, AreKept, kept_both}
+use Rattle.js_print.proofs.PrintedSymbols.{Keeps, before_both, Opens, opens, AreKept, kept_both}
 use Rattle.js_print.proofs.PrintedReads.{Exp, Body, Members, Assignments, Sequences, Reads, read_as, inside, binary_of_member, assignment_of_member, sequence_of_assignment}
 
 -- a binary `in` stands only where `in` is an operator
@@ -176,5 +175,8 @@ module _ (Ok : TokenKind → Type 0) (keeps : Keeps Ok) where
   part_inside p = let r = part_of p in (r.0, λ inn. inside (expression inn level.Assignment r.0) (r.1 inn))
 
   -- as a whole expression
+  pub part_whole : {a : tree.Expr} → Printed a → (g : Bool) × Reads (Sequences true g) (placed Part a (expr_lexemes a)) a
+  part_whole p = let r = part_of p in (r.0, read_as (Sequences true r.0) (λ d x z h. sequence_of_assignment (Exp d) (Body d) true h) (r.1 true))
+
   pub part_alone : {a : tree.Expr} → Printed a → (g : Bool) × Reads (λ d. Exp d true level.Sequence g) (placed Part a (expr_lexemes a)) a
-  part_alone p = let r = part_of p in (r.0, inside (expression true level.Sequence r.0) (read_as (Sequences true r.0) (λ d x z h. sequence_of_assignment (Exp d) (Body d) true h) (r.1 true)))
+  part_alone p = let r = part_whole p in (r.0, inside (expression true level.Sequence r.0) r.1)

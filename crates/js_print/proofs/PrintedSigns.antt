@@ -73,23 +73,3 @@ step_opens false xs = opens refl (λ e. refl)
 pub step_sign : (up : Bool) → step_of (Some (Mark (update_punct up))) ≡ Some up
 step_sign true = refl
 step_sign false = refl
-
-abbrev Signed : Option BinaryOp → Type 0
-Signed f = assignment_of (Some (Mark (assign_punct f))) ≡ Some f
-
--- an operator that has an assignment
-pub assignment_sign : (s : Sign) (f : Option BinaryOp) → assignment_of (Some s) ≡ Some f → assignment_of (Some (Mark (assign_punct f))) ≡ Some f
-assignment_sign (Mark punct.SimpleAssign) f e = let same : None ≡ f = cc in subst Signed same refl
-assignment_sign (Mark punct.PlusAssign) f e = let same : Some op2.Add ≡ f = cc in subst Signed same refl
-assignment_sign (Mark punct.MinusAssign) f e = let same : Some op2.Sub ≡ f = cc in subst Signed same refl
-assignment_sign (Mark punct.StarAssign) f e = let same : Some op2.Mul ≡ f = cc in subst Signed same refl
-assignment_sign (Mark punct.SlashAssign) f e = let same : Some op2.Div ≡ f = cc in subst Signed same refl
-assignment_sign (Mark punct.PercentAssign) f e = let same : Some op2.Rem ≡ f = cc in subst Signed same refl
-assignment_sign (Mark punct.ShiftLeftAssign) f e = let same : Some op2.Shl ≡ f = cc in subst Signed same refl
-assignment_sign (Mark punct.ShiftRightAssign) f e = let same : Some op2.Shr ≡ f = cc in subst Signed same refl
-assignment_sign (Mark punct.ShiftRightUnsignedAssign) f e = let same : Some op2.Ushr ≡ f = cc in subst Signed same refl
-assignment_sign (Mark punct.AmpersandAssign) f e = let same : Some op2.BitAnd ≡ f = cc in subst Signed same refl
-assignment_sign (Mark punct.VerticalBarAssign) f e = let same : Some op2.BitOr ≡ f = cc in subst Signed same refl
-assignment_sign (Mark punct.CaretAssign) f e = let same : Some op2.BitXor ≡ f = cc in subst Signed same refl
-assignment_sign (Mark _) f e = absurd (cc)
-assignment_sign (Word _) f e = absurd (cc)

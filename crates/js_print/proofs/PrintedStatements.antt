@@ -16,8 +16,7 @@ use Rattle.js_print.specs.declared.lexeme.Lexeme.TheVariants.{Keyword, Name, Pun
 use Rattle.js_print.specs.declared.place.Place.TheVariants.{Operand, Whole, Statement as Alone}
 use Rattle.js_print.specs.Lexemes.{expr_lexemes, stmts_lexemes, declarators_lexemes, maybe_whole_lexemes, init_lexemes, cases_lexemes}
 use Rattle.js_print.specs.Places.{placed, parenthesised, braced}
-use Rattle.js_print.specs.ReadBack.{Keeps}
-use Rattle.js_print.proofs.PrintedSymbols.{before, before_both, AreKept, kept_both, IsIdentifier}
+use Rattle.js_print.proofs.PrintedSymbols.{Keeps, before, before_both, AreKept, kept_both, IsIdentifier}
 use Rattle.js_print.proofs.PrintedReads.{Exp, Body, Stm, Each, left_of_member}
 use Rattle.js_print.proofs.PrintedPlaces.{Printed, placed_kept, whole_opens, statement_opens, operand, whole_of, statement_of}
 use Rattle.js_print.proofs.PrintedLists.{PrintedHole}

@@ -23,7 +23,7 @@ abbrev pub scan : Bool → List ℕ → Bool
 scan less [] = true
 scan less (u ∷ us) = not (less && (u == 47)) && scan (u == 60) us
 
-no_tag : (less : Bool) (text before after : List ℕ) → scan less text ≡ true → text ≢ before ++ (codes "</" ++ after)
+pub no_tag : (less : Bool) (text before after : List ℕ) → scan less text ≡ true → text ≢ before ++ (codes "</" ++ after)
 no_tag less [] [] after h e = absurd (cc)
 no_tag less [] (b ∷ before) after h e = absurd (cc)
 no_tag less (u ∷ us) [] after h e = clash less u us after h e
@@ -87,7 +87,7 @@ punct_scan : (p : Sign) (less : Bool) (rest : List ℕ) → not (less && begins_
 punct_scan p true rest n h = punct_behind_less p rest n h
 punct_scan p false rest n h = punct_behind_other p rest h
 
-lexeme_scan : (x : Lexeme) (less : Bool) (rest : List ℕ) → is_ordinary x ≡ true → not (less && begins_with_slash x) ≡ true → scan (ends_with_less x) rest ≡ true → scan less (lexeme_text x ++ rest) ≡ true
+pub lexeme_scan : (x : Lexeme) (less : Bool) (rest : List ℕ) → is_ordinary x ≡ true → not (less && begins_with_slash x) ≡ true → scan (ends_with_less x) rest ≡ true → scan less (lexeme_text x ++ rest) ≡ true
 lexeme_scan (Keyword k) less rest o n h = harmless_scan less (keyword_text k) rest (keyword_is_harmless k) h
 lexeme_scan (Name x) less rest o n h = harmless_scan less (lexeme_text (Name x)) rest o h
 lexeme_scan (Number z) less rest o n h = harmless_scan less (lexeme_text (Number z)) rest o h
@@ -95,7 +95,7 @@ lexeme_scan (Text x) less rest o n h = harmless_scan less (string_text x) rest (
 lexeme_scan (Punct p) less rest o n h = punct_scan p less rest n h
 
 -- a lexeme behind the space that it needs or not
-spaced_scan : (x : Lexeme) (after_word less : Bool) (rest : List ℕ) → is_ordinary x ≡ true → not (less && begins_with_slash x) ≡ true → scan (ends_with_less x) rest ≡ true → scan less (space_between after_word (is_word x) ++ (lexeme_text x ++ rest)) ≡ true
+pub spaced_scan : (x : Lexeme) (after_word less : Bool) (rest : List ℕ) → is_ordinary x ≡ true → not (less && begins_with_slash x) ≡ true → scan (ends_with_less x) rest ≡ true → scan less (space_between after_word (is_word x) ++ (lexeme_text x ++ rest)) ≡ true
 spaced_scan x after_word less rest o n h = by_words after_word (is_word x)
   where
     behind_space : (less : Bool) (more : Bool) → more ≡ true → (not (less && false) && more) ≡ true

@@ -6,6 +6,7 @@ use Rattle.std.proofs.lemmas.Bool.Decides.{nat_tests}
 use Rattle.std.proofs.lemmas.List.Sums.{list_all-from_AllPass}
 use Rattle.js_core.specs.Characters.{is_white_space, is_line_end}
 use Rattle.js_core.specs.Spelling.{keyword_text, punct_text}
+use Rattle.js_core.specs.Text.{utf16_of}
 use Rattle.js_core.specs.declared.token.Punct.{Punct as Sign}
 use Rattle.js_core.specs.declared.token.Punct.TheVariants as punct
 use Rattle.js_core.specs.declared.token.Token.{Token}
@@ -21,7 +22,7 @@ use Rattle.js_print.specs.declared.lexeme.Lexeme.{Lexeme}
 use Rattle.js_print.specs.declared.lexeme.Lexeme.TheVariants.{Keyword, Name, Number, Text, Punct}
 use Rattle.js_print.specs.ReadBack.{kind_of, AreTokensOf}
 use Rattle.js_print.specs.ReadBack.AreTokensOf.{none as none_of_them, more as more_of_them}
-use Rattle.js_print.specs.Spelling.{is_word, space_between}
+use Rattle.js_print.specs.Spelling.{is_word, space_between, text_after}
 use Rattle.js_print.specs.Written.{can_be_written, is_identifier_name, CanBeWritten, IsReadBack}
 use Rattle.js_print.proofs.Literals.{and_left, and_right}
 use Rattle.js_print.proofs.Neighbours.{refused_behind, has, meets, calm, start}
@@ -31,7 +32,7 @@ use Rattle.js_print.proofs.Units.{lexeme_units, units_after, are_written, text_i
 use Rattle.js_print.proofs.Words.{keyword_is_name, word_stands, no_gap_before_start, number_stands, decimal_begins, no_gap_before_digit}
 
 -- a unit that may not stand behind the lexeme
-abbrev refuses : Lexeme → ℕ → Bool
+abbrev pub refuses : Lexeme → ℕ → Bool
 refuses (Keyword k) u = is_identifier_part u
 refuses (Name x) u = is_identifier_part u
 refuses (Number n) u = is_refused_behind_number u
@@ -41,9 +42,9 @@ refuses (Punct p) u = has (refused_behind (Punct p)) u
 -- ---- one lexeme
 
 -- no white space, line end or comment stands where the lexeme does, and its token does
-record Read (x : Lexeme) (rest : List ℕ) : Type 0 where
-  no_gap : separator_of (lexeme_units x ++ rest) ≡ None
-  at : TokenAt (lexeme_units x ++ rest) rest (kind_of x)
+pub record Read (x : Lexeme) (rest : List ℕ) : Type 0 where
+  pub no_gap : separator_of (lexeme_units x ++ rest) ≡ None
+  pub at : TokenAt (lexeme_units x ++ rest) rest (kind_of x)
 
 quote_is_no_gap : (us : List ℕ) → separator_of (34 ∷ us) ≡ None
 unfolding separator_of is_white_space is_line_end
@@ -53,7 +54,7 @@ number_is_read : (n : Option _) (rest : List ℕ) → can_be_written (kind_of (N
 number_is_read (Some (pos n)) rest w ends = record { no_gap = no_gap_before_digit _ rest (decimal_begins n w); at = number_stands n rest w ends }
 number_is_read n rest w ends = absurd (cc)
 
-lexeme_is_read : (x : Lexeme) (rest : List ℕ) → can_be_written (kind_of x) ≡ true → begins_with (refuses x) rest ≡ false → Read x rest
+pub lexeme_is_read : (x : Lexeme) (rest : List ℕ) → can_be_written (kind_of x) ≡ true → begins_with (refuses x) rest ≡ false → Read x rest
 lexeme_is_read (Keyword k) rest w ends =
     record { no_gap = no_gap_before_start (keyword_text k) rest (and_left _ _ (keyword_is_name k)); at = word_stands (keyword_text k) rest (keyword_is_name k) ends }
 lexeme_is_read (Name x) rest w ends =
@@ -181,7 +182,7 @@ behind_sign p (Number n) more w h = number_ends_sign p n more w
 behind_sign p (Text t) more w h = quote_ends_sign p
 behind_sign p (Punct q) more w h = sign_ends_sign p q more h
 
-next : (x y : Lexeme) (more : List ℕ) → can_be_written (kind_of y) ≡ true → meets x y ≡ true → begins_with (refuses x) (space_between (is_word x) (is_word y) ++ (lexeme_units y ++ more)) ≡ false
+pub next : (x y : Lexeme) (more : List ℕ) → can_be_written (kind_of y) ≡ true → meets x y ≡ true → begins_with (refuses x) (space_between (is_word x) (is_word y) ++ (lexeme_units y ++ more)) ≡ false
 next (Keyword k) y more w h = behind_word y more
 next (Name x) y more w h = behind_word y more
 next (Number n) y more w h = behind_number n y more h
@@ -194,24 +195,24 @@ ends x (y ∷ ys) w c = next x y (units_after (is_word y) ys) (and_left _ _ w) (
 
 -- ---- all lexemes
 
-space_is_gap : (a b : Bool) (behind : List ℕ) → separator_of behind ≡ None → Gap (space_between a b ++ behind) behind false
+pub space_is_gap : (a b : Bool) (behind : List ℕ) → separator_of behind ≡ None → Gap (space_between a b ++ behind) behind false
 unfolding separator_of is_white_space
 space_is_gap true true behind e = gap_more (32 ∷ behind) behind behind false false refl (no_gap_more behind e)
 space_is_gap true false behind e = no_gap_more behind e
 space_is_gap false b behind e = no_gap_more behind e
 
-no_gap_at_end : separator_of [] ≡ None
+pub no_gap_at_end : separator_of [] ≡ None
 unfolding separator_of
 no_gap_at_end = refl
 
 -- the lexemes as tokens of the last part of a text of so many units
-abbrev tokens_from : ℕ → List Lexeme → List Token
+abbrev pub tokens_from : ℕ → List Lexeme → List Token
 tokens_from size [] = []
 tokens_from size (x ∷ xs) =
     record { what = kind_of x; start = size - length (lexeme_units x ++ units_after (is_word x) xs); end = size - length (units_after (is_word x) xs); after_line = false }
     ∷ tokens_from size xs
 
-are_tokens : (size : ℕ) (xs : List Lexeme) → AreTokensOf xs (tokens_from size xs)
+pub are_tokens : (size : ℕ) (xs : List Lexeme) → AreTokensOf xs (tokens_from size xs)
 are_tokens size [] = none_of_them
 are_tokens size (x ∷ xs) = more_of_them refl refl (are_tokens size xs)
 
@@ -223,9 +224,14 @@ has_tokens size (x ∷ xs) before after_word w c =
     token_more (units_after after_word (x ∷ xs)) (lexeme_units x ++ rest) rest false (kind_of x) (tokens_from size xs) (space_is_gap after_word (is_word x) (lexeme_units x ++ rest) read.no_gap) read.at
     (has_tokens size xs x (is_word x) (and_right _ _ w) (and_right (meets before x) _ c))
 
+pub calm_tokens : (xs : List Lexeme) → CanBeWritten xs → calm start xs ≡ true → Tokens (utf16_of (text_after false xs)) (tokens_from (length (units_after false xs)) xs)
+calm_tokens xs written c =
+    let w : are_written xs ≡ true = list_all-from_AllPass (λ x. can_be_written (kind_of x)) xs written in
+    let size = length (units_after false xs) in
+    subst (λ us. Tokens us (tokens_from size xs)) (sym (units_of_text xs w)) (has_tokens size xs start false w c)
+
 pub calm_is_read_back : (xs : List Lexeme) → CanBeWritten xs → calm start xs ≡ true → IsReadBack xs
 calm_is_read_back xs written c =
     let w : are_written xs ≡ true = list_all-from_AllPass (λ x. can_be_written (kind_of x)) xs written in
-    let units = units_after false xs in
-    let size = length units in
-    (text_is_utf8 xs w, (tokens_from size xs, subst (λ us. Tokens us (tokens_from size xs)) (sym (units_of_text xs w)) (has_tokens size xs start false w c), are_tokens size xs))
+    let size = length (units_after false xs) in
+    (text_is_utf8 xs w, (tokens_from size xs, calm_tokens xs written c, are_tokens size xs))

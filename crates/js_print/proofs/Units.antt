@@ -37,7 +37,7 @@ abbrev pub are_written : List Lexeme → Bool
 are_written xs = list_all (λ x. can_be_written (kind_of x)) xs
 
 -- a unit that is a character by itself
-abbrev is_single : ℕ → Bool
+abbrev pub is_single : ℕ → Bool
 is_single u = nat_lt u 0xD800 || (nat_le 0xE000 u && nat_lt u 0x10000)
 
 -- bytes that are the UTF-8 of units
@@ -45,7 +45,7 @@ pub record Coded (text units : List ℕ) : Type 0 where
   pub single : list_all is_single units ≡ true
   pub coded : text ≡ encode_utf8_all units
 
-both_coded : (t u s v : List ℕ) → Coded t u → Coded s v → Coded (t ++ s) (u ++ v)
+pub both_coded : (t u s v : List ℕ) → Coded t u → Coded s v → Coded (t ++ s) (u ++ v)
 both_coded t u s v a b = record {
   single = list_all-append is_single u v ∙ and_both _ _ a.single b.single;
   coded = ap (λ x. x ++ s) a.coded ∙ ap (λ x. encode_utf8_all u ++ x) b.coded ∙ sym (encodes-append u v);
@@ -59,7 +59,7 @@ low_is_single u e = grind (arith, nat_tests)
 low_is_one : (u : ℕ) → nat_lt u 128 ≡ true → encode_utf8 u ≡ u ∷ []
 low_is_one u e = let l : u < 128 = grind (arith, nat_tests) in encode_ascii u l
 
-ascii_is_coded : (us : List ℕ) → is_ascii_text us ≡ true → Coded us us
+pub ascii_is_coded : (us : List ℕ) → is_ascii_text us ≡ true → Coded us us
 ascii_is_coded [] e = record { single = refl; coded = refl }
 ascii_is_coded (u ∷ us) e =
     let l = and_left (nat_lt u 128) _ e in
@@ -107,7 +107,7 @@ number_is_coded : (n : Option _) → can_be_written (kind_of (Number n)) ≡ tru
 number_is_coded (Some (pos n)) w = ascii_is_coded (decimal n) (digits_are_low (decimal n) (decimal_has_digits n w))
 number_is_coded n w = absurd (cc)
 
-lexeme_is_coded : (x : Lexeme) → can_be_written (kind_of x) ≡ true → Coded (lexeme_text x) (lexeme_units x)
+pub lexeme_is_coded : (x : Lexeme) → can_be_written (kind_of x) ≡ true → Coded (lexeme_text x) (lexeme_units x)
 lexeme_is_coded (Keyword k) w = ascii_is_coded _ (lexeme_is_ascii (Keyword k) refl)
 lexeme_is_coded (Name x) w =
     let parts = and_right _ _ (and_left (is_identifier_name x) _ w) in
@@ -117,7 +117,7 @@ lexeme_is_coded (Number n) w = number_is_coded n w
 lexeme_is_coded (Text x) w = ascii_is_coded _ (lexeme_is_ascii (Text x) refl)
 lexeme_is_coded (Punct p) w = ascii_is_coded _ (lexeme_is_ascii (Punct p) refl)
 
-text_is_coded : (xs : List Lexeme) (after_word : Bool) → are_written xs ≡ true → Coded (text_after after_word xs) (units_after after_word xs)
+pub text_is_coded : (xs : List Lexeme) (after_word : Bool) → are_written xs ≡ true → Coded (text_after after_word xs) (units_after after_word xs)
 text_is_coded [] after_word w = record { single = refl; coded = refl }
 text_is_coded (x ∷ xs) after_word w =
     both_coded (space_between after_word (is_word x)) (space_between after_word (is_word x)) _ _ (ascii_is_coded _ (space_is_ascii after_word (is_word x)))
@@ -128,7 +128,7 @@ text_is_coded (x ∷ xs) after_word w =
 single_is_scalar : (u : ℕ) → is_single u ≡ true → scalar u ≡ true
 single_is_scalar u e = grind (arith, nat_tests)
 
-all_scalars : (us : List ℕ) → list_all is_single us ≡ true → scalars us ≡ true
+pub all_scalars : (us : List ℕ) → list_all is_single us ≡ true → scalars us ≡ true
 all_scalars [] e = refl
 all_scalars (u ∷ us) e = and_both _ _ (single_is_scalar u (and_left _ _ e)) (all_scalars us (and_right _ _ e))
 
@@ -138,7 +138,7 @@ single_is_unit u e = grind (arith, nat_tests)
 one_unit : (u : ℕ) → is_single u ≡ true → encode_utf16 u ≡ u ∷ []
 one_unit u e = let l = single_is_unit u e in rw l refl
 
-units_alone : (us : List ℕ) → list_all is_single us ≡ true → flat_map encode_utf16 us ≡ us
+pub units_alone : (us : List ℕ) → list_all is_single us ≡ true → flat_map encode_utf16 us ≡ us
 units_alone [] e = refl
 units_alone (u ∷ us) e = ap (λ x. x ++ flat_map encode_utf16 us) (one_unit u (and_left _ _ e)) ∙ ap (λ x. u ∷ x) (units_alone us (and_right (is_single u) _ e))
 

@@ -1,11 +1,12 @@
--- The laws of printed texts: they have no end tag, and are ASCII but for names.
+-- The laws of printed texts: they have no end tag and no control character, and are ASCII but for names.
 use Rattle.std.specs.Prelude.{◌≢◌, ◌<◌, nat_lt, ℕ, Bool, true, false, not, ◌&&◌, ◌==◌, IsTrue, List, [], ◌∷◌, ◌++◌, codes}
 use Rattle.std.specs.List.{All, list_all}
-use Rattle.js_core.specs.LineText.{line_text}
+use Rattle.js_core.specs.LineText.{is_escaped, line_text}
+use Rattle.js_core.specs.Text.{utf16_of}
 use Rattle.js_core.specs.Tree as tree
 use Rattle.js_print.specs.declared.lexeme.Lexeme.{Lexeme}
 use Rattle.js_print.specs.declared.lexeme.Lexeme.TheVariants.{Name, Number}
-use Rattle.js_print.specs.Lexemes.{code_lexemes, stmts_lexemes}
+use Rattle.js_grammar.specs.Syntax.{IsCode, IsSyntax}
 use Rattle.js_print.specs.Printing.{script_text, code_text}
 use Rattle.js_print.specs.Spelling.{number_text, text_of}
 
@@ -24,14 +25,27 @@ is_ordinary (Name x) = is_harmless (line_text x)
 is_ordinary (Number n) = is_harmless (number_text n)
 is_ordinary x = true
 
-abbrev pub are_ordinary : List Lexeme → Bool
-are_ordinary lexemes = list_all is_ordinary lexemes
-
 abbrev pub ScriptsHaveNoEndTag : Type 0
-ScriptsHaveNoEndTag = (script : tree.Stmts) → IsTrue (are_ordinary (stmts_lexemes script)) → HasNoEndTag (script_text script)
+ScriptsHaveNoEndTag = (script : tree.Stmts) → IsSyntax script → HasNoEndTag (script_text script)
 
 abbrev pub CodesHaveNoEndTag : Type 0
-CodesHaveNoEndTag = (c : tree.Code) → IsTrue (are_ordinary (code_lexemes c)) → HasNoEndTag (code_text c)
+CodesHaveNoEndTag = (c : tree.Code) → IsCode c → HasNoEndTag (code_text c)
+
+-- ---- control characters
+
+-- a unit that stands for itself in a line: no control character, U+0000 to U+001F or U+007F to U+009F, and no surrogate
+abbrev pub is_free : ℕ → Bool
+is_free u = not (is_escaped u)
+
+-- no unit of the text is a control character, so none is U+0000 or a line end
+abbrev pub HasNoControl : List ℕ → Type 0
+HasNoControl text = IsTrue (list_all is_free (utf16_of text))
+
+abbrev pub ScriptsHaveNoControl : Type 0
+ScriptsHaveNoControl = (script : tree.Stmts) → IsSyntax script → HasNoControl (script_text script)
+
+abbrev pub CodesHaveNoControl : Type 0
+CodesHaveNoControl = (c : tree.Code) → IsCode c → HasNoControl (code_text c)
 
 -- ---- ASCII
 

@@ -160,7 +160,7 @@ abbrev mutual
   -- `case` with its expression, or `default`
   pub case_label_lexemes : tree.MaybeExpr → List Lexeme
   case_label_lexemes no_expr = Keyword keyword.Default ∷ Punct punct.Colon ∷ []
-  case_label_lexemes (one_expr e) = Keyword keyword.Case ∷ (placed Whole e (expr_lexemes e) ++ Punct punct.Colon ∷ [])
+  case_label_lexemes (one_expr e) = Keyword keyword.Case ∷ (placed Part e (expr_lexemes e) ++ Punct punct.Colon ∷ [])
 
   pub cases_lexemes : tree.Cases → List Lexeme
   cases_lexemes no_cases = []

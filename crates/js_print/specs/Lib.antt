@@ -1,5 +1,6 @@
 pub mod Laws
 pub mod Lexemes
+pub mod Lined
 pub mod Operators
 pub mod Places
 pub mod Printing

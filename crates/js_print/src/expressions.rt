@@ -10,6 +10,7 @@ ghost use Rattle.js_print.specs.declared.lexeme.Lexeme.TheVariants as lexeme;
 ghost use Rattle.js_print.specs.declared.place.Place.TheVariants.{Operand, Part};
 ghost use Rattle.js_print.specs.Lexemes as spec;
 ghost use Rattle.js_print.specs.Places.{placed, parenthesised};
+ghost use Rattle.js_print.specs.Printing.{unnamed};
 
 use crate::lexeme::Lexeme;
 use crate::operators::{assign_punct, binary_lexeme, unary_lexeme, update_punct};
@@ -290,6 +291,15 @@ fn push_field(name: &Units, value: &Expr, out: &mut Vec<Lexeme>) -> Result<(), O
     push_text(name, out)?;
     push_punct(Punct::Colon, out)?;
     push_placed(Place::Part, value, out)
+}
+
+/// Appends the lexemes of a function without its name.
+pub fn push_unnamed_code(code: &Code, out: &mut Vec<Lexeme>) -> Result<(), OutOfMemory>
+    ensures { OnOk result (out.new.items ≡ out.old.items ++ spec.code_lexemes (unnamed code.now)) }
+{
+    push_keyword(Keyword::Function, out)?;
+    push_formals(code.formals.as_slice(), out)?;
+    push_body(code.body.as_slice(), out)
 }
 
 /// Appends the lexemes of a function.

@@ -1,25 +1,32 @@
 //! The printed text of scripts and functions.
 
-ghost use Rattle.std.specs.Prelude.{◌≡◌, ◌≤◌, ◌+◌, ◌++◌, ℕ, List, codes, max, take, length, IfOk, OnOk, OnErr};
+ghost use Rattle.std.specs.Prelude.{◌≡◌, ◌≤◌, ◌+◌, ◌++◌, max, IfOk, OnOk, OnErr};
 ghost use Rattle.js_core.specs.Height.{expr_height, exprs_height, maybe_expr_height, code_height, stmt_height};
 ghost use Rattle.js_core.specs.Tree.{exprs_of, maybe_expr};
 ghost use Rattle.js_core.specs.Views.{stmt_of};
-ghost use Rattle.js_print.specs.Laws.{ScriptsHaveNoEndTag, CodesHaveNoEndTag, TextIsAscii};
-ghost use Rattle.js_print.specs.Printing.{script_text, code_text};
-ghost use Rattle.js_print.specs.ReadAgain.{IsReadAgain, declaration, function_expression};
+ghost use Rattle.js_print.specs.Laws.{ScriptsHaveNoEndTag, CodesHaveNoEndTag, ScriptsHaveNoControl, CodesHaveNoControl, TextIsAscii};
+ghost use Rattle.js_print.specs.Printing.{script_text, code_text, unnamed};
+ghost use Rattle.js_print.specs.ReadAgain.{Appended, IsReadAgain, IsDeclared, IsExpressed};
 
-use crate::expressions::push_code;
+use crate::expressions::{push_code, push_unnamed_code};
 use crate::spelling::push_lexemes;
 use crate::statements::push_statements;
 use js_core::memory::OutOfMemory;
 use js_core::syntax::{Code, Script};
 use std::alloc::Global;
 
-/// The law that no printed text has an end tag: where names and numbers are spelled as identifiers and tokens are, no `<`
-/// stands before a `/`, so that the text can stand in a `script` element.
+/// The law that no printed text has an end tag: where the tree keeps the rules on trees, no `<` stands before a `/`, so that
+/// the text can stand in a `script` element.
 pub fn printed_text_has_no_end_tag()
     ensures scripts { ScriptsHaveNoEndTag }
     ensures codes { CodesHaveNoEndTag }
+{}
+
+/// The law that no printed text of a tree that keeps the rules on trees has a control character (U+0000 to U+001F, U+007F to
+/// U+009F) or a lone surrogate.
+pub fn printed_text_has_no_control_character()
+    ensures scripts { ScriptsHaveNoControl }
+    ensures codes { CodesHaveNoControl }
 {}
 
 /// The law that a printed text is ASCII but for its names.
@@ -29,13 +36,13 @@ pub fn printed_text_is_ascii()
 
 /// Appends the text of a script (ECMA-262 5.1 section 14): its tokens with one space between two exactly where the first
 /// ends and the second begins with an identifier character, every body in braces, and `;` after every statement that
-/// needs one. Where the tokens of some text derive the script, the tokens of the printed text derive it again: of other trees
-/// a text is printed that need not be a script. After an error a part of the text may be appended.
+/// needs one. Where the script keeps the rules on trees, the tokens of the printed text derive it again: of other trees a text
+/// is printed that need not be a script. After an error nothing is appended.
 #[tactic(auto, using(crate::proofs::ReadAgain::printed_script))]
 pub fn print(alloc: Global, script: &Script, out: &mut Vec<u8>) -> Result<(), OutOfMemory>
     ensures ok { OnOk result (out.new.items ≡ out.old.items ++ script_text script.now) }
-    ensures read_back { OnOk result ((printed : List ℕ) → out.new.items ≡ out.old.items ++ printed → IsReadAgain script.now printed) }
-    ensures err { OnErr result (take (length out.old.items) out.new.items ≡ out.old.items) }
+    ensures read_back { OnOk result (Appended (IsReadAgain script.now) out.old.items out.new.items) }
+    ensures err { OnErr result (out.new.items ≡ out.old.items) }
 {
     let mut lexemes = Vec::new(alloc);
     push_statements(script.body.as_slice(), &mut lexemes)?;
@@ -43,17 +50,30 @@ pub fn print(alloc: Global, script: &Script, out: &mut Vec<u8>) -> Result<(), Ou
 }
 
 /// Appends the text of a function, `function name(formals){body}`, as a script has it (section 13). By itself it is read
-/// again as the declaration that it is printed of, and in parentheses as the function expression. After an error a part of
-/// the text may be appended.
+/// again as the declaration that it is printed of, and in parentheses as the function expression. After an error nothing is
+/// appended.
 #[tactic(auto, using(crate::proofs::ReadAgain::printed_declaration, crate::proofs::ReadAgain::printed_expression))]
 pub fn print_code(alloc: Global, code: &Code, out: &mut Vec<u8>) -> Result<(), OutOfMemory>
     ensures ok { OnOk result (out.new.items ≡ out.old.items ++ code_text code.now) }
-    ensures declared { OnOk result ((printed : List ℕ) → out.new.items ≡ out.old.items ++ printed → IsReadAgain (declaration code.now) printed) }
-    ensures expressed { OnOk result ((printed : List ℕ) → out.new.items ≡ out.old.items ++ printed → IsReadAgain (function_expression code.now) (codes "(" ++ (printed ++ codes ");"))) }
-    ensures err { OnErr result (take (length out.old.items) out.new.items ≡ out.old.items) }
+    ensures declared { OnOk result (Appended (IsDeclared code.now) out.old.items out.new.items) }
+    ensures expressed { OnOk result (Appended (IsExpressed code.now) out.old.items out.new.items) }
+    ensures err { OnErr result (out.new.items ≡ out.old.items) }
 {
     let mut lexemes = Vec::new(alloc);
     push_code(code, &mut lexemes)?;
+    push_lexemes(lexemes.as_slice(), out)
+}
+
+/// Appends the text of a function without its name, `function(formals){body}`: the expression that makes what a declaration
+/// declares (section 13.2). In parentheses it is read again so. After an error nothing is appended.
+#[tactic(auto, using(crate::proofs::ReadAgain::printed_expression))]
+pub fn print_unnamed(alloc: Global, code: &Code, out: &mut Vec<u8>) -> Result<(), OutOfMemory>
+    ensures ok { OnOk result (out.new.items ≡ out.old.items ++ code_text (unnamed code.now)) }
+    ensures expressed { OnOk result (Appended (IsExpressed (unnamed code.now)) out.old.items out.new.items) }
+    ensures err { OnErr result (out.new.items ≡ out.old.items) }
+{
+    let mut lexemes = Vec::new(alloc);
+    push_unnamed_code(code, &mut lexemes)?;
     push_lexemes(lexemes.as_slice(), out)
 }
 
@@ -71,34 +91,26 @@ mod tests {
     fn name(alloc: Global, text: &str) -> Result<Expr, Fail>
         ensures { IfOk result (λ e. expr_height e ≡ 1) }
     {
-        Ok(Expr {
-            node: ExprNode::Name(Units::from_utf8(alloc, text)?),
-        })
+        Ok(Expr::new(ExprNode::Name(Units::from_utf8(alloc, text)?)))
     }
 
     fn number(value: i64) -> Result<Expr, Fail>
         ensures { IfOk result (λ e. expr_height e ≡ 1) }
     {
-        Ok(Expr {
-            node: ExprNode::Num(Whole::new(value).ok_or("no number")?),
-        })
+        Ok(Expr::new(ExprNode::Num(Whole::new(value).ok_or("no number")?)))
     }
 
     fn text(alloc: Global, units: &[u16]) -> Result<Expr, Fail>
         ensures { IfOk result (λ e. expr_height e ≡ 1) }
     {
-        Ok(Expr {
-            node: ExprNode::Text(Units::of(alloc, units)?),
-        })
+        Ok(Expr::new(ExprNode::Text(Units::of(alloc, units)?)))
     }
 
     fn unary(alloc: Global, op: UnaryOp, operand: Expr) -> Result<Expr, Fail>
         requires { expr_height operand ≤ 100 }
         ensures { IfOk result (λ e. expr_height e ≡ expr_height operand + 1) }
     {
-        Ok(Expr {
-            node: ExprNode::Unary(op, Box::new(alloc, operand)?),
-        })
+        Ok(Expr::new(ExprNode::Unary(op, Box::new(alloc, operand)?)))
     }
 
     fn binary(alloc: Global, left: Expr, op: BinaryOp, right: Expr) -> Result<Expr, Fail>
@@ -106,9 +118,7 @@ mod tests {
         requires right { expr_height right ≤ 100 }
         ensures { IfOk result (λ e. expr_height e ≡ max (expr_height left) (expr_height right) + 1) }
     {
-        Ok(Expr {
-            node: ExprNode::Binary(op, Box::new(alloc, left)?, Box::new(alloc, right)?),
-        })
+        Ok(Expr::new(ExprNode::Binary(op, Box::new(alloc, left)?, Box::new(alloc, right)?)))
     }
 
     fn two(alloc: Global, first: Expr, second: Expr) -> Result<Vec<Expr>, Fail>
@@ -126,9 +136,7 @@ mod tests {
     fn one_two(alloc: Global) -> Result<Expr, Fail>
         ensures { IfOk result (λ e. expr_height e ≡ 2) }
     {
-        Ok(Expr {
-            node: ExprNode::Comma(two(alloc, number(1)?, number(2)?)?),
-        })
+        Ok(Expr::new(ExprNode::Comma(two(alloc, number(1)?, number(2)?)?)))
     }
 
     // `[,element]`, or `[,]` where there is none
@@ -139,9 +147,7 @@ mod tests {
         let mut elements = Vec::new(alloc);
         elements.push(None)?;
         elements.push(element)?;
-        Ok(Expr {
-            node: ExprNode::List(elements),
-        })
+        Ok(Expr::new(ExprNode::List(elements)))
     }
 
     // `[,1]["k"]`
@@ -150,9 +156,7 @@ mod tests {
     {
         let list = hole_and(alloc, Some(number(1)?))?;
         let key = text(alloc, &[0x6B])?;
-        Ok(Expr {
-            node: ExprNode::Index(Box::new(alloc, list)?, Box::new(alloc, key)?),
-        })
+        Ok(Expr::new(ExprNode::Index(Box::new(alloc, list)?, Box::new(alloc, key)?)))
     }
 
     // `test?0:other`
@@ -162,9 +166,7 @@ mod tests {
         ensures { IfOk result (λ e. expr_height e ≤ expr_height other + 2) }
     {
         let zero = Box::new(alloc, number(0)?)?;
-        Ok(Expr {
-            node: ExprNode::Cond(Box::new(alloc, test)?, zero, Box::new(alloc, other)?),
-        })
+        Ok(Expr::new(ExprNode::Cond(Box::new(alloc, test)?, zero, Box::new(alloc, other)?)))
     }
 
     fn assigned(alloc: Global, target: &str, value: Expr) -> Result<Expr, Fail>
@@ -172,16 +174,14 @@ mod tests {
         ensures { IfOk result (λ e. expr_height e ≤ 201) }
     {
         let target = Box::new(alloc, name(alloc, target)?)?;
-        Ok(Expr {
-            node: ExprNode::Assign(None, target, Box::new(alloc, value)?),
-        })
+        Ok(Expr::new(ExprNode::Assign(None, target, Box::new(alloc, value)?)))
     }
 
     fn alone(alloc: Global, node: StmtNode) -> Result<Script, Fail>
         requires { stmt_height (stmt_of node) ≤ 500 }
     {
         let mut body = Vec::new(alloc);
-        body.push(Stmt { node })?;
+        body.push(Stmt::new(node))?;
         Ok(Script { body })
     }
 
@@ -227,7 +227,7 @@ mod tests {
         prints(&rt, assigned(alloc, "a", one_two(alloc)?)?, "a=(1,2)")?;
         prints(&rt, hole_and(alloc, None)?, "[,,]")?;
         let empty = ExprNode::Literal(Vec::new(alloc));
-        prints(&rt, Expr { node: empty }, "({})")
+        prints(&rt, Expr::new(empty), "({})")
     }
 
     #[test]
@@ -258,13 +258,9 @@ mod tests {
         formals.push(Units::from_utf8(alloc, "a")?)?;
         formals.push(Units::from_utf8(alloc, "b")?)?;
         let mut body = Vec::new(alloc);
-        body.push(Stmt { node })?;
+        body.push(Stmt::new(node))?;
         let name = Some(Units::from_utf8(alloc, "f")?);
-        Ok(Code {
-            name,
-            formals,
-            body,
-        })
+        Ok(Code::new(name, formals, body))
     }
 
     #[test]
@@ -275,7 +271,10 @@ mod tests {
         let mut out = Vec::new(alloc);
         print_code(alloc, &code, &mut out)?;
         assert_eq!(rt; out.as_slice(), b"function f(a,b){return a;}".as_slice());
+        let mut out = Vec::new(alloc);
+        print_unnamed(alloc, &code, &mut out)?;
+        assert_eq!(rt; out.as_slice(), b"function(a,b){return a;}".as_slice());
         let node = ExprNode::Func(Rc::new(alloc, code)?);
-        prints(&rt, Expr { node }, "(function f(a,b){return a;})")
+        prints(&rt, Expr::new(node), "(function f(a,b){return a;})")
     }
 }

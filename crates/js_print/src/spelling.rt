@@ -6,12 +6,23 @@ ghost use Rattle.js_print.specs.Spelling as spec;
 use crate::lexeme::Lexeme;
 use crate::strings::push_string;
 use itoa::Buffer;
+use js_core::line_text::truncate_on_error;
 use js_core::memory::OutOfMemory;
 use js_core::whole::Whole;
 
 /// Appends the text of lexemes, with one space between two exactly where the first ends and the second begins with an
-/// identifier character. After an error a part of the text may be appended.
+/// identifier character. After an error nothing is appended.
 pub fn push_lexemes(lexemes: &[Lexeme], out: &mut Vec<u8>) -> Result<(), OutOfMemory>
+    ensures ok { OnOk result (out.new.items ≡ out.old.items ++ spec.text_of lexemes.now) }
+    ensures err { OnErr result (out.new.items ≡ out.old.items) }
+{
+    let length = out.len();
+    let pushed = push_each(lexemes, out);
+    truncate_on_error(out, length, pushed)
+}
+
+// After an error a part of the text may be appended.
+fn push_each(lexemes: &[Lexeme], out: &mut Vec<u8>) -> Result<(), OutOfMemory>
     ensures ok { OnOk result (out.new.items ≡ out.old.items ++ spec.text_of lexemes.now) }
     ensures err { OnErr result (take (length out.old.items) out.new.items ≡ out.old.items) }
 {

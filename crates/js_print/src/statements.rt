@@ -367,6 +367,6 @@ fn push_label(test: &Option<Expr>, out: &mut Vec<Lexeme>) -> Result<(), OutOfMem
         return push_punct(Punct::Colon, out);
     };
     push_keyword(Keyword::Case, out)?;
-    push_placed(Place::Whole, test, out)?;
+    push_placed(Place::Part, test, out)?;
     push_punct(Punct::Colon, out)
 }

@@ -1,6 +1,7 @@
 pub mod Beginnings
 pub mod Clauses
 pub mod Ends
+mod Groups
 pub mod Lists
 pub mod Turns
 pub mod Whole

@@ -1,4 +1,5 @@
 pub mod Beginnings
 pub mod Clauses
+pub mod Groups
 pub mod Inner
 pub mod Whole

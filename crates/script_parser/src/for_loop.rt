@@ -104,9 +104,7 @@ impl<
         if value.is_some() {
             return Err(ParseFault::NotScript);
         }
-        let target = Expr {
-            node: ExprNode::Name(name),
-        };
+        let target = Expr::new(ExprNode::Name(name));
         self.for_in(true, target, tokens)
     }
 

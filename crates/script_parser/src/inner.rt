@@ -53,10 +53,10 @@ impl<
 pub fn body_of(alloc: Global, statement: Stmt) -> Result<Vec<Stmt>, OutOfMemory>
     ensures { IfOk result (λ found. stmts_of found.items ≡ spec_body_of statement) }
 {
-    let Stmt { node } = statement;
+    let Stmt { node, .. } = statement;
     match node {
         StmtNode::Block(found) => Ok(found),
-        node => alone(alloc, Stmt { node }),
+        node => alone(alloc, Stmt::new(node)),
     }
 }
 

@@ -51,9 +51,7 @@ impl<
         if !is_bare {
             return self.returned(tokens);
         }
-        let statement = Stmt {
-            node: StmtNode::Return(None),
-        };
+        let statement = Stmt::new(StmtNode::Return(None));
         self.ended_as(statement, tokens)
     }
 

@@ -12,7 +12,5 @@ mod node;
 pub mod script;
 mod statement;
 mod switch;
-#[cfg(test)]
-mod tests;
 mod try_catch;
 mod variables;

@@ -60,18 +60,8 @@ impl<
             Keyword::Do => self.do_while(tokens),
             Keyword::While => self.while_loop(tokens),
             Keyword::For => self.for_statement(tokens),
-            Keyword::Continue => self.ended_as(
-                Stmt {
-                    node: StmtNode::Continue,
-                },
-                tokens,
-            ),
-            Keyword::Break => self.ended_as(
-                Stmt {
-                    node: StmtNode::Break,
-                },
-                tokens,
-            ),
+            Keyword::Continue => self.ended_as(Stmt::new(StmtNode::Continue), tokens),
+            Keyword::Break => self.ended_as(Stmt::new(StmtNode::Break), tokens),
             Keyword::Return => self.return_statement(tokens),
             Keyword::Throw => self.throw(tokens),
             Keyword::Try => self.tried(tokens),
@@ -108,9 +98,7 @@ impl<
             Some(Sign::Mark(Punct::LeftBrace)) => self.block(tokens),
             Some(Sign::Mark(Punct::Semicolon)) => {
                 tokens.skip();
-                Ok(Stmt {
-                    node: StmtNode::Empty,
-                })
+                Ok(Stmt::new(StmtNode::Empty))
             }
             _ => self.expressed(tokens),
         }
