@@ -8,12 +8,10 @@ ghost use Rattle.first_scripts.specs.Items as spec;
 use crate::name_table::names_of;
 use crate::name_use::items_are_declared;
 use crate::shapes::are_items;
+use js_core::limits::HEIGHT_LIMIT;
 use js_core::memory::OutOfMemory;
 use js_core::syntax::{Expr, ExprNode, Script, Stmt, StmtNode};
 use std::alloc::Global;
-
-/// No first script is higher.
-const HEIGHT_LIMIT: u64 = 440;
 
 /// Whether the script is one of the first pages': `"use strict";`, then variables, functions, assignments, log lines and
 /// calls of declared names, at most 440 high. `OutOfMemory` alone where memory ran out. The time is linear in the script.

@@ -7,5 +7,3 @@ pub mod name_form;
 mod name_table;
 mod name_use;
 mod shapes;
-#[cfg(test)]
-mod tests;

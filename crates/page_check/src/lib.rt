@@ -9,5 +9,3 @@ pub mod frame;
 pub mod laws;
 pub mod page;
 pub mod script;
-#[cfg(test)]
-mod tests;

@@ -35,7 +35,7 @@ pub enum Refusal {
     NotTokens(u64),
     /// Its tokens have no tree that is at most 440 high.
     NotScript(u64),
-    /// It does not begin with the strict directive.
+    /// Its directive prologue has no strict directive.
     NotStrict(u64),
     /// It breaks this early rule, and none with a lower number.
     Early(u64, EarlyRule),

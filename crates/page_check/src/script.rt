@@ -6,6 +6,7 @@ ghost use Rattle.page_check.specs.Accept.{IsPageScript, IsScriptFault};
 
 use crate::page::Kind;
 use expression_parser::fault::ParseFault;
+use js_core::limits::{FORM_HEIGHT_LIMIT, PLAIN_HEIGHT_LIMIT};
 use js_core::memory::OutOfMemory;
 use js_core::syntax::Script;
 use js_core::units::Units;
@@ -18,11 +19,6 @@ use scope_analysis::form::{has_high_function, has_reserved_name, in_form};
 use script_parser::script::script;
 use std::alloc::Global;
 
-/// The greatest height of the script of a plain page.
-const PLAIN_HEIGHT: u64 = 200;
-/// The greatest height of the script of a form page.
-const FORM_HEIGHT: u64 = 420;
-
 /// Why a text is not the script of a page, in the order in which the causes are tried.
 #[derive(Clone, Copy, Debug, PartialEq, Eq)]
 pub enum ScriptFault {
@@ -30,7 +26,7 @@ pub enum ScriptFault {
     NotTokens,
     /// Its tokens have no tree that is at most 440 high.
     NotScript,
-    /// It does not begin with the strict directive.
+    /// Its directive prologue has no strict directive.
     NotStrict,
     /// It breaks this early rule, and none with a lower number.
     Early(EarlyRule),
@@ -109,8 +105,8 @@ fn is_too_deep(alloc: Global, kind: Kind, script: &Script) -> Result<bool, OutOf
     ensures { IfOk result (λ deep. deep ≡ spec.is_too_deep kind script.now) }
 {
     match kind {
-        Kind::Plain => Ok(script.height() > PLAIN_HEIGHT),
-        Kind::Form => Ok(script.height() > FORM_HEIGHT || has_high_function(alloc, script)?),
+        Kind::Plain => Ok(script.height() > PLAIN_HEIGHT_LIMIT),
+        Kind::Form => Ok(script.height() > FORM_HEIGHT_LIMIT || has_high_function(alloc, script)?),
     }
 }
 

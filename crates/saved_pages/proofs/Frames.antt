@@ -1,64 +1,111 @@
 -- A saved page is the frame of a form page round the text of its script.
 use Rattle.std.proofs.Common.{◌≡◌, ◌∙◌, ℕ, ◌<◌, Bool, true, false, List, [], ◌∷◌, ◌++◌, refl, sym, ap, subst, arith}
-use Rattle.std.specs.Prelude.{◌==◌, codes}
-use Rattle.std.specs.List.{All, list_all, flat_map}
-use Rattle.std.specs.Str.{IsUtf8}
+use Rattle.std.specs.Prelude.{◌&&◌, ◌==◌, nat_lt, codes, encode_utf8, encode_utf8_all}
+use lib.Utf8.{scalar, scalars}
+use Rattle.std.specs.List.{list_all, flat_map}
+use Rattle.std.specs.Str.{IsUtf8, chars}
 use Rattle.std.specs.Char.Escape.{encode_utf16}
 use Rattle.std.proofs.lemmas.Bool.Decides.{nat_tests}
-use Rattle.std.proofs.lemmas.List.Elements.{All-weaker}
-use Rattle.std.proofs.lemmas.List.Sums.{AllPass-from_list_all}
-use Rattle.std.proofs.lemmas.Str.{chars-IsAscii, IsUtf8-from_ascii}
-use Rattle.std.proofs.lemmas.Str.Ascii.{IsAscii-from_all}
+use Rattle.std.proofs.lemmas.Grind.{flat_map-append}
+use Rattle.std.proofs.lemmas.List.Folds.{list_all-append}
+use Rattle.std.proofs.lemmas.Str.{chars-encodes, encodes-append, encode_ascii}
 use Rattle.js_core.specs.Text.{utf16_of}
-use Rattle.js_print.specs.Laws.{HasNoEndTag}
+use Rattle.js_print.specs.Laws.{HasNoEndTag, HasNoControl, is_free}
 use Rattle.page_check.specs.declared.page.Kind.TheVariants.{Form}
 use Rattle.page_check.specs.Accept.{text_of}
 use Rattle.page_check.specs.Frame.{with_line_feeds, has_zero, lower_case, begins_in_any_case, has_end_tag, form_mark, IsFramePage}
-use Rattle.js_print.proofs.Literals.{and_left, and_right}
 use Rattle.saved_pages.specs.Saved.{page_head, page_tail}
 use Rattle.saved_pages.proofs.Booleans.{or_both}
-use Rattle.saved_pages.proofs.Texts.{is_print, joined}
 
-abbrev Prints : List ℕ → Type 0
-Prints text = list_all is_print text ≡ true
+and_left : (a b : Bool) → (a && b) ≡ true → a ≡ true
+and_left true b e = refl
+and_left false b e = e
 
--- ---- the bytes are the units of the text
+and_right : (a b : Bool) → (a && b) ≡ true → b ≡ true
+and_right true b e = e
+and_right false b e = absurd (cc)
 
-low : (u : ℕ) → is_print u ≡ true → u < 128
-low u e = grind (arith, nat_tests)
+and_both : (a b : Bool) → a ≡ true → b ≡ true → (a && b) ≡ true
+and_both a b e f = ap (λ c. c && b) e ∙ f
 
-one_unit : (u : ℕ) → is_print u ≡ true → encode_utf16 u ≡ u ∷ []
-one_unit u e = grind (arith, nat_tests)
+-- ---- ASCII is UTF-8 of itself
 
-units_alone : (text : List ℕ) → Prints text → flat_map encode_utf16 text ≡ text
-units_alone [] e = refl
-units_alone (u ∷ us) e =
-    ap (λ (w : List ℕ). w ++ flat_map encode_utf16 us) (one_unit u (and_left _ _ e)) ∙ ap (λ (w : List ℕ). u ∷ w) (units_alone us (and_right (is_print u) _ e))
+abbrev is_ascii : ℕ → Bool
+is_ascii u = nat_lt u 128
 
-all_low : (text : List ℕ) → Prints text → All (λ u. u < 128) text
-all_low text e = All-weaker (λ u. is_print u ≡ true) (λ u. u < 128) low text (AllPass-from_list_all is_print text e)
+low_is_one : (u : ℕ) → is_ascii u ≡ true → encode_utf8 u ≡ u ∷ []
+low_is_one u e = let l : u < 128 = grind (arith, nat_tests) in encode_ascii u l
 
-pub printed_is_utf8 : (text : List ℕ) → Prints text → IsUtf8 text
-printed_is_utf8 text e = IsUtf8-from_ascii text (IsAscii-from_all text (all_low text e))
+low_is_scalar : (u : ℕ) → is_ascii u ≡ true → scalar u ≡ true
+low_is_scalar u e = grind (arith, nat_tests)
 
-pub same_units : (text : List ℕ) → Prints text → utf16_of text ≡ text
-same_units text e = ap (flat_map encode_utf16) (chars-IsAscii text (IsAscii-from_all text (all_low text e))) ∙ units_alone text e
+low_is_unit : (u : ℕ) → is_ascii u ≡ true → encode_utf16 u ≡ u ∷ []
+low_is_unit u e = grind (arith, nat_tests)
+
+ascii_encodes : (us : List ℕ) → list_all is_ascii us ≡ true → encode_utf8_all us ≡ us
+ascii_encodes [] e = refl
+ascii_encodes (u ∷ us) e =
+    ap (λ (x : List ℕ). x ++ encode_utf8_all us) (low_is_one u (and_left _ _ e)) ∙ ap (λ (x : List ℕ). u ∷ x) (ascii_encodes us (and_right (is_ascii u) _ e))
+
+ascii_units : (us : List ℕ) → list_all is_ascii us ≡ true → flat_map encode_utf16 us ≡ us
+ascii_units [] e = refl
+ascii_units (u ∷ us) e =
+    ap (λ (x : List ℕ). x ++ flat_map encode_utf16 us) (low_is_unit u (and_left _ _ e)) ∙ ap (λ (x : List ℕ). u ∷ x) (ascii_units us (and_right (is_ascii u) _ e))
+
+ascii_scalars : (us : List ℕ) → list_all is_ascii us ≡ true → scalars us ≡ true
+ascii_scalars [] e = refl
+ascii_scalars (u ∷ us) e = and_both _ _ (low_is_scalar u (and_left _ _ e)) (ascii_scalars us (and_right (is_ascii u) _ e))
+
+both_scalars : (us vs : List ℕ) → scalars us ≡ true → scalars vs ≡ true → scalars (us ++ vs) ≡ true
+both_scalars [] vs e f = f
+both_scalars (u ∷ us) vs e f = and_both _ _ (and_left (scalar u) _ e) (both_scalars us vs (and_right (scalar u) _ e) f)
+
+-- ---- the units of a page
+
+-- a text between ASCII ones
+module _ (head tail text : List ℕ) (low_head : list_all is_ascii head ≡ true) (low_tail : list_all is_ascii tail ≡ true) (utf8 : IsUtf8 text) where
+  coded : encode_utf8_all (head ++ utf8.0 ++ tail) ≡ head ++ text ++ tail
+  coded =
+      encodes-append (head ++ utf8.0) tail
+      ∙ ap (λ (x : List ℕ). x ++ encode_utf8_all tail) (encodes-append head utf8.0)
+      ∙ ap (λ (x : List ℕ). encode_utf8_all head ++ encode_utf8_all utf8.0 ++ x) (ascii_encodes tail low_tail)
+      ∙ ap (λ (x : List ℕ). x ++ encode_utf8_all utf8.0 ++ tail) (ascii_encodes head low_head)
+      ∙ ap (λ (x : List ℕ). head ++ x ++ tail) utf8.1.1
+
+  all_scalars : scalars (head ++ utf8.0 ++ tail) ≡ true
+  all_scalars = both_scalars (head ++ utf8.0) tail (both_scalars head utf8.0 (ascii_scalars head low_head) utf8.1.0) (ascii_scalars tail low_tail)
+
+  pub framed_utf8 : IsUtf8 (head ++ text ++ tail)
+  framed_utf8 = ((head ++ utf8.0 ++ tail), (all_scalars, coded))
+
+  own_units : utf16_of text ≡ flat_map encode_utf16 utf8.0
+  own_units = ap (λ (x : List ℕ). flat_map encode_utf16 (chars x)) (sym utf8.1.1) ∙ ap (flat_map encode_utf16) (chars-encodes utf8.0 utf8.1.0)
+
+  pub framed_units : utf16_of (head ++ text ++ tail) ≡ head ++ utf16_of text ++ tail
+  framed_units =
+      ap (λ (x : List ℕ). flat_map encode_utf16 (chars x)) (sym coded)
+      ∙ ap (flat_map encode_utf16) (chars-encodes (head ++ utf8.0 ++ tail) all_scalars)
+      ∙ flat_map-append encode_utf16 (head ++ utf8.0) tail
+      ∙ ap (λ (x : List ℕ). x ++ flat_map encode_utf16 tail) (flat_map-append encode_utf16 head utf8.0)
+      ∙ ap (λ (x : List ℕ). flat_map encode_utf16 head ++ flat_map encode_utf16 utf8.0 ++ x) (ascii_units tail low_tail)
+      ∙ ap (λ (x : List ℕ). x ++ flat_map encode_utf16 utf8.0 ++ tail) (ascii_units head low_head)
+      ∙ ap (λ (x : List ℕ). head ++ x ++ tail) (sym own_units)
 
 -- ---- it has no CR, and no U+0000
 
-no_return : (u : ℕ) → is_print u ≡ true → (u == 13) ≡ false
+no_return : (u : ℕ) → is_free u ≡ true → (u == 13) ≡ false
 no_return u e = grind (arith, nat_tests)
 
-no_zero : (u : ℕ) → is_print u ≡ true → (u == 0) ≡ false
+no_zero : (u : ℕ) → is_free u ≡ true → (u == 0) ≡ false
 no_zero u e = grind (arith, nat_tests)
 
-same_lines : (text : List ℕ) → Prints text → with_line_feeds text ≡ text
+same_lines : (text : List ℕ) → list_all is_free text ≡ true → with_line_feeds text ≡ text
 same_lines [] e = refl
-same_lines (u ∷ us) e = let other = no_return u (and_left _ _ e) in rw other (ap (λ (w : List ℕ). u ∷ w) (same_lines us (and_right (is_print u) _ e)))
+same_lines (u ∷ us) e = let other = no_return u (and_left _ _ e) in rw other (ap (λ (w : List ℕ). u ∷ w) (same_lines us (and_right (is_free u) _ e)))
 
-without_zero : (text : List ℕ) → Prints text → has_zero text ≡ false
+without_zero : (text : List ℕ) → list_all is_free text ≡ true → has_zero text ≡ false
 without_zero [] e = refl
-without_zero (u ∷ us) e = or_both _ _ (no_zero u (and_left _ _ e)) (without_zero us (and_right (is_print u) _ e))
+without_zero (u ∷ us) e = or_both _ _ (no_zero u (and_left _ _ e)) (without_zero us (and_right (is_free u) _ e))
 
 -- ---- it has no end tag
 
@@ -75,7 +122,7 @@ tag_begins u (v ∷ vs) e =
     let second : v ≡ 47 = is_slash v (and_left _ _ (and_right (lower_case u == 60) _ e)) in
     (vs, ap (λ (w : ℕ). w ∷ v ∷ vs) first ∙ ap (λ (w : ℕ). 60 ∷ w ∷ vs) second)
 
-pub without_tag : (text : List ℕ) → HasNoEndTag text → has_end_tag text ≡ false
+without_tag : (text : List ℕ) → HasNoEndTag text → has_end_tag text ≡ false
 without_tag [] none = refl
 without_tag (u ∷ us) none = or_both _ _ (by_case (begins_in_any_case (codes "</script") (u ∷ us)) refl) (without_tag us (λ before after e. none (u ∷ before) after (ap (λ (w : List ℕ). u ∷ w) e)))
   where
@@ -85,13 +132,17 @@ without_tag (u ∷ us) none = or_both _ _ (by_case (begins_in_any_case (codes "<
 
 -- ---- the page
 
-pub page_prints : (inner : List ℕ) → Prints inner → Prints (page_head ++ inner ++ page_tail)
-page_prints inner e = joined (page_head ++ inner) page_tail (joined page_head inner refl e) refl
+pub page_is_utf8 : (text : List ℕ) → IsUtf8 text → IsUtf8 (page_head ++ text ++ page_tail)
+page_is_utf8 text utf8 = framed_utf8 page_head page_tail text refl refl utf8
 
-pub page_is_framed : (inner : List ℕ) → Prints inner → HasNoEndTag inner → IsFramePage (text_of (page_head ++ inner ++ page_tail)) Form inner
-page_is_framed inner e none =
+joined : (a b : List ℕ) → list_all is_free a ≡ true → list_all is_free b ≡ true → list_all is_free (a ++ b) ≡ true
+joined a b f g = list_all-append is_free a b ∙ and_both _ _ f g
+
+pub page_is_framed : (text : List ℕ) → IsUtf8 text → HasNoEndTag (utf16_of text) → HasNoControl text → IsFramePage (text_of (page_head ++ text ++ page_tail)) Form (utf16_of text)
+page_is_framed text utf8 none free =
+    let inner = utf16_of text in
     let page = page_head ++ inner ++ page_tail in
-    let prints = page_prints inner e in
-    let same : text_of page ≡ page = ap with_line_feeds (same_units page prints) ∙ same_lines page prints in
-    subst (λ (text : List ℕ). IsFramePage text Form inner) (sym same)
-    (record { opening = form_mark; of_kind = refl; with_body = false; whole = refl; one_script = without_tag inner none; no_zero = without_zero page prints })
+    let free_page : list_all is_free page ≡ true = joined (page_head ++ inner) page_tail (joined page_head inner refl free) refl in
+    let same : text_of (page_head ++ text ++ page_tail) ≡ page = ap with_line_feeds (framed_units page_head page_tail text refl refl utf8) ∙ same_lines page free_page in
+    subst (λ (units : List ℕ). IsFramePage units Form inner) (sym same)
+    (record { opening = form_mark; of_kind = refl; with_body = false; whole = refl; one_script = without_tag inner none; no_zero = without_zero page free_page })

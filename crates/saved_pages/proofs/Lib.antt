@@ -1,12 +1,8 @@
 pub mod Accepted
 pub mod Booleans
-pub mod Derivations
 pub mod EarlyRules
 pub mod Frames
 pub mod InForm
-pub mod Lexemes
 pub mod Names
 pub mod Nodes
-pub mod Symbols
-pub mod Texts
-pub mod Tokens
+pub mod Syntax

@@ -1,4 +1,13 @@
 pub mod Callees
+pub mod Chains
+pub mod FreeOccurrences
+pub mod MarkLists
+pub mod Outwards
 pub mod Repeats
+pub mod ScopeNames
+pub mod Sets
+pub mod ScopeSteps
+pub mod ScopeUses
 pub mod Steps
 pub mod Tables
+pub mod Told

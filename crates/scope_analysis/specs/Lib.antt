@@ -1,11 +1,15 @@
 pub mod EarlyRules
 pub mod Form
+pub mod FreeUses
 pub mod Identifiers
 pub mod Jumps
+pub mod Marks
 pub mod NameTests
 pub mod Names
 pub mod NodeTests
 pub mod Nodes
 pub mod ScopeTests
+pub mod Scopes
+pub mod ScopeWalk
 pub mod Uses
 pub mod Variables

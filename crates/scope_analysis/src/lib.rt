@@ -7,6 +7,9 @@ pub mod form;
 mod identifiers;
 pub mod jump;
 pub mod jumps;
+mod mark;
+mod mark_lists;
+mod marks;
 pub mod name_table;
 pub mod name_test;
 pub mod name_use;
@@ -16,6 +19,8 @@ mod node_tests;
 pub mod nodes;
 pub mod scope_test;
 mod scope_tests;
+mod scope_walk;
+pub mod scopes;
 #[cfg(test)]
 mod test_trees;
 mod use_lists;

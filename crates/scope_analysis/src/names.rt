@@ -186,7 +186,7 @@ fn push_target_name(declared: bool, target: &Expr, out: &mut Vec<Units>) -> Resu
 }
 
 /// Appends names.
-fn push_names(names: &[Units], out: &mut Vec<Units>) -> Result<(), OutOfMemory>
+pub fn push_names(names: &[Units], out: &mut Vec<Units>) -> Result<(), OutOfMemory>
     ensures { OnOk result (out.new.items ≡ out.old.items ++ names.now) }
 {
     let mut rest = names;

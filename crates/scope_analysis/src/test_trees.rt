@@ -15,9 +15,7 @@ use std::test::Fail;
 pub fn name(alloc: Global, text: &str) -> Result<Expr, Fail>
     ensures { IfOk result (λ e. expr_height e ≡ 1) }
 {
-    Ok(Expr {
-        node: ExprNode::Name(Units::from_utf8(alloc, text)?),
-    })
+    Ok(Expr::new(ExprNode::Name(Units::from_utf8(alloc, text)?)))
 }
 
 /// `target=value`.
@@ -26,9 +24,7 @@ pub fn assigned(alloc: Global, target: Expr, value: Expr) -> Result<Expr, Fail>
     requires value { expr_height value ≤ 50 }
     ensures { IfOk result (λ e. expr_height e ≤ 51) }
 {
-    Ok(Expr {
-        node: ExprNode::Assign(None, Box::new(alloc, target)?, Box::new(alloc, value)?),
-    })
+    Ok(Expr::new(ExprNode::Assign(None, Box::new(alloc, target)?, Box::new(alloc, value)?)))
 }
 
 /// A function expression with these formals and one statement. An empty name is none.
@@ -36,14 +32,12 @@ pub fn function(alloc: Global, own: &str, formals: &[&str], node: StmtNode) -> R
     requires { stmt_height (stmt_of node) ≤ 500 }
     ensures { IfOk result (λ e. expr_height e ≡ stmt_height (stmt_of node) + 1) }
 {
-    let code = Code {
-        name: own_name(alloc, own)?,
-        formals: names(alloc, formals)?,
-        body: alone(alloc, node)?,
-    };
-    Ok(Expr {
-        node: ExprNode::Func(Rc::new(alloc, code)?),
-    })
+    let code = Code::new(
+        own_name(alloc, own)?,
+        names(alloc, formals)?,
+        alone(alloc, node)?,
+    );
+    Ok(Expr::new(ExprNode::Func(Rc::new(alloc, code)?)))
 }
 
 /// The script of one statement.
@@ -61,7 +55,7 @@ pub fn alone(alloc: Global, node: StmtNode) -> Result<Vec<Stmt>, Fail>
     ensures { IfOk result (λ ss. stmts_height (stmts_of ss.items) ≡ stmt_height (stmt_of node)) }
 {
     let mut body = Vec::new(alloc);
-    body.push(Stmt { node })?;
+    body.push(Stmt::new(node))?;
     Ok(body)
 }
 
