@@ -2,18 +2,17 @@
 use Rattle.std.proofs.Common.{◌≡◌, refl, sym, ap, subst, ◌∙◌, ℕ, ◌+◌, ◌≤◌, Bool, true, false, ◌&&◌, ◌||◌, not, List, Option, Some, None, unwrap_or, pos, nat_lt, nat_le, bytes_eq, arith}
 use Rattle.std.proofs.lemmas.Bool.{leb-true, lt-ltb, ltb-false, ltb-true}
 use Rattle.std.proofs.lemmas.Slice.Eq.{bytes_eq-Decides}
-use Rattle.js_core.specs.declared.throw.Throw.{Throw}
-use Rattle.js_core.specs.declared.throw.Throw.TheVariants.{CannotDefine, CannotSet}
-use Rattle.js_core.specs.declared.value.Value.{Value}
-use Rattle.js_core.specs.declared.value.Value.TheVariants.{Num}
-use Rattle.object_heap.specs.declared.object.Object.{Object}
+use Rattle.js_values.specs.declared.throw.Throw.{Throw}
+use Rattle.js_values.specs.declared.throw.Throw.TheVariants.{CannotDefine, CannotSet}
+use Rattle.js_values.specs.declared.value.Value.{Value}
+use Rattle.js_values.specs.declared.value.Value.TheVariants.{Num}
+use Rattle.object_heap.specs.Object.{is_list, is_window, Object, with_props}
 use Rattle.object_heap.specs.declared.property.Change.{Change}
 use Rattle.object_heap.specs.declared.property.Prop.{Prop}
 use Rattle.object_heap.specs.Array.{IsArray, IsLength, IsProper}
 use Rattle.object_heap.specs.Attempt.{Attempt}
 use Rattle.object_heap.specs.Define.{array_length, define, define_element, define_indexed, define_length, define_length_as, define_ordinary, define_own, defined_over, delete_own, deleted_over, end_kept, elements_below, grown, grown_over, has_writable_length, is_below, is_closed_at, length_in, length_name, number, number_in, prevented, put_change, put_own, shrunk, shrunk_to, valid_length, with_length_over, with_value}
 use Rattle.object_heap.specs.Index.{index_end, index_of}
-use Rattle.object_heap.specs.Object.{is_list, is_window, with_props}
 use Rattle.object_heap.specs.Property.{Props, may_update, own_property, updated, without_property}
 use Rattle.object_heap.proofs.Arrays.{array_if, above_more, end_kept_small, index_is_not_length, index_is_small, updated_length, with_new_length, with_number, within_elements, within_ordinary, within_removed, Within}
 use Rattle.object_heap.proofs.Kept.{define_keeps, define_own_keeps, delete_own_keeps, prevented_keeps, put_own_keeps}
@@ -25,7 +24,7 @@ within props a = record { there = a.there; above = a.above }
 array_of : (l : Prop) (props : Props) → IsLength l → Within (number_in l.value) l props → IsArray props
 array_of l props h w = record { length = l; there = w.there; is_length = h; above = w.above }
 
-same_length : (o : Object) (a : IsArray o.props) → array_length o ≡ number_in a.length.value
+pub same_length : (o : Object) (a : IsArray o.props) → array_length o ≡ number_in a.length.value
 same_length o a = ap length_in a.there
 
 -- where 8.12.9 rejects, the object is as before

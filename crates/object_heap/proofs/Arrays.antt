@@ -3,8 +3,8 @@ use Rattle.std.proofs.Common.{◌≡◌, refl, sym, ap, ◌∙◌, ℕ, ◌<◌,
 use Rattle.std.proofs.lemmas.Bool.{lt-ltb, ltb-true}
 use Rattle.std.proofs.lemmas.Slice.Eq.{bytes_eq-Decides}
 use Rattle.std.specs.List.{list_all}
-use Rattle.js_core.specs.declared.throw.Throw.{Throw}
-use Rattle.object_heap.specs.declared.object.Object.{Object}
+use Rattle.js_values.specs.declared.throw.Throw.{Throw}
+use Rattle.object_heap.specs.Object.{Object}
 use Rattle.object_heap.specs.declared.property.Change.{Change}
 use Rattle.object_heap.specs.declared.property.Prop.{Prop}
 use Rattle.object_heap.specs.Array.{IsArray, IsLength}

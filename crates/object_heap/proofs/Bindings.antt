@@ -3,7 +3,7 @@ use Rattle.std.proofs.Common.{◌≡◌, refl, sym, ap, ◌∙◌, ℕ, zero, su
 use Rattle.std.proofs.Math.Seq.{drop-cons}
 use Rattle.std.proofs.lemmas.List.{take_more, take-append-drop}
 use Rattle.std.proofs.Math.ListN.{drop_of_length-le}
-use Rattle.js_core.specs.declared.value.Value.{Value}
+use Rattle.js_values.specs.declared.value.Value.{Value}
 use Rattle.object_heap.specs.Environment.{Bound, value_of, with_value_of}
 
 rest_at : (names : Bound) (i : ℕ) (x : List ℕ × Value) → i < length names → x ≡ slice_index_or names i x → drop i names ≡ x ∷ drop (i + 1) names

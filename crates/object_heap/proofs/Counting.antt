@@ -5,13 +5,14 @@ use Rattle.std.proofs.lemmas.Cmp.{nat_list_eq_equiv}
 use Rattle.std.proofs.lemmas.Map.{lookup-remove_entry}
 use Rattle.std.proofs.lemmas.Slice.Eq.{bytes_eq-Decides}
 use Rattle.std.specs.Fmt.{decimal}
-use Rattle.std.specs.List.{AllByRecursion, IsDistinct, list_all}
+use Rattle.std.specs.List.{list_all}
 use Rattle.std.specs.Map.{keys_of, lookup, remove_entry}
 use Rattle.object_heap.specs.declared.property.Prop.{Prop}
 use Rattle.object_heap.specs.Counted.{ShrinksAsCounted, counted_down, one_deleted}
 use Rattle.object_heap.specs.Define.{elements_below, end_kept, end_with, is_below}
 use Rattle.object_heap.specs.Index.{index_end, index_of}
 use Rattle.object_heap.specs.Property.{HasDistinctNames, Props, own_property, without_property}
+use Rattle.object_heap.proofs.Distinct.{distinct_removed}
 use Rattle.object_heap.proofs.Decimals.{indices_are_decimal}
 use Rattle.object_heap.proofs.Lists.{all_remove, both, left_of, right_of, same_key}
 
@@ -19,7 +20,7 @@ use Rattle.object_heap.proofs.Lists.{all_remove, both, left_of, right_of, same_k
 abbrev AllBelow : ℕ → Props → Type 0
 AllBelow n props = list_all (λ e. is_below n (index_of e.0)) props ≡ true
 
-filter_whole : (p : List ℕ × Prop → Bool) (props : Props) → list_all p props ≡ true → filter p props ≡ props
+pub filter_whole : (p : List ℕ × Prop → Bool) (props : Props) → list_all p props ≡ true → filter p props ≡ props
 filter_whole p [] h = refl
 filter_whole p (e ∷ es) h = rw (left_of (p e) (list_all p es) h) (ap (λ r. e ∷ r) (filter_whole p es (right_of (p e) (list_all p es) h)))
 
@@ -29,7 +30,7 @@ end_with_within m end (Some i) true h below = h
 end_with_within m end (Some i) false h below = omega (arith, h, ltb-true i m below)
 
 -- no element is kept past the bound of all
-kept_within : (m end : ℕ) (props : Props) → end ≤ m → AllBelow m props → end_kept end props ≤ m
+pub kept_within : (m end : ℕ) (props : Props) → end ≤ m → AllBelow m props → end_kept end props ≤ m
 kept_within m end [] h all = h
 kept_within m end (e ∷ es) h all =
     let first = left_of (is_below m (index_of e.0)) (list_all (λ x. is_below m (index_of x.0)) es) all in
@@ -41,7 +42,7 @@ end_with_from end None c = omega arith
 end_with_from end (Some i) true = omega arith
 end_with_from end (Some i) false = omega arith
 
-kept_from : (end : ℕ) (props : Props) → end ≤ end_kept end props
+pub kept_from : (end : ℕ) (props : Props) → end ≤ end_kept end props
 kept_from end [] = omega arith
 kept_from end (e ∷ es) = omega (arith, end_with_from end (index_of e.0) e.1.configurable, kept_from (end_with end (index_of e.0) e.1.configurable) es)
 
@@ -60,7 +61,7 @@ kept_past end i p (e ∷ es) small found fixed = by_case (bytes_eq (decimal i) e
         omega (arith, here, kept_from (end_with end (index_of e.0) e.1.configurable) es)
     by_case false h more = more (rw h at found)
 
-end_with_configurable : (end : ℕ) (index : Option ℕ) → end_with end index true ≡ end
+pub end_with_configurable : (end : ℕ) (index : Option ℕ) → end_with end index true ≡ end
 end_with_configurable end None = refl
 end_with_configurable end (Some i) = refl
 
@@ -89,7 +90,7 @@ below_removed kept i (e ∷ es) gone = by_case (bytes_eq (decimal i) e.0) refl (
     by_case false h true g more = rw h (rw g (ap (λ r. e ∷ r) more))
     by_case false h false g more = rw h (rw g more)
 
-lower : (i : ℕ) (name : List ℕ) (index : Option ℕ) → i < index_end → index_of name ≡ index → bytes_eq (decimal i) name ≡ false → is_below (i + 1) index ≡ true → is_below i index ≡ true
+pub lower : (i : ℕ) (name : List ℕ) (index : Option ℕ) → i < index_end → index_of name ≡ index → bytes_eq (decimal i) name ≡ false → is_below (i + 1) index ≡ true → is_below i index ≡ true
 lower i name None small e other below = refl
 lower i name (Some j) small e other below = by (cases_eq j i)
   where
@@ -110,23 +111,6 @@ all_lower i (e ∷ es) small none all = by_case (bytes_eq (decimal i) e.0) refl 
         both (is_below i (index_of e.0)) (list_all (λ x. is_below i (index_of x.0)) es)
         (lower i e.0 (index_of e.0) small refl h (left_of (is_below (i + 1) (index_of e.0)) (list_all (λ x. is_below (i + 1) (index_of x.0)) es) all))
         (more (rw h at none))
-
-all_removed : (P : List ℕ → Type 0) (test : List ℕ → Bool) (props : Props) → AllByRecursion P (keys_of props) → AllByRecursion P (keys_of (remove_entry test props))
-all_removed P test [] h = h
-all_removed P test (e ∷ es) h = by_case (test e.0) refl (all_removed P test es h.1)
-  where
-    by_case : (b : Bool) → test e.0 ≡ b → AllByRecursion P (keys_of (remove_entry test es)) → AllByRecursion P (keys_of (remove_entry test (e ∷ es)))
-    by_case true g more = rw g h.1
-    by_case false g more = rw g (h.0, more)
-
-distinct_removed : (test : List ℕ → Bool) (props : Props) → HasDistinctNames props → HasDistinctNames (remove_entry test props)
-unfolding IsDistinct
-distinct_removed test [] h = h
-distinct_removed test (e ∷ es) h = by_case (test e.0) refl (distinct_removed test es h.1)
-  where
-    by_case : (b : Bool) → test e.0 ≡ b → HasDistinctNames (remove_entry test es) → HasDistinctNames (remove_entry test (e ∷ es))
-    by_case true g more = rw g h.1
-    by_case false g more = rw g (all_removed (λ y. bytes_eq e.0 y ≡ false) test es h.0, more)
 
 same_name : (name x y : List ℕ) → bytes_eq name x ≡ true → bytes_eq name y ≡ bytes_eq x y
 same_name name x y h = ap (λ z. bytes_eq z y) ((bytes_eq-Decides name x).0 h)

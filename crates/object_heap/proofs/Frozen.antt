@@ -6,18 +6,17 @@ use Rattle.std.proofs.lemmas.Map.Steps.{set_value_same}
 use Rattle.std.proofs.lemmas.Slice.Eq.{bytes_eq-Decides}
 use Rattle.std.specs.Option.{option_eq}
 use Rattle.std.specs.Ordering.{int_eq}
-use Rattle.js_core.specs.declared.throw.Throw.{Throw}
-use Rattle.js_core.specs.declared.throw.Throw.TheVariants.{CannotDefine, CannotSet}
-use Rattle.js_core.specs.declared.value.Value.{Value}
-use Rattle.js_core.specs.declared.value.Value.TheVariants.{Undefined, Null, Bool as Truth, Num, Text, Object as At}
-use Rattle.object_heap.specs.declared.object.Object.{Object}
+use Rattle.js_values.specs.declared.throw.Throw.{Throw}
+use Rattle.js_values.specs.declared.throw.Throw.TheVariants.{CannotDefine, CannotSet}
+use Rattle.js_values.specs.declared.value.Value.{Value}
+use Rattle.js_values.specs.declared.value.Value.TheVariants.{Undefined, Null, Bool as Truth, Num, Text, Object as At}
+use Rattle.object_heap.specs.Object.{is_list, is_window, Object, with_extensible, with_props}
 use Rattle.object_heap.specs.declared.property.Change.{Change}
 use Rattle.object_heap.specs.declared.property.Prop.{Prop}
 use Rattle.object_heap.specs.Attempt.{Attempt}
 use Rattle.object_heap.specs.Define.{array_length, define, define_indexed, define_length, define_length_as, define_ordinary, define_own, defined_over, delete_own, deleted_over, is_closed_at, is_writable, length_name, prevented, put_change, put_own, shrunk, valid_length}
 use Rattle.object_heap.specs.Index.{index_of}
 use Rattle.object_heap.specs.Laws.{IsFrozen}
-use Rattle.object_heap.specs.Object.{is_list, is_window, with_props}
 use Rattle.object_heap.specs.Property.{asks, keeps, keeps_value, may_update, own_property, same_value, updated, with_property}
 use Rattle.object_heap.proofs.Arrays.{keeps_same, not_true}
 use Rattle.object_heap.proofs.Lists.{left_of, right_of}
@@ -124,4 +123,4 @@ module _ (o : Object) (f : IsFrozen o) where
   pub frozen_prevented : (prevented o).after ≡ o
   frozen_prevented =
       same_if o (o.closed || is_window o.class) _ _ refl
-      (ap (λ (b : Bool). record { class = o.class; proto = o.proto; extensible = b; closed = o.closed; props = o.props }) (sym f.extensible))
+      (ap (with_extensible o) (sym f.extensible))

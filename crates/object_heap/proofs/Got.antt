@@ -3,20 +3,20 @@ use Rattle.std.proofs.Common.{◌≡◌, refl, sym, ap, subst, ◌∙◌, ℕ, �
 use Rattle.std.proofs.lemmas.Bool.{eqb-true}
 use Rattle.std.proofs.lemmas.List.{get_or-set_same}
 use Rattle.std.proofs.lemmas.Slice.Eq.{bytes_eq-Decides}
-use Rattle.js_core.specs.declared.ids.ObjId.{ObjId}
-use Rattle.js_core.specs.declared.throw.Throw.{Throw}
-use Rattle.js_core.specs.declared.throw.Throw.TheVariants.{CannotSet}
-use Rattle.js_core.specs.declared.value.Value.{Value}
-use Rattle.js_core.specs.declared.value.Value.TheVariants.{Undefined}
-use Rattle.object_heap.specs.declared.object.Object.{Object}
+use Rattle.js_values.specs.declared.ids.ObjId.{ObjId}
+use Rattle.js_values.specs.declared.throw.Throw.{Throw}
+use Rattle.js_values.specs.declared.throw.Throw.TheVariants.{CannotSet}
+use Rattle.js_values.specs.declared.value.Value.{Value}
+use Rattle.js_values.specs.declared.value.Value.TheVariants.{Undefined}
+use Rattle.object_heap.specs.Object.{is_list, no_object, Object}
 use Rattle.object_heap.specs.declared.property.Change.{Change}
 use Rattle.object_heap.specs.declared.property.Prop.{Prop}
 use Rattle.object_heap.specs.Attempt.{Attempt}
-use Rattle.object_heap.specs.Chain.{can_put, first_found, no_object, object_at, property_within}
+use Rattle.object_heap.specs.Chain.{can_put, first_found, found_within, get_property, object_at}
 use Rattle.object_heap.specs.Define.{array_length, define, define_indexed, define_length, define_length_as, define_ordinary, defined_over, elements_below, end_kept, grown_over, has_writable_length, is_below, is_closed_at, length_name, number, put_change, put_own, shrunk, valid_length, with_length_over, with_value}
 use Rattle.object_heap.specs.Index.{index_of}
+use Rattle.object_heap.specs.Heap.{put}
 use Rattle.object_heap.specs.Laws.{PutThenGet}
-use Rattle.object_heap.specs.Object.{is_list}
 use Rattle.object_heap.specs.Property.{Props, created, may_update, own_property, updated}
 use Rattle.object_heap.proofs.ArrayCalls.{valid_number}
 use Rattle.object_heap.proofs.Lists.{apart, lookup_filter, lookup_last, lookup_set, lookup_set_other, same_key}
@@ -134,11 +134,12 @@ found_own None proto up p e = cc e
 found_own (Some q) proto up p e = e
 
 pub put_then_get : PutThenGet
+unfolding put get_property
 put_then_get h k name v there done =
     let attempt = put_own (can_put h.objects k name) (object_at h.objects k) name v in
     let held = put_holds (can_put h.objects k name) (object_at h.objects k) name v done in
     let objects = slice_set h.objects k attempt.after in
     let at : object_at objects k ≡ attempt.after = get_or-set_same h.objects k attempt.after no_object there in
     let own : own_property (object_at objects k).props name ≡ Some held.property = ap (λ (o : Object). own_property o.props name) at ∙ held.there in
-    ap (option_map (λ (p : Prop). p.value)) (found_own (own_property (object_at objects k).props name) (object_at objects k).proto (λ q. property_within objects k q name) held.property own)
+    ap (option_map (λ (p : Prop). p.value)) (found_own (own_property (object_at objects k).props name) (object_at objects k).proto (λ q. found_within (λ o. own_property o.props name) objects k q) held.property own)
     ∙ ap Some held.value

@@ -1,15 +1,14 @@
 -- What no call changes: an object's class and prototype.
 use Rattle.std.proofs.Common.{◌≡◌, refl, ℕ, ◌+◌, Bool, true, false, List, Option, Some, None, if◌then◌else◌, not, ◌&&◌, ◌||◌, nat_lt, nat_le, bytes_eq}
-use Rattle.js_core.specs.declared.throw.Throw.{Throw}
-use Rattle.js_core.specs.declared.throw.Throw.TheVariants.{CannotDefine, CannotSet}
-use Rattle.js_core.specs.declared.value.Value.{Value}
-use Rattle.object_heap.specs.declared.object.Object.{Object}
+use Rattle.js_values.specs.declared.throw.Throw.{Throw}
+use Rattle.js_values.specs.declared.throw.Throw.TheVariants.{CannotDefine, CannotSet}
+use Rattle.js_values.specs.declared.value.Value.{Value}
+use Rattle.object_heap.specs.Object.{is_list, is_window, Object}
 use Rattle.object_heap.specs.declared.property.Change.{Change}
 use Rattle.object_heap.specs.declared.property.Prop.{Prop}
 use Rattle.object_heap.specs.Attempt.{Attempt}
 use Rattle.object_heap.specs.Define.{define, define_indexed, define_length, define_length_as, define_ordinary, define_own, defined_over, delete_own, deleted_over, grown_over, is_closed_at, length_name, prevented, put_change, put_own, shrunk, valid_length, array_length, has_writable_length}
 use Rattle.object_heap.specs.Index.{index_of}
-use Rattle.object_heap.specs.Object.{is_list, is_window}
 use Rattle.object_heap.specs.Property.{own_property, may_update}
 
 pub record Keeps (o p : Object) : Type 0 where

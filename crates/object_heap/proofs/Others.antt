@@ -1,15 +1,14 @@
 -- A property stays where another one is changed.
 use Rattle.std.proofs.Common.{◌≡◌, refl, ◌∙◌, ℕ, ◌+◌, Bool, true, false, ◌&&◌, not, List, Option, Some, None, nat_lt, bytes_eq, if◌then◌else◌}
-use Rattle.js_core.specs.declared.throw.Throw.{Throw}
-use Rattle.js_core.specs.declared.throw.Throw.TheVariants.{CannotDefine, CannotSet}
-use Rattle.object_heap.specs.declared.object.Object.{Object}
+use Rattle.js_values.specs.declared.throw.Throw.{Throw}
+use Rattle.js_values.specs.declared.throw.Throw.TheVariants.{CannotDefine, CannotSet}
+use Rattle.object_heap.specs.Object.{is_list, Object}
 use Rattle.object_heap.specs.declared.property.Change.{Change}
 use Rattle.object_heap.specs.declared.property.Prop.{Prop}
 use Rattle.object_heap.specs.Attempt.{Attempt}
 use Rattle.object_heap.specs.Define.{array_length, define, define_indexed, define_ordinary, defined_over, deleted_over, grown_over, has_writable_length, is_closed_at, length_name, number, put_change, with_length_over, with_value}
 use Rattle.object_heap.specs.Index.{index_of}
 use Rattle.object_heap.specs.Laws.{OthersStay}
-use Rattle.object_heap.specs.Object.{is_list}
 use Rattle.object_heap.specs.Property.{Props, created, may_update, own_property, updated}
 use Rattle.object_heap.proofs.Lists.{apart, lookup_before, lookup_remove_other, lookup_set_other}
 

@@ -1,12 +1,11 @@
 -- What holds of each array (ECMA-262 5.1 section 15.4.5).
 use Rattle.std.specs.Prelude.{◌≡◌, ℕ, ◌≤◌, IsTrue, true, false, List, Some}
 use Rattle.std.specs.List.{list_all}
-use Rattle.object_heap.specs.declared.object.Object.{Object}
+use Rattle.object_heap.specs.Object.{is_list, Object}
 use Rattle.object_heap.specs.declared.property.Prop.{Prop}
 use Rattle.object_heap.specs.Chain.{object_at}
 use Rattle.object_heap.specs.Define.{is_below, length_name, number, number_in}
 use Rattle.object_heap.specs.Index.{index_end, index_of}
-use Rattle.object_heap.specs.Object.{is_list}
 use Rattle.object_heap.specs.Property.{Props, own_property}
 
 -- a number from 0 to 2^32 - 1 that is neither enumerable nor configurable

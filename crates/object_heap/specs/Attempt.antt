@@ -1,6 +1,6 @@
 -- What is tried on a thing that can refuse.
 use Rattle.std.specs.Prelude.{◌≡◌, Option, Some, None, Result, Ok, Err}
-use Rattle.js_core.specs.declared.throw.Throw.{Throw}
+use Rattle.js_values.specs.declared.throw.Throw.{Throw}
 use Rattle.object_heap.specs.declared.fault.HeapFault.{HeapFault}
 use Rattle.object_heap.specs.declared.fault.HeapFault.TheVariants as fault
 

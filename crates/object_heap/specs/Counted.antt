@@ -1,5 +1,5 @@
 -- How the standard shrinks an array: element by element, from the top (ECMA-262 5.1 section 15.4.5.1 step 3.l).
-use Rattle.std.specs.Prelude.{◌≡◌, ℕ, zero, suc, ◌+◌, ◌≤◌, true, Option, Some, None, if◌then◌else◌}
+use Rattle.std.specs.Prelude.{◌≡◌, ℕ, zero, suc, ◌+◌, ◌≤◌, true, List, [], ◌∷◌, ◌++◌, Option, Some, None, if◌then◌else◌}
 use Rattle.std.specs.Fmt.{decimal}
 use Rattle.std.specs.List.{list_all}
 use Rattle.object_heap.specs.declared.property.Prop.{Prop}
@@ -16,6 +16,22 @@ one_deleted i props (Some p) others = if p.configurable then others (without_pro
 abbrev pub counted_down : ℕ → ℕ → Props → Props × ℕ
 counted_down end zero props = (props, end)
 counted_down end (suc n) props = one_deleted (end + n) props (own_property props (decimal (end + n))) (λ rest. counted_down end n rest)
+
+-- all elements are below n
+abbrev pub AreBelow : ℕ → Props → Type 0
+AreBelow n props = list_all (λ e. is_below n (index_of e.0)) props ≡ true
+
+-- what a shrink leaves, and the length
+abbrev pub shrunk_props : ℕ → Props → Props × ℕ
+shrunk_props end props = (elements_below (end_kept end props) props, end_kept end props)
+
+-- the property that was made last was this element, which might be deleted, and it is gone
+pub record IsPopped (i : ℕ) (old new : Props) : Type 0 where
+  pub name : List ℕ
+  pub prop : Prop
+  pub was : old ≡ new ++ (name, prop) ∷ []
+  pub index : index_of name ≡ Some i
+  pub free : prop.configurable ≡ true
 
 -- what the count leaves is what the definition says, where the length was n more than asked for
 abbrev pub ShrinksAsCounted : Type 0

@@ -1,16 +1,15 @@
 -- How a property of an object is defined (ECMA-262 5.1 sections 8.12.9 and 15.4.5.1).
 use Rattle.std.specs.Prelude.{ℕ, ◌+◌, pos, Bool, true, false, List, [], ◌∷◌, ◌++◌, Option, Some, None, ◌&&◌, ◌||◌, not, nat_le, nat_lt, nat_eq, max, filter, codes, bytes_eq, is_some, if◌then◌else◌}
 use Rattle.js_core.specs.GlobalNames.{names_global}
-use Rattle.js_core.specs.declared.throw.Throw.{Throw}
-use Rattle.js_core.specs.declared.throw.Throw.TheVariants.{CannotDefine, CannotDelete, CannotSet, InvalidLength}
-use Rattle.js_core.specs.declared.value.Value.{Value}
-use Rattle.js_core.specs.declared.value.Value.TheVariants.{Num}
-use Rattle.object_heap.specs.declared.object.Object.{Object}
+use Rattle.js_values.specs.declared.throw.Throw.{Throw}
+use Rattle.js_values.specs.declared.throw.Throw.TheVariants.{CannotDefine, CannotDelete, CannotSet, InvalidLength}
+use Rattle.js_values.specs.declared.value.Value.{Value}
+use Rattle.js_values.specs.declared.value.Value.TheVariants.{Num}
+use Rattle.object_heap.specs.Object.{is_list, is_window, not_extensible, Object, with_props}
 use Rattle.object_heap.specs.declared.property.Change.{Change}
 use Rattle.object_heap.specs.declared.property.Prop.{Prop}
 use Rattle.object_heap.specs.Attempt.{Attempt, done, throws}
 use Rattle.object_heap.specs.Index.{index_of}
-use Rattle.object_heap.specs.Object.{is_list, is_window, with_props, not_extensible}
 use Rattle.object_heap.specs.Property.{Props, own_property, with_property, without_property, created, updated, may_update}
 
 -- 8.12.9, where the object has this property of the name: a new property is the last, another keeps its place. t is

@@ -1,24 +1,22 @@
 -- The heap: all objects and all environments, each a list by age, and what each call does to it.
-use Rattle.std.specs.Prelude.{ℕ, zero, suc, ◌<◌, Bool, true, false, List, [], ◌∷◌, ◌++◌, Option, Some, None, slice_index_or, slice_set, if◌then◌else◌}
+use Rattle.std.specs.Prelude.{ℕ, zero, suc, ◌<◌, Bool, true, false, List, [], ◌∷◌, ◌++◌, Option, Some, None, length, is_some, slice_set, ◌||◌, if◌then◌else◌}
 use Rattle.std.specs.Option.{ForSome}
-use Rattle.js_core.specs.declared.ids.EnvId.{EnvId}
-use Rattle.js_core.specs.declared.ids.ObjId.{ObjId}
-use Rattle.js_core.specs.declared.value.Value.{Value}
-use Rattle.object_heap.specs.declared.environment.Environment.{Environment}
+use Rattle.js_values.specs.declared.ids.EnvId.{EnvId}
+use Rattle.js_values.specs.declared.ids.ObjId.{ObjId}
+use Rattle.js_values.specs.declared.value.Value.{Value}
 use Rattle.object_heap.specs.declared.object.Class.{Class}
-use Rattle.object_heap.specs.declared.object.Class.TheVariants.{Event}
 use Rattle.object_heap.specs.declared.object.EventParts.{EventParts}
-use Rattle.object_heap.specs.declared.object.Object.{Object}
 use Rattle.object_heap.specs.declared.property.Change.{Change}
-use Rattle.object_heap.specs.Array.{AreProper}
+use Rattle.object_heap.specs.declared.property.Prop.{Prop}
+use Rattle.object_heap.specs.Array.{AreProper, IsProper}
 use Rattle.object_heap.specs.Attempt.{Attempt}
 use Rattle.object_heap.specs.Chain as chain
-use Rattle.object_heap.specs.Chain.{AreOlder, object_at}
+use Rattle.object_heap.specs.Chain.{AreOlder, HaveOlderTargets, object_at}
 use Rattle.object_heap.specs.Define as object
 use Rattle.object_heap.specs.Define.{length_name, number}
-use Rattle.object_heap.specs.Environment.{value_of, with_value_of}
-use Rattle.object_heap.specs.Object.{is_list}
-use Rattle.object_heap.specs.Property.{Props}
+use Rattle.object_heap.specs.Environment.{AreInside, Bound, Environment, environment_at, inside, new_environment, value_of, with_bound}
+use Rattle.object_heap.specs.Object.{is_list, Object, settled, whole_object, with_closed, with_dispatch, with_event, with_props}
+use Rattle.object_heap.specs.Property.{HasDistinctNames, Props, own_property}
 
 -- an id is a place in its list
 pub record Contents : Type 0 where
@@ -35,9 +33,11 @@ with_objects h objects = record { objects = objects; environments = h.environmen
 abbrev pub with_environments : Contents → List Environment → Contents
 with_environments h environments = record { objects = h.objects; environments = environments }
 
--- the object at the place becomes another
+-- the object at the place becomes another; nothing changes where there is none
 abbrev pub with_object : Contents → ℕ → Object → Contents
 with_object h k o = with_objects h (slice_set h.objects k o)
+
+-- ---- what is made
 
 -- an array has its length from the start (15.4.2)
 abbrev pub first_props : Class → Props
@@ -46,54 +46,63 @@ first_props class =
     else []
 
 abbrev pub new_object : Class → Option ObjId → Object
-new_object class proto = record { class = class; proto = proto; extensible = true; closed = false; props = first_props class }
+new_object class proto = whole_object class proto (first_props class)
 
 -- one more object, the youngest
 abbrev pub with_new_object : Contents → Object → Contents
 with_new_object h o = with_objects h (h.objects ++ o ∷ [])
+
+-- the object is made: a prototype or target that is not there counts as none
+abbrev pub made : Contents → Object → Contents
+made h o = with_new_object h (settled (length h.objects) o)
+
+-- one more environment, the youngest
+abbrev pub with_new_environment : Contents → Environment → Contents
+with_new_environment h e = with_environments h (h.environments ++ e ∷ [])
+
+-- the environment is made: one round it that is not there counts as none
+abbrev pub opened : Contents → Option EnvId → Bound → Contents
+opened h outer names = with_new_environment h (new_environment (inside (length h.environments) outer) names)
+
+-- ---- what is done to an object
 
 -- the heap after something was tried on the object at the place
 abbrev pub at_object : Contents → ℕ → Attempt Object → Attempt Contents
 at_object h k attempt = record { after = with_object h k attempt.after; thrown = attempt.thrown }
 
 -- [[Put]] (8.12.5)
-abbrev pub put : Contents → ℕ → List ℕ → Value → Attempt Contents
+unfoldable pub put : Contents → ℕ → List ℕ → Value → Attempt Contents
 put h k name v = at_object h k (object.put_own (chain.can_put h.objects k name) (object_at h.objects k) name v)
 
 -- [[DefineOwnProperty]] (8.12.9 and 15.4.5.1)
-abbrev pub define_own : Contents → ℕ → List ℕ → Change → Attempt Contents
+unfoldable pub define_own : Contents → ℕ → List ℕ → Change → Attempt Contents
 define_own h k name change = at_object h k (object.define_own (object_at h.objects k) name change)
 
 -- [[Delete]] (8.12.7)
-abbrev pub delete : Contents → ℕ → List ℕ → Attempt Contents
+unfoldable pub delete : Contents → ℕ → List ℕ → Attempt Contents
 delete h k name = at_object h k (object.delete_own (object_at h.objects k) name)
 
-abbrev pub prevent_extensions : Contents → ℕ → Attempt Contents
+unfoldable pub prevent_extensions : Contents → ℕ → Attempt Contents
 prevent_extensions h k = at_object h k (object.prevented (object_at h.objects k))
 
--- the object, closed
-abbrev pub closed : Object → Object
-closed o = record { class = o.class; proto = o.proto; extensible = o.extensible; closed = true; props = o.props }
+-- the property is the object's last; an array, and an object that has one of the name, stays as it is
+abbrev pub with_added : Object → List ℕ → Prop → Object
+with_added o name p =
+    if is_list o.class || is_some (own_property o.props name) then o else with_props o (o.props ++ (name, p) ∷ [])
 
-abbrev pub is_event : Class → Bool
-is_event (Event parts) = true
-is_event class = false
+unfoldable pub add_property : Contents → ℕ → List ℕ → Prop → Contents
+add_property h k name p = with_object h k (with_added (object_at h.objects k) name p)
 
--- the event, with these parts
-abbrev pub with_event : Object → EventParts → Object
-with_event o parts = record { class = Event parts; proto = o.proto; extensible = o.extensible; closed = o.closed; props = o.props }
+abbrev pub close : Contents → ℕ → Contents
+close h k = with_object h k (with_closed (object_at h.objects k))
 
--- stands for an environment where there is none
-abbrev pub no_environment : Environment
-no_environment = record { outer = None; names = [] }
+abbrev pub set_event : Contents → ℕ → EventParts → Contents
+set_event h k parts = with_object h k (with_event (object_at h.objects k) parts)
 
--- the environment at the place
-abbrev pub environment_at : List Environment → ℕ → Environment
-environment_at environments k = slice_index_or environments k no_environment
+abbrev pub set_dispatch : Contents → ℕ → Bool → Option ObjId → Option ObjId → ℕ → Contents
+set_dispatch h k sent target current phase = with_object h k (with_dispatch (object_at h.objects k) sent target current phase)
 
--- one more environment, the youngest
-abbrev pub with_new_environment : Contents → Environment → Contents
-with_new_environment h e = with_environments h (h.environments ++ e ∷ [])
+-- ---- names
 
 -- the value here, with the place, or else what is found outwards, if there is an environment round it
 abbrev pub first_bound : ℕ → Option Value → Option EnvId → (ℕ → Option (EnvId × Value)) → Option (EnvId × Value)
@@ -108,23 +117,30 @@ bound_within environments (suc n) k name =
     first_bound k (value_of (environment_at environments k).names name) (environment_at environments k).outer (λ e. bound_within environments n e name)
 
 -- where the name is bound from this environment outwards, with its value (10.2.2.1)
-abbrev pub lookup : List Environment → ℕ → List ℕ → Option (EnvId × Value)
+unfoldable pub lookup : List Environment → ℕ → List ℕ → Option (EnvId × Value)
 lookup environments k name = bound_within environments (suc k) k name
 
-abbrev pub with_bound : Environment → List ℕ → Value → Environment
-with_bound e name v = record { outer = e.outer; names = with_value_of e.names name v }
+-- the same from an environment that there may be
+abbrev pub look_in : List Environment → Option EnvId → List ℕ → Option (EnvId × Value)
+look_in environments None name = None
+look_in environments (Some e) name = lookup environments e.0 name
 
--- the name of the environment takes the value (10.2.1.1.3)
-abbrev pub set : Contents → ℕ → List ℕ → Value → Contents
+-- the name of the environment takes the value (10.2.1.1.3); nothing changes where it is not there
+unfoldable pub set : Contents → ℕ → List ℕ → Value → Contents
 set h k name v =
     with_environments h (slice_set h.environments k (with_bound (environment_at h.environments k) name v))
 
--- each outer environment is older than the inner one
-abbrev pub AreInside : List Environment → Type 0
-AreInside environments = (k : ℕ) → ForSome (environment_at environments k).outer (λ e. e.0 < k)
+-- ---- what holds of each heap
 
--- ages are in order, and arrays are arrays
+-- an object that may be made: an array is one, and no two properties have the same name
+pub record IsFit (o : Object) : Type 0 where
+  pub array : IsProper o
+  pub names : HasDistinctNames o.props
+
+-- prototypes, targets and outer environments are older, arrays are arrays, and names are distinct
 pub record IsSound (h : Contents) : Type 0 where
   pub prototypes : AreOlder h.objects
+  pub targets : HaveOlderTargets h.objects
   pub environments : AreInside h.environments
   pub arrays : AreProper h.objects
+  pub names : (k : ℕ) → HasDistinctNames (object_at h.objects k).props

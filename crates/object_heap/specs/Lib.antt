@@ -4,6 +4,7 @@ pub mod Chain
 pub mod Counted
 pub mod Define
 pub mod Environment
+pub mod Function
 pub mod Heap
 pub mod Index
 pub mod Laws

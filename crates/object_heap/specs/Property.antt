@@ -4,8 +4,8 @@ use Rattle.std.specs.Ordering.{int_eq}
 use Rattle.std.specs.Option.{option_eq}
 use Rattle.std.specs.List.{IsDistinct}
 use Rattle.std.specs.Map.{lookup, set_value, remove_entry, keys_of}
-use Rattle.js_core.specs.declared.value.Value.{Value}
-use Rattle.js_core.specs.declared.value.Value.TheVariants.{Undefined, Null, Bool as Truth, Num, Text, Object}
+use Rattle.js_values.specs.declared.value.Value.{Value}
+use Rattle.js_values.specs.declared.value.Value.TheVariants.{Undefined, Null, Bool as Truth, Num, Text, Object}
 use Rattle.object_heap.specs.declared.property.Prop.{Prop}
 use Rattle.object_heap.specs.declared.property.Change.{Change}
 
@@ -42,6 +42,18 @@ same_value (Num a) (Num b) = option_eq int_eq a b
 same_value (Text a) (Text b) = bytes_eq a b
 same_value (Object a) (Object b) = nat_eq a.0 b.0
 same_value a b = false
+
+-- a property that stays as it is
+abbrev pub fixed : Value → Prop
+fixed v = record { value = v; writable = false; enumerable = false; configurable = false }
+
+-- one that may be written and nothing else
+abbrev pub lasting : Value → Prop
+lasting v = record { value = v; writable = true; enumerable = false; configurable = false }
+
+-- one that may be written and deleted and is not seen
+abbrev pub hidden : Value → Prop
+hidden v = record { value = v; writable = true; enumerable = false; configurable = true }
 
 -- the attribute is asked for, and true
 abbrev pub asks : Option Bool → Bool

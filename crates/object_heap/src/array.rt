@@ -1,6 +1,7 @@
 //! Arrays: how their elements and their length are defined (ECMA-262 5.1 section 15.4.5.1).
 
 ghost use Rattle.std.specs.Prelude.{◌≡◌, ◌≤◌, ◌<◌, IfOk, IfSome, is_some};
+ghost use Rattle.object_heap.specs.Array.{IsArray, IsProper};
 ghost use Rattle.object_heap.specs.Attempt.{Follows};
 ghost use Rattle.object_heap.specs.Define.{
   array_length,
@@ -23,11 +24,12 @@ use crate::fault::{HeapFault, Refused};
 use crate::index::array_index;
 use crate::object::Object;
 use crate::property::{Change, Prop};
+use js_core::ascii::ascii_text;
 use js_core::memory::OutOfMemory;
-use js_core::throw::Throw;
 use js_core::units::Units;
-use js_core::value::Value;
 use js_core::whole::Whole;
+use js_values::throw::Throw;
+use js_values::value::Value;
 use std::alloc::Global;
 
 const LENGTH: &[u8] = b"length";
@@ -40,9 +42,10 @@ impl Object {
         change: &Change,
         refused: Refused,
     ) -> Result<(), HeapFault>
+        requires { IsProper self.old }
         ensures { Follows (define (throw_of refused) self.old name.now change.now) self.old self.new result }
     {
-        if !self.class.is_list() {
+        if !self.class().is_list() {
             return self.define_ordinary(name, change, refused);
         }
         if name.spells(LENGTH) {
@@ -87,7 +90,8 @@ impl Object {
         change: &Change,
         refused: Refused,
     ) -> Result<(), HeapFault>
-        requires { name.now ≡ length_name }
+        requires name { name.now ≡ length_name }
+        requires array { IsArray self.old.props }
         ensures { Follows (define_length (throw_of refused) self.old change.now change.now.value) self.old self.new result }
     {
         let Some(value) = &change.value else {
@@ -111,19 +115,20 @@ impl Object {
         refused: Refused,
     ) -> Result<(), HeapFault>
         requires name { name.now ≡ length_name }
-        requires end { end ≤ index_end }
+        requires array { IsArray self.old.props }
+        requires end { end ≤ array_length self.old }
         ensures { Follows (shrunk (throw_of refused) self.old change.now end (own_property self.old.props length_name)) self.old self.new result }
     {
-        let Some(prop) = self.props.get(name) else {
+        let Some(prop) = self.own(name) else {
             return Err(HeapFault::Throw(refused.throw()));
         };
         if !prop.writable || !prop.may_update(change) {
             return Err(HeapFault::Throw(refused.throw()));
         }
         let updated = change.updated(prop)?;
-        let kept = self.props.end_kept(end);
-        self.props.keep_elements_below(kept);
-        self.props.set(name, updated.with_value(number(kept)));
+        let len = self.array_length();
+        let kept = self.delete_elements(len, end);
+        self.set_property(name, updated.with_value(number(kept)));
         if kept == end {
             Ok(())
         } else {
@@ -135,7 +140,7 @@ impl Object {
     fn array_length(&self) -> u64
         ensures { result ≡ array_length self.now }
     {
-        match self.props.find(LENGTH) {
+        match self.props().find(LENGTH) {
             Some((_, prop)) => number_in(&prop.value),
             None => 0,
         }
@@ -146,7 +151,7 @@ impl Object {
         ensures found { IfOk result (λ name. is_some name ≡ has_writable_length self.now) }
         ensures name { IfOk result (λ name. IfSome name (λ n. n ≡ length_name)) }
     {
-        match self.props.find(LENGTH) {
+        match self.props().find(LENGTH) {
             Some((name, prop)) if prop.writable => Ok(Some(name.clone()?)),
             _ => Ok(None),
         }
@@ -158,7 +163,7 @@ impl Object {
         requires length { length ≤ index_end }
         ensures { self.new ≡ with_length self.old length }
     {
-        let longer = match self.props.get(name) {
+        let longer = match self.own(name) {
             Some(prop) => Prop {
                 value: number(length),
                 writable: prop.writable,
@@ -167,7 +172,7 @@ impl Object {
             },
             None => return,
         };
-        self.props.set(name, longer);
+        self.set_property(name, longer);
     }
 }
 
@@ -175,8 +180,7 @@ impl Object {
 pub(crate) fn length_name(alloc: Global) -> Result<Units, OutOfMemory>
     ensures { IfOk result (λ name. name ≡ length_name) }
 {
-    let units = [b'l', b'e', b'n', b'g', b't', b'h'].map(u16::from);
-    Units::of(alloc, &units)
+    ascii_text(alloc, LENGTH)
 }
 
 /// The number as a value.

@@ -6,8 +6,8 @@ ghost use Rattle.object_heap.specs.Chain.{AreOlder, can_put, get_property};
 
 use crate::object::Object;
 use crate::property::Prop;
-use js_core::ids::ObjId;
 use js_core::units::Units;
+use js_values::ids::ObjId;
 
 /// The property of the name that the object has, or else its prototype, and so on (ECMA-262 5.1 section 8.12.2).
 #[tactic(auto, using(crate::proofs::Chains::step))]
@@ -19,10 +19,10 @@ pub(crate) fn get_property<'a>(objects: &'a [Object], at: ObjId, name: &Units) -
     let mut at = at;
     loop {
         let object = &objects[at.0 as usize];
-        if let Some(prop) = object.props.get(name) {
+        if let Some(prop) = object.own(name) {
             return Some(prop);
         }
-        let Some(proto) = object.proto else {
+        let Some(proto) = object.proto() else {
             return None;
         };
         at = proto;
@@ -30,20 +30,21 @@ pub(crate) fn get_property<'a>(objects: &'a [Object], at: ObjId, name: &Units) -
 }
 
 /// Whether the object may have a value put to its property of the name (ECMA-262 5.1 section 8.12.4).
+#[tactic(auto, unfolding(crate::specs::Chain::can_put))]
 pub(crate) fn can_put(objects: &[Object], at: ObjId, name: &Units) -> bool
     requires ages { AreOlder objects.now }
     requires there { at.0 < length objects.now }
     ensures { result ≡ can_put objects.now at.0 name.now }
 {
     let object = &objects[at.0 as usize];
-    if let Some(prop) = object.props.get(name) {
+    if let Some(prop) = object.own(name) {
         return prop.writable;
     }
-    let Some(proto) = object.proto else {
-        return object.extensible;
+    let Some(proto) = object.proto() else {
+        return object.is_extensible();
     };
     match get_property(objects, proto, name) {
-        Some(inherited) => object.extensible && inherited.writable,
-        None => object.extensible,
+        Some(inherited) => object.is_extensible() && inherited.writable,
+        None => object.is_extensible(),
     }
 }

@@ -11,7 +11,7 @@ use crate::object::Object;
 use crate::property::{Change, Prop, is_same_value};
 use js_core::memory::OutOfMemory;
 use js_core::units::Units;
-use js_core::value::Value;
+use js_values::value::Value;
 
 impl Change {
     /// The new property that has what is asked for; all else is undefined or false.
@@ -101,21 +101,21 @@ impl Object {
     ) -> Result<(), HeapFault>
         ensures { Follows (define_ordinary (throw_of refused) self.old name.now change.now) self.old self.new result }
     {
-        match self.props.get(name) {
+        match self.own(name) {
             Some(prop) => {
                 if !prop.may_update(change) {
                     return Err(HeapFault::Throw(refused.throw()));
                 }
                 let updated = change.updated(prop)?;
-                self.props.set(name, updated);
+                self.set_property(name, updated);
                 Ok(())
             }
             None => {
-                if !self.extensible {
+                if !self.is_extensible() {
                     return Err(HeapFault::Throw(refused.throw()));
                 }
                 let created = change.created()?;
-                self.props.push(name, created)?;
+                self.push_property(name, created)?;
                 Ok(())
             }
         }

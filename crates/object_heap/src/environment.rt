@@ -1,15 +1,13 @@
 //! Environments: the names that a function, a catch clause or a named function expression binds (ECMA-262 5.1 section 10.2).
 
-ghost use Rattle.std.specs.Prelude.{◌≡◌, ◌<◌, IfOk, length, option_map};
-ghost use Rattle.object_heap.specs.Heap.{AreInside, lookup};
+ghost use Rattle.std.specs.Prelude.{◌≡◌, ◌<◌, IfSome, Some, length, option_map};
+ghost use Rattle.object_heap.specs.Heap.{lookup};
 ghost use Rattle.std.specs.Option.{option_copied};
-ghost use Rattle.object_heap.specs.Environment.{value_of, with_value_of};
+ghost use Rattle.object_heap.specs.Environment.{AreInside, environment_at, inside, new_environment, value_of, with_bound, with_value_of};
 
-use js_core::ids::EnvId;
-use js_core::memory::OutOfMemory;
 use js_core::units::Units;
-use js_core::value::Value;
-use std::alloc::Global;
+use js_values::ids::EnvId;
+use js_values::value::Value;
 use std::marker::Model;
 
 /// Names with values, in order, which contracts see as the list of them.
@@ -26,24 +24,70 @@ impl Model for Bindings {
     ghost view = { λ b. b.items.items };
 }
 
-/// An environment: its names with their values, and the environment round it, if any.
+/// An environment: its names with their values, and the environment round it, if any, which is older.
 #[derive(Drop)]
 pub struct Environment {
-    /// The environment round it, which is older.
-    pub outer: Option<EnvId>,
-    pub names: Bindings,
+    outer: Option<EnvId>,
+    names: Bindings,
+}
+
+impl Model for Environment {
+    ghost use Rattle.object_heap.specs.Environment as pure;
+
+    ghost Value = { pure.Environment };
+
+    ghost view = { λ e. record {
+      outer = e.outer;
+      names = e.names;
+    } };
+}
+
+impl Environment {
+    /// An environment with these names, inside another one, if any.
+    pub(crate) fn new(outer: Option<EnvId>, names: Bindings) -> Environment
+        ensures { result ≡ new_environment outer names }
+    {
+        Environment { outer, names }
+    }
+
+    /// The environment round it.
+    pub(crate) fn outer(&self) -> Option<EnvId>
+        ensures { result ≡ self.now.outer }
+    {
+        self.outer
+    }
+
+    /// The value of the name, or `None` exactly where it is not bound here.
+    pub(crate) fn get(&self, name: &Units) -> Option<&Value>
+        ensures { option_copied result ≡ value_of self.now.names name.now }
+    {
+        self.names.get(name)
+    }
+
+    /// The name takes the value. All else stays, and all stays where the name is not there.
+    pub(crate) fn set(&mut self, name: &Units, value: Value)
+        ensures { self.new ≡ with_bound self.old name.now value }
+    {
+        self.names.set(name, value);
+    }
+}
+
+/// The environment, where it is older than the place.
+pub(crate) fn inside(outer: Option<EnvId>, at: u64) -> Option<EnvId>
+    ensures { result ≡ inside at outer }
+{
+    match outer {
+        Some(outer) if outer.0 < at => Some(outer),
+        _ => None,
+    }
 }
 
 impl Bindings {
-    /// These names with these values.
-    pub(crate) fn of(alloc: Global, names: &[(Units, Value)]) -> Result<Bindings, OutOfMemory>
-        ensures { IfOk result (λ bindings. bindings ≡ names.now) }
+    /// These names with these values. Nothing is copied.
+    pub(crate) fn of(items: Vec<(Units, Value)>) -> Bindings
+        ensures { result ≡ items.items }
     {
-        let mut items = Vec::new(alloc);
-        for (name, value) in names {
-            items.push((name.clone()?, value.clone()?))?;
-        }
-        Ok(Bindings { items })
+        Bindings { items }
     }
 
     /// The value of the name, or `None` exactly where it is not there. Of two bindings of one name the first counts.
@@ -82,15 +126,17 @@ pub(crate) fn lookup<'a>(
 ) -> Option<(EnvId, &'a Value)>
     requires ages { AreInside environments.now }
     requires there { from.0 < length environments.now }
-    ensures { option_map (λ found. (found.0, found.1.now)) result ≡ lookup environments.now from.0 name.now }
+    ensures found { option_map (λ found. (found.0, found.1.now)) result ≡ lookup environments.now from.0 name.now }
+    ensures there { IfSome result (λ found. found.0.0 < length environments.now) }
+    ensures bound { IfSome result (λ found. value_of (environment_at environments.now found.0.0).names name.now ≡ Some found.1.now) }
 {
     let mut at = from;
     loop {
         let environment = &environments[at.0 as usize];
-        if let Some(value) = environment.names.get(name) {
+        if let Some(value) = environment.get(name) {
             return Some((at, value));
         }
-        let Some(outer) = environment.outer else {
+        let Some(outer) = environment.outer() else {
             return None;
         };
         at = outer;

@@ -4,7 +4,7 @@ ghost use Rattle.std.specs.Prelude.{◌≡◌};
 ghost use Rattle.object_heap.specs.Refused.{throw_of};
 
 use js_core::memory::OutOfMemory;
-use js_core::throw::Throw;
+use js_values::throw::Throw;
 
 /// Why a call on the heap did not do what it was asked.
 #[derive(Debug, Drop)]

@@ -4,8 +4,11 @@ ghost use Rattle.object_heap.specs.Counted.{ShrinksAsCounted};
 ghost use Rattle.object_heap.specs.Laws.{
   FrozenStays,
   IndicesAreDecimal,
+  KeepsKinds,
   LengthIsAbove,
   LooksOn,
+  NeverFewer,
+  OnlyThere,
   OthersStay,
   PutThenGet,
   StaysSound,
@@ -17,7 +20,7 @@ pub fn properties_are_kept()
     ensures put_then_get { PutThenGet }
     // A property stays where another one that is no array's length is put, defined or deleted.
     ensures others_stay { OthersStay }
-    // An object that is frozen never changes, whatever is tried on it.
+    // An object that is frozen never changes, whatever a script does.
     ensures frozen_stays { FrozenStays }
 {}
 
@@ -27,14 +30,24 @@ pub fn chains_are_walked()
     ensures { LooksOn }
 {}
 
-/// The laws of arrays and ages.
+/// The laws of arrays.
 pub fn arrays_are_kept()
     // An array index is what a number below 2^32 - 1 is written as.
     ensures indices_are_decimal { IndicesAreDecimal }
     // A shrink leaves what deleting element by element from the top leaves.
     ensures shrinks_as_counted { ShrinksAsCounted }
-    // Whatever is put, defined or deleted, the length of an array is above the index of each element.
+    // Whatever is done, the length of an array is above the index of each element.
     ensures length_is_above { LengthIsAbove }
-    // And prototypes stay older than what has them.
+{}
+
+/// The laws of the whole heap.
+pub fn heaps_are_kept()
+    // Prototypes, targets and outer environments stay older, arrays arrays, and names distinct.
     ensures stays_sound { StaysSound }
+    // An old object keeps its prototype and its class, but for an event's parts.
+    ensures keeps_kinds { KeepsKinds }
+    // Nothing is ever lost.
+    ensures never_fewer { NeverFewer }
+    // Only the object or environment of a call changes.
+    ensures only_there { OnlyThere }
 {}

@@ -2,11 +2,13 @@
 //! 15.4.5.1).
 #![tactic(auto)]
 
+mod absent;
 pub mod array;
 pub mod chain;
 pub mod define;
 pub mod environment;
 pub mod fault;
+mod function;
 pub mod heap;
 pub mod index;
 pub mod laws;

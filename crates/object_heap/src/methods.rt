@@ -1,16 +1,19 @@
 //! The internal methods of one object (ECMA-262 5.1 section 8.12) but those that go up to its prototype.
 
-ghost use Rattle.std.specs.Prelude.{◌≡◌};
+ghost use Rattle.std.specs.Prelude.{◌≡◌, OnErr, OnOk};
+ghost use Rattle.object_heap.specs.Array.{IsProper};
 ghost use Rattle.object_heap.specs.Attempt.{Follows};
 ghost use Rattle.object_heap.specs.Define.{define_own, delete_own, is_closed_at, prevented, put_change, put_own};
+ghost use Rattle.object_heap.specs.Heap.{with_added};
 ghost use Rattle.object_heap.specs.Property.{own_property};
 
 use crate::fault::{HeapFault, Refused};
 use crate::object::Object;
-use crate::property::Change;
+use crate::property::{Change, Prop};
 use js_core::global_names::is_global_name;
+use js_core::memory::OutOfMemory;
 use js_core::units::Units;
-use js_core::value::Value;
+use js_values::value::Value;
 
 impl Object {
     /// Whether the property of the name may not be put, defined or deleted: the object is closed, or it is the global
@@ -18,14 +21,15 @@ impl Object {
     pub(crate) fn is_closed_at(&self, name: &Units) -> bool
         ensures { result ≡ is_closed_at self.now name.now }
     {
-        if self.closed {
+        if self.is_closed() {
             return true;
         }
-        self.class.is_window() && is_global_name(name) && self.props.get(name).is_some()
+        self.class().is_window() && is_global_name(name) && self.own(name).is_some()
     }
 
     /// Defines a property (section 8.12.9, for arrays 15.4.5.1).
     pub(crate) fn define_own(&mut self, name: &Units, change: &Change) -> Result<(), HeapFault>
+        requires { IsProper self.old }
         ensures { Follows (define_own self.old name.now change.now) self.old self.new result }
     {
         if self.is_closed_at(name) {
@@ -41,6 +45,7 @@ impl Object {
         name: &Units,
         value: Value,
     ) -> Result<(), HeapFault>
+        requires { IsProper self.old }
         ensures { Follows (put_own may_put self.old name.now value) self.old self.new result }
     {
         if self.is_closed_at(name) || !may_put {
@@ -54,7 +59,7 @@ impl Object {
     fn put_change(&self, name: &Units, value: Value) -> Change
         ensures { result ≡ put_change value (own_property self.now.props name.now) }
     {
-        match self.props.get(name) {
+        match self.own(name) {
             Some(_) => Change {
                 value: Some(value),
                 writable: None,
@@ -77,24 +82,36 @@ impl Object {
         if self.is_closed_at(name) {
             return Err(HeapFault::Throw(Refused::Delete.throw()));
         }
-        match self.props.get(name) {
+        match self.own(name) {
             Some(prop) if !prop.configurable => Err(HeapFault::Throw(Refused::Delete.throw())),
             Some(_) => {
-                self.props.remove(name);
+                self.remove_property(name);
                 Ok(())
             }
             None => Ok(()),
         }
     }
 
+    /// Adds a property, which is the last. An array, and an object that has one of the name, stays as it is. After an error
+    /// nothing has changed.
+    pub(crate) fn add_property(&mut self, name: &Units, prop: Prop) -> Result<(), OutOfMemory>
+        ensures ok { OnOk result (self.new ≡ with_added self.old name.now prop) }
+        ensures err { OnErr result (self.new ≡ self.old) }
+    {
+        if self.class().is_list() || self.own(name).is_some() {
+            return Ok(());
+        }
+        self.push_property(name, prop)
+    }
+
     /// From now on the object gets no new properties (section 15.2.3.10). The global object and closed ones refuse.
     pub(crate) fn prevent_extensions(&mut self) -> Result<(), HeapFault>
         ensures { Follows (prevented self.old) self.old self.new result }
     {
-        if self.closed || self.class.is_window() {
+        if self.is_closed() || self.class().is_window() {
             return Err(HeapFault::Throw(Refused::Define.throw()));
         }
-        self.extensible = false;
+        self.make_not_extensible();
         Ok(())
     }
 }

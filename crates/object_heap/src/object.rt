@@ -1,14 +1,35 @@
 //! Objects.
 
-ghost use Rattle.std.specs.Prelude.{◌≡◌};
-ghost use Rattle.object_heap.specs.Object.{is_list, is_window};
+ghost use Rattle.std.specs.Prelude.{◌≡◌, ◌≤◌, ◌++◌, ◌∷◌, [], None, OnErr, OnOk, if◌then◌else◌};
+ghost use Rattle.std.specs.Option.{option_copied};
+ghost use Rattle.object_heap.specs.Counted.{AreBelow};
+ghost use Rattle.object_heap.specs.Define.{elements_below, end_kept};
+ghost use Rattle.object_heap.specs.Index.{index_end};
+ghost use Rattle.object_heap.specs.declared.object.Class.TheVariants.{Plain};
+ghost use Rattle.object_heap.specs.Object.{
+  class_at,
+  is_list,
+  is_window,
+  not_extensible,
+  older,
+  whole_object,
+  with_closed,
+  with_dispatch,
+  with_event,
+  with_props,
+};
+ghost use Rattle.object_heap.specs.Property.{own_property, with_property, without_property};
 
 use crate::properties::Properties;
+use crate::property::Prop;
 use crate::values::Values;
-use js_core::built_in::BuiltIn;
-use js_core::ids::{CodeId, EnvId, NodeId, ObjId};
+use code_table::FunctionCode;
+use js_core::memory::OutOfMemory;
 use js_core::units::Units;
-use js_core::value::Value;
+use js_values::built_in::BuiltIn;
+use js_values::ids::{EnvId, NodeId, ObjId};
+use js_values::value::Value;
+use std::marker::Model;
 
 /// What kind of object it is, with what only objects of this kind have (ECMA-262 5.1 section 8.6.2).
 #[derive(Drop)]
@@ -20,7 +41,7 @@ pub enum Class {
     /// A function of a page, by its code and the environment round it, which is `None` at the top of a script
     /// (section 13.2).
     Page {
-        code: CodeId,
+        code: FunctionCode,
         env: Option<EnvId>,
     },
     /// A built-in function.
@@ -60,17 +81,36 @@ pub struct EventParts {
     pub phase: u8,
 }
 
-/// An object.
+/// An object, which contracts see as its class, its prototype, whether it is extensible, whether it is closed, and its
+/// properties.
 #[derive(Drop)]
 pub struct Object {
-    pub class: Class,
-    /// Its prototype, which never changes.
-    pub proto: Option<ObjId>,
-    /// It may get new properties.
-    pub extensible: bool,
-    /// None of its properties may be put, defined or deleted.
-    pub closed: bool,
-    pub props: Properties,
+    class: Class,
+    // It never changes.
+    proto: Option<ObjId>,
+    extensible: bool,
+    // None of its properties may be put, defined or deleted.
+    closed: bool,
+    props: Properties,
+}
+
+impl Model for Object {
+    ghost use Rattle.object_heap.specs.Object as pure;
+
+    ghost Value = { pure.Object };
+
+    ghost use Rattle.js_core.specs.Codes.{coded_code};
+    ghost use Rattle.std.specs.Coded.{codes};
+
+    ghost coded = { Prim.hlevel (codes, coded_code) };
+
+    ghost view = { λ o. record {
+      class = o.class;
+      proto = o.proto;
+      extensible = o.extensible;
+      closed = o.closed;
+      props = o.props;
+    } };
 }
 
 impl Class {
@@ -86,5 +126,170 @@ impl Class {
         ensures { result ≡ is_window self.now }
     {
         matches!(self, Class::Window)
+    }
+
+    // Whether it is the class of a bound function whose target is not older than the place.
+    fn has_no_target(&self, at: u64) -> bool
+        ensures { (if result then Plain else self.now) ≡ class_at at self.now }
+    {
+        match self {
+            Class::Bound { target, .. } => target.0 >= at,
+            _ => false,
+        }
+    }
+}
+
+/// The class of an object at the place: a bound function whose target is not older is none.
+pub(crate) fn class_at(class: Class, at: u64) -> Class
+    ensures { result ≡ class_at at class }
+{
+    if class.has_no_target(at) {
+        Class::Plain
+    } else {
+        class
+    }
+}
+
+/// The object, where it is older than the place.
+pub(crate) fn older(object: Option<ObjId>, at: u64) -> Option<ObjId>
+    ensures { result ≡ older at object }
+{
+    match object {
+        Some(object) if object.0 < at => Some(object),
+        _ => None,
+    }
+}
+
+impl Object {
+    /// An object with these properties and no others, which is extensible.
+    pub(crate) fn new(class: Class, proto: Option<ObjId>, props: Properties) -> Object
+        ensures { result ≡ whole_object class proto props }
+    {
+        Object {
+            class,
+            proto,
+            extensible: true,
+            closed: false,
+            props,
+        }
+    }
+
+    /// Its class.
+    pub(crate) fn class(&self) -> &Class
+        ensures { result.now ≡ self.now.class }
+    {
+        &self.class
+    }
+
+    /// Its prototype.
+    pub(crate) fn proto(&self) -> Option<ObjId>
+        ensures { result ≡ self.now.proto }
+    {
+        self.proto
+    }
+
+    /// Whether it may get new properties.
+    pub(crate) fn is_extensible(&self) -> bool
+        ensures { result ≡ self.now.extensible }
+    {
+        self.extensible
+    }
+
+    /// Whether none of its properties may be put, defined or deleted.
+    pub(crate) fn is_closed(&self) -> bool
+        ensures { result ≡ self.now.closed }
+    {
+        self.closed
+    }
+
+    /// Its properties.
+    pub(crate) fn props(&self) -> &Properties
+        ensures { result.now ≡ self.now.props }
+    {
+        &self.props
+    }
+
+    /// Its own property of the name, or `None` exactly where there is none (ECMA-262 5.1 section 8.12.1).
+    pub(crate) fn own(&self, name: &Units) -> Option<&Prop>
+        ensures { option_copied result ≡ own_property self.now.props name.now }
+    {
+        self.props.get(name)
+    }
+
+    /// One more property, which is the last. After an error nothing has changed.
+    pub(crate) fn push_property(&mut self, name: &Units, prop: Prop) -> Result<(), OutOfMemory>
+        requires { own_property self.old.props name.now ≡ None }
+        ensures ok { OnOk result (self.new ≡ with_props self.old (self.old.props ++ (name.now, prop) ∷ [])) }
+        ensures err { OnErr result (self.new ≡ self.old) }
+    {
+        self.props.push(name, prop)
+    }
+
+    /// The property of the name becomes another, at its place. Nothing changes where there is none.
+    pub(crate) fn set_property(&mut self, name: &Units, prop: Prop)
+        ensures { self.new ≡ with_props self.old (with_property self.old.props name.now prop) }
+    {
+        self.props.set(name, prop);
+    }
+
+    /// The property of the name is gone. Nothing changes where there is none.
+    pub(crate) fn remove_property(&mut self, name: &Units)
+        ensures { self.new ≡ with_props self.old (without_property self.old.props name.now) }
+    {
+        self.props.remove(name);
+    }
+
+    /// Deletes the elements of an array from the top until its length is `end`, or down to the last one that is not
+    /// configurable, and answers the length that is left. Its length was `len`.
+    pub(crate) fn delete_elements(&mut self, len: u64, end: u64) -> u64
+        requires below { AreBelow len self.old.props }
+        requires end { end ≤ len }
+        requires small { len ≤ index_end }
+        ensures kept { result ≡ end_kept end self.old.props }
+        ensures props { self.new ≡ with_props self.old (elements_below (end_kept end self.old.props) self.old.props) }
+        ensures small { result ≤ index_end }
+    {
+        self.props.delete_elements(len, end)
+    }
+
+    /// From now on it gets no new properties.
+    pub(crate) fn make_not_extensible(&mut self)
+        ensures { self.new ≡ not_extensible self.old }
+    {
+        self.extensible = false;
+    }
+
+    /// From now on none of its properties may be put, defined or deleted.
+    pub(crate) fn close(&mut self)
+        ensures { self.new ≡ with_closed self.old }
+    {
+        self.closed = true;
+    }
+
+    /// An event gets these parts. Nothing changes where it is none.
+    pub(crate) fn set_event(&mut self, parts: EventParts)
+        ensures { self.new ≡ with_event self.old parts }
+    {
+        if let Class::Event(_) = &self.class {
+            self.class = Class::Event(parts);
+        }
+    }
+
+    /// An event gets this state of a dispatch. Nothing changes where it is none. No memory.
+    pub(crate) fn set_dispatch(
+        &mut self,
+        sent: bool,
+        target: Option<ObjId>,
+        current: Option<ObjId>,
+        phase: u8,
+    )
+        ensures { self.new ≡ with_dispatch self.old sent target current phase }
+    {
+        if let Class::Event(parts) = &mut self.class {
+            parts.sent = sent;
+            parts.target = target;
+            parts.current = current;
+            parts.phase = phase;
+        }
     }
 }

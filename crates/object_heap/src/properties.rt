@@ -1,7 +1,8 @@
 //! The properties of an object, in order of creation.
 
-ghost use Rattle.std.specs.Prelude.{◌≡◌, ◌++◌, ◌∷◌, [], None, IfOk, OnOk, OnErr, option_map, option_copied, slice_get, length, ◌≤◌, ◌<◌, IfSome};
+ghost use Rattle.std.specs.Prelude.{◌≡◌, true, false, ◌++◌, ◌∷◌, [], None, IfOk, OnOk, OnErr, option_map, option_copied, slice_get, length, ◌≤◌, ◌<◌, IfSome};
 ghost use Rattle.std.specs.Option.{ForSome};
+ghost use Rattle.object_heap.specs.Counted.{AreBelow, IsPopped, shrunk_props};
 ghost use Rattle.object_heap.specs.Define.{end_kept, end_with, elements_below, is_below};
 ghost use Rattle.object_heap.specs.Index.{index_end, index_of};
 ghost use Rattle.std.specs.Map.{keys_of};
@@ -33,7 +34,7 @@ impl Model for Properties {
 
 impl Properties {
     /// No properties.
-    pub(crate) fn new(alloc: Global) -> Properties
+    pub fn new(alloc: Global) -> Properties
         ensures { result ≡ [] }
     {
         Properties {
@@ -42,7 +43,7 @@ impl Properties {
     }
 
     /// The property of the name, or `None` exactly where there is none (ECMA-262 5.1 section 8.12.1).
-    pub(crate) fn get(&self, name: &Units) -> Option<&Prop>
+    pub fn get(&self, name: &Units) -> Option<&Prop>
         ensures { option_copied result ≡ own_property self.now name.now }
     {
         self.table.get(name)
@@ -70,7 +71,7 @@ impl Properties {
     }
 
     /// The number of properties. No two have the same name.
-    pub(crate) fn len(&self) -> usize
+    pub fn len(&self) -> usize
         ensures len { result ≡ length self.now }
         ensures distinct { HasDistinctNames self.now }
     {
@@ -79,7 +80,7 @@ impl Properties {
 
     /// One more property, which is the last. After an error nothing has changed.
     #[tactic(auto, using(crate::proofs::Entries::insert_absent))]
-    pub(crate) fn push(&mut self, name: &Units, prop: Prop) -> Result<(), OutOfMemory>
+    pub fn push(&mut self, name: &Units, prop: Prop) -> Result<(), OutOfMemory>
         requires { own_property self.old name.now ≡ None }
         ensures ok { OnOk result (self.new ≡ self.old ++ (name.now, prop) ∷ []) }
         ensures err { OnErr result (self.new ≡ self.old) }
@@ -125,6 +126,57 @@ impl Properties {
                 ensures { (result ≡ is_below end (index_of name.now)) × (prop.new ≡ prop.old) }
             { is_below(end, array_index(name)) },
         );
+    }
+
+    /// Deletes the elements of an array from the top until its length is `end`, or down to the last one that is not
+    /// configurable, and answers the length that is left (ECMA-262 5.1 section 15.4.5.1 step 3.l). Its length was `len`.
+    /// Elements that were made last go without a look at the others.
+    pub(crate) fn delete_elements(&mut self, len: u64, end: u64) -> u64
+        requires below { AreBelow len self.old }
+        requires end { end ≤ len }
+        requires small { len ≤ index_end }
+        ensures kept { result ≡ end_kept end self.old }
+        ensures props { self.new ≡ elements_below (end_kept end self.old) self.old }
+        ensures small { result ≤ index_end }
+    {
+        if self.pop_elements(len, end) == end {
+            return end;
+        }
+        let kept = self.end_kept(end);
+        self.keep_elements_below(kept);
+        kept
+    }
+
+    // As far as the element at the top was made last and may be deleted, it goes. The length that is left.
+    fn pop_elements(&mut self, len: u64, end: u64) -> u64
+        requires below { AreBelow len self.old }
+        requires end { end ≤ len }
+        requires small { len ≤ index_end }
+        ensures same { shrunk_props end self.new ≡ shrunk_props end self.old }
+        ensures below { AreBelow result self.new }
+    {
+        let mut top = len;
+        while top > end {
+            let _distinct = self.len();
+            if !self.pop_element(top - 1) {
+                break;
+            }
+            top -= 1;
+        }
+        top
+    }
+
+    // Whether the property that was made last is this element and may be deleted; then it is gone.
+    fn pop_element(&mut self, index: u64) -> bool
+        ensures popped { result ≡ true → IsPopped index self.old self.new }
+        ensures kept { result ≡ false → self.new ≡ self.old }
+    {
+        match self.table.last() {
+            Some((name, prop)) if prop.configurable && array_index(name) == Some(index) => {}
+            _ => return false,
+        }
+        self.table.pop();
+        true
     }
 
     /// The names, in order. No two are the same.

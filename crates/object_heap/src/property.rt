@@ -1,9 +1,10 @@
 //! Properties and what is asked of them.
 
-ghost use Rattle.std.specs.Prelude.{◌≡◌};
-ghost use Rattle.object_heap.specs.Property.{same_value};
+ghost use Rattle.std.specs.Prelude.{◌≡◌, IfOk};
+ghost use Rattle.object_heap.specs.Property.{fixed, hidden, lasting, same_value};
 
-use js_core::value::Value;
+use js_core::memory::OutOfMemory;
+use js_values::value::Value;
 
 /// A property with its attributes (ECMA-262 5.1 section 8.6.1). There are no accessors.
 #[derive(Debug, PartialEq, Eq, Drop)]
@@ -12,6 +13,56 @@ pub struct Prop {
     pub writable: bool,
     pub enumerable: bool,
     pub configurable: bool,
+}
+
+impl Prop {
+    /// A property that stays as it is.
+    pub fn fixed(value: Value) -> Prop
+        ensures { result ≡ fixed value }
+    {
+        Prop {
+            value,
+            writable: false,
+            enumerable: false,
+            configurable: false,
+        }
+    }
+
+    /// A property that may be written and nothing else.
+    pub fn lasting(value: Value) -> Prop
+        ensures { result ≡ lasting value }
+    {
+        Prop {
+            value,
+            writable: true,
+            enumerable: false,
+            configurable: false,
+        }
+    }
+
+    /// A property that may be written and deleted and is not seen.
+    pub fn hidden(value: Value) -> Prop
+        ensures { result ≡ hidden value }
+    {
+        Prop {
+            value,
+            writable: true,
+            enumerable: false,
+            configurable: true,
+        }
+    }
+
+    /// The same property. A string shares its units.
+    pub fn clone(&self) -> Result<Prop, OutOfMemory>
+        ensures { IfOk result (λ prop. prop ≡ self.now) }
+    {
+        Ok(Prop {
+            value: self.value.clone()?,
+            writable: self.writable,
+            enumerable: self.enumerable,
+            configurable: self.configurable,
+        })
+    }
 }
 
 /// What a property is to become: a value for each attribute that is to change or that a new property is to have

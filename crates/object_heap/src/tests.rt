@@ -5,13 +5,15 @@ use crate::fault::HeapFault;
 use crate::heap::Heap;
 use crate::index::array_index;
 use crate::object::{Class, EventParts};
+use crate::properties::Properties;
 use crate::property::{Change, Prop};
-use js_core::built_in::BuiltIn;
-use js_core::ids::{EnvId, ObjId};
-use js_core::throw::Throw;
+use crate::values::Values;
 use js_core::units::Units;
-use js_core::value::Value;
 use js_core::whole::Whole;
+use js_values::built_in::BuiltIn;
+use js_values::ids::{EnvId, ObjId};
+use js_values::throw::Throw;
+use js_values::value::Value;
 use std::alloc::Global;
 use std::test::Fail;
 
@@ -105,9 +107,6 @@ fn step(alloc: Global, heap: &mut Heap, at: ObjId, line: &str) -> Result<&'stati
     let (verb, rest) = line.split_once(' ').unwrap_or((line, ""));
     let (word, more) = rest.split_once(' ').unwrap_or((rest, ""));
     let name = text(alloc, word)?;
-    if at.0 >= heap.count() {
-        return Ok("missing");
-    }
     Ok(end(match verb {
         "put" => heap.put(at, &name, value(more)?),
         "define" => heap.define_own(at, &name, &change(more)?),
@@ -140,10 +139,8 @@ fn push_property(alloc: Global, out: &mut Vec<u8>, name: &Units, prop: &Prop) ->
 fn properties(alloc: Global, heap: &Heap, at: ObjId) -> Result<Vec<u8>, Fail> {
     let mut out = Vec::new(alloc);
     for index in 0..100u64 {
-        if at.0 < heap.count() {
-            if let Some((name, prop)) = heap.own_at(at, index) {
-                push_property(alloc, &mut out, name, prop)?;
-            }
+        if let Some((name, prop)) = heap.own_at(at, index) {
+            push_property(alloc, &mut out, name, prop)?;
         }
     }
     Ok(out)
@@ -187,31 +184,20 @@ fn number(n: i64) -> Value {
 // The number that the object has under the name, itself or by its prototypes.
 fn got(alloc: Global, heap: &Heap, at: ObjId, name: &str) -> Result<Option<i64>, Fail> {
     let name = text(alloc, name)?;
-    if at.0 >= heap.count() {
-        return Ok(None);
-    }
     Ok(match heap.get(at, &name) {
         Some(Value::Num(whole)) => whole.get(),
         _ => None,
     })
 }
 
-// Whether the object is extensible.
-fn is_open(heap: &Heap, at: ObjId) -> bool {
-    at.0 < heap.count() && heap.is_extensible(at)
-}
-
 // Whether a value may be put to the object's property of the name.
 fn may_put(alloc: Global, heap: &Heap, at: ObjId, name: &str) -> Result<bool, Fail> {
     let name = text(alloc, name)?;
-    Ok(at.0 < heap.count() && heap.can_put(at, &name))
+    Ok(heap.can_put(at, &name))
 }
 
 // Whether these are the names of the object's properties, in order.
 fn has_keys(alloc: Global, heap: &Heap, at: ObjId, wanted: &str) -> Result<bool, Fail> {
-    if at.0 >= heap.count() {
-        return Ok(false);
-    }
     let mut names = Vec::new(alloc);
     for name in &heap.own_keys(at)? {
         name.to_line_text(&mut names)?;
@@ -223,19 +209,10 @@ fn has_keys(alloc: Global, heap: &Heap, at: ObjId, wanted: &str) -> Result<bool,
 // Whether the object has the property itself, and it may not be written.
 fn is_fixed(alloc: Global, heap: &Heap, at: ObjId, name: &str) -> Result<bool, Fail> {
     let name = text(alloc, name)?;
-    if at.0 >= heap.count() {
-        return Ok(false);
-    }
     Ok(match heap.own(at, &name) {
         Some(prop) => !prop.writable,
         None => false,
     })
-}
-
-fn close(heap: &mut Heap, at: ObjId) {
-    if at.0 < heap.count() {
-        heap.close(at);
-    }
 }
 
 #[test]
@@ -272,7 +249,7 @@ fn prototypes_are_asked_in_turn(rt: HostRuntime) -> Result<(), Fail> {
     assert_eq!(rt; got(alloc, &heap, young, "b")?, Some(5));
     assert_eq!(rt; got(alloc, &heap, middle, "b")?, Some(2));
     assert_eq!(rt; got(alloc, &heap, middle, "c")?, None);
-    assert!(rt; is_open(&heap, young) && !is_open(&heap, middle));
+    assert!(rt; heap.is_extensible(young) && !heap.is_extensible(middle));
     assert!(rt; may_put(alloc, &heap, young, "a")?);
     assert!(rt; !may_put(alloc, &heap, middle, "d")?);
     assert!(rt; has_keys(alloc, &heap, young, "b c ")?);
@@ -301,7 +278,7 @@ fn closed_places_refuse(rt: HostRuntime) -> Result<(), Fail> {
     for (at, line, want) in lines {
         assert_eq!(rt; step(alloc, &mut heap, at, line)?, want, "{line}");
     }
-    close(&mut heap, closed);
+    heap.close(closed);
     let lines = [
         (closed, "put a 2", "set"),
         (closed, "put length -1", "set"),
@@ -355,9 +332,6 @@ fn events_get_new_parts(rt: HostRuntime) -> Result<(), Fail> {
 // The environment that binds the name, and the number there.
 fn bound(alloc: Global, heap: &Heap, from: EnvId, name: &str) -> Result<Option<(u64, i64)>, Fail> {
     let name = text(alloc, name)?;
-    if from.0 >= heap.env_count() {
-        return Ok(None);
-    }
     Ok(match heap.lookup(from, &name) {
         Some((EnvId(at), Value::Num(whole))) => match whole.get() {
             Some(n) => Some((at, n)),
@@ -368,22 +342,75 @@ fn bound(alloc: Global, heap: &Heap, from: EnvId, name: &str) -> Result<Option<(
 }
 
 #[test]
+fn functions_have_a_prototype(rt: HostRuntime) -> Result<(), Fail> {
+    let alloc = rt.alloc();
+    let mut heap = Heap::new(alloc);
+    let class = Class::Native(BuiltIn::FunctionPrototype);
+    let function = heap.alloc_function(class, None, 2, None)?;
+    assert_eq!(rt; heap.count(), 2);
+    assert_eq!(rt;
+        properties(alloc, &heap, ObjId(1))?.as_slice(),
+        b"constructor=undefinedw-c".as_slice()
+    );
+    assert!(rt; has_keys(alloc, &heap, function, "length prototype ")?);
+    assert_eq!(rt; got(alloc, &heap, function, "length")?, Some(2));
+    let error = heap.alloc_whole(Class::Fault, Some(function), Properties::new(alloc))?;
+    heap.add_property(error, &text(alloc, "message")?, Prop::hidden(number(3)))?;
+    assert_eq!(rt;
+        properties(alloc, &heap, error)?.as_slice(),
+        b"message=3w-c".as_slice()
+    );
+    let mut values = Values::new(alloc);
+    values.push(number(7))?;
+    assert_eq!(rt;
+        values.clone()?.into_vec().as_slice(),
+        [number(7)].as_slice()
+    );
+    Ok(())
+}
+
+#[test]
+fn nothing_is_where_there_is_no_object(rt: HostRuntime) -> Result<(), Fail> {
+    let alloc = rt.alloc();
+    let mut heap = Heap::new(alloc);
+    let none = ObjId(1);
+    let young = heap.alloc(Class::Plain, Some(none))?;
+    assert_eq!(rt; heap.proto(young), None);
+    assert!(rt; !heap.has(none) && matches!(heap.class(none), Class::Plain));
+    assert!(rt; !may_put(alloc, &heap, none, "a")? && has_keys(alloc, &heap, none, "")?);
+    let lines = [
+        (none, "put a 1", "set"),
+        (none, "define a v1", "define"),
+        (none, "delete a", "delete"),
+        (none, "prevent", "define"),
+    ];
+    for (at, line, want) in lines {
+        assert_eq!(rt; step(alloc, &mut heap, at, line)?, want, "{line}");
+    }
+    assert_eq!(rt; heap.count(), 1);
+    Ok(())
+}
+
+#[test]
 fn names_are_looked_up_outwards(rt: HostRuntime) -> Result<(), Fail> {
     let alloc = rt.alloc();
     let mut heap = Heap::new(alloc);
-    let outer = heap.new_env(
-        None,
-        &[
-            (text(alloc, "a")?, number(1)),
-            (text(alloc, "b")?, number(2)),
-        ],
-    )?;
-    let inner = heap.new_env(Some(outer), &[(text(alloc, "a")?, number(3))])?;
+    let names = vec![in alloc;
+        (text(alloc, "a")?, number(1)),
+        (text(alloc, "b")?, number(2)),
+    ]?;
+    let outer = heap.new_env(None, names)?;
+    let names = vec![in alloc; (text(alloc, "a")?, number(3))]?;
+    let inner = heap.new_env(Some(outer), names)?;
     assert_eq!(rt; bound(alloc, &heap, inner, "a")?, Some((1, 3)));
     assert_eq!(rt; bound(alloc, &heap, inner, "b")?, Some((0, 2)));
     assert_eq!(rt; bound(alloc, &heap, inner, "c")?, None);
     assert_eq!(rt; bound(alloc, &heap, outer, "a")?, Some((0, 1)));
     assert_eq!(rt; heap.env_count(), 2);
+    let names = vec![in alloc; (text(alloc, "c")?, number(4))]?;
+    let apart = heap.new_env(Some(EnvId(7)), names)?;
+    assert_eq!(rt; bound(alloc, &heap, apart, "a")?, None);
+    assert_eq!(rt; bound(alloc, &heap, EnvId(3), "a")?, None);
     Ok(())
 }
 

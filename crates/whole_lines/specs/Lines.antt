@@ -1,7 +1,7 @@
 -- The answer to a line.
 use Rattle.std.specs.Prelude.{ℕ, Bool, ◌==◌, List, Option, Some, None}
 use Rattle.std.specs.List.{before_first, after_first}
-use Rattle.js_core.specs.declared.value.Value.{Value}
+use Rattle.js_values.specs.declared.value.Value.{Value}
 use Rattle.whole_lines.specs.Operands.{operand_of}
 use Rattle.whole_lines.specs.Operators.{operator_named, answer_of}
 use Rattle.whole_lines.specs.declared.answer.Answer.{Answer}

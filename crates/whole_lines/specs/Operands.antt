@@ -2,8 +2,8 @@
 use Rattle.std.specs.Prelude.{ℕ, ℤ, true, false, List, [], ◌∷◌, ◌==◌, codes, bytes_eq, Ok, Err, Option, if◌then◌else◌}
 use Rattle.js_core.specs.Text.{utf16_of}
 use Rattle.js_core.specs.Whole.{nan}
-use Rattle.js_core.specs.declared.value.Value.{Value}
-use Rattle.js_core.specs.declared.value.Value.TheVariants.{Undefined, Null, Bool as Truth, Num, Text}
+use Rattle.js_values.specs.declared.value.Value.{Value}
+use Rattle.js_values.specs.declared.value.Value.TheVariants.{Undefined, Null, Bool as Truth, Num, Text}
 use Rattle.whole_ops.specs.Arithmetic.{Outcome}
 use Rattle.whole_ops.specs.Numeral.{to_whole}
 

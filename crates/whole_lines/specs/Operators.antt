@@ -1,7 +1,7 @@
 -- The operators of lines, their names and their answers.
 use Rattle.std.specs.Prelude.{ℕ, ℤ, List, codes, bytes_eq, Option, Some, None, if◌then◌else◌}
-use Rattle.js_core.specs.declared.value.Value.{Value}
-use Rattle.js_core.specs.declared.value.Value.TheVariants.{Num, Text}
+use Rattle.js_values.specs.declared.value.Value.{Value}
+use Rattle.js_values.specs.declared.value.Value.TheVariants.{Num, Text}
 use Rattle.whole_ops.specs.declared.bits.BitOp.TheVariants.{And, Or, Xor, Shl, Shr, Ushr}
 use Rattle.whole_ops.specs.Arithmetic.{whole_add, whole_sub, whole_mul, whole_div, whole_rem}
 use Rattle.whole_ops.specs.Bits.{whole_bits, whole_not}

@@ -7,8 +7,8 @@ ghost use Rattle.whole_ops.specs.Numeral.{to_whole};
 
 use js_core::memory::OutOfMemory;
 use js_core::units::Units;
-use js_core::value::Value;
 use js_core::whole::Whole;
+use js_values::value::Value;
 use std::alloc::Global;
 use whole_ops::numeral::to_number;
 

@@ -4,8 +4,8 @@ ghost use Rattle.std.specs.Prelude.{◌≡◌};
 ghost use Rattle.whole_lines.specs.Operators as spec;
 
 use crate::answer::Answer;
-use js_core::value::Value;
 use js_core::whole::Whole;
+use js_values::value::Value;
 use whole_ops::arithmetic::{add, div, mul, rem, sub};
 use whole_ops::bits::{BitOp, bits, not};
 use whole_ops::equality::{loose, same};

@@ -2,12 +2,12 @@
 use Rattle.std.specs.Prelude.{ℤ, pos, ◌==◌, Bool, true, false, if◌then◌else◌, Option, Some, None, Result, Ok, Err, bytes_eq}
 use Rattle.std.specs.Ordering.{int_eq}
 use Rattle.std.specs.Bool.{beq}
-use Rattle.js_core.specs.declared.value.Value.{Value}
+use Rattle.js_values.specs.declared.value.Value.{Value}
 use Rattle.whole_ops.specs.Arithmetic.{Outcome}
 use Rattle.whole_ops.specs.Numeral.{to_whole}
 use Rattle.whole_ops.specs.declared.fault.LooseFault.{LooseFault}
 use Rattle.whole_ops.specs.declared.fault.LooseFault.TheVariants.{NeedsPrimitive, Outside}
-use Rattle.js_core.specs.declared.value.Value.TheVariants.{Undefined, Null, Bool as Truth, Num, Text, Object}
+use Rattle.js_values.specs.declared.value.Value.TheVariants.{Undefined, Null, Bool as Truth, Num, Text, Object}
 
 -- NaN is the same number as none
 abbrev pub same_number : Option ℤ → Option ℤ → Bool

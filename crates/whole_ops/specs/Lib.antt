@@ -1,5 +1,6 @@
 pub mod Arithmetic
 pub mod Bits
+pub mod Conversions
 pub mod Equality
 pub mod Grammar
 pub mod Numeral

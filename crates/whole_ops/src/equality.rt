@@ -4,12 +4,13 @@ ghost use Rattle.std.specs.Prelude.{◌≡◌};
 ghost use Rattle.whole_ops.specs.Equality as spec;
 ghost use Rattle.whole_ops.specs.Numeral.{to_whole};
 
+use crate::conversions::number_of_truth;
 use crate::fault::{LooseFault, OpFault};
 use crate::numeral::to_number;
-use js_core::ids::ObjId;
 use js_core::units::Units;
-use js_core::value::Value;
 use js_core::whole::Whole;
+use js_values::ids::ObjId;
+use js_values::value::Value;
 
 /// `===` (ECMA-262 5.1 section 11.9.6).
 pub fn same(a: &Value, b: &Value) -> bool
@@ -84,13 +85,6 @@ fn against_number(number: Whole, text: &Units) -> Result<bool, LooseFault>
         Ok(other) => Ok(same_number(number, other)),
         Err(OpFault::Outside) => Err(LooseFault::Outside),
     }
-}
-
-/// A boolean as a number (section 9.3).
-fn number_of_truth(truth: bool) -> Whole
-    ensures { result ≡ spec.number_of_truth truth }
-{
-    Whole::new(i64::from(truth)).unwrap()
 }
 
 /// Whether the two are the same number. NaN is none.

@@ -7,13 +7,13 @@ pub enum OpFault {
     Outside,
 }
 
-/// Why `==` does not answer.
+/// Why `==`, or the number of a value, gives no answer.
 #[derive(Clone, Copy, Debug, PartialEq, Eq)]
 pub enum LooseFault {
-    /// One side is an object, and the other a boolean, a number or a string: the object has to be made a primitive
-    /// value first.
+    /// The value is an object, or one side of `==` is and the other is a boolean, a number or a string: the object has to
+    /// be made a primitive value first.
     NeedsPrimitive,
-    /// One side is a string, and the other a number or a boolean, and the string writes a number that is none of the
-    /// language's.
+    /// The value, or one side of `==` where the other is a number or a boolean, is a string that writes a number that is
+    /// none of the language's.
     Outside,
 }

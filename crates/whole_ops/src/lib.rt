@@ -1,8 +1,10 @@
-//! The operators on numbers, equality of values, and numbers as texts: what the language does to whole numbers.
+//! The operators on numbers, equality, order and conversions of values, and numbers as texts: what the language does to whole
+//! numbers.
 #![tactic(auto)]
 
 pub mod arithmetic;
 pub mod bits;
+pub mod conversions;
 mod digits;
 pub mod equality;
 pub mod fault;

@@ -2,16 +2,17 @@
 
 use crate::arithmetic::{add, div, mul, rem, sub};
 use crate::bits::{BitOp, bits, not};
+use crate::conversions::{is_true, number_of, text_of};
 use crate::equality::{loose, same};
 use crate::fault::{LooseFault, OpFault};
 use crate::numeral::to_number;
-use crate::order::less;
+use crate::order::{less, text_less};
 use crate::power::pow;
 use crate::text::to_text;
-use js_core::ids::ObjId;
 use js_core::units::Units;
-use js_core::value::Value;
 use js_core::whole::Whole;
+use js_values::ids::ObjId;
+use js_values::value::Value;
 use std::process::Abort;
 use std::test::Fail;
 
@@ -381,6 +382,56 @@ fn compares_values(rt: HostRuntime) -> Result<(), Fail> {
         assert_eq!(rt; same(&b, &a), is_same, "{other:?} === {given:?}");
         assert_eq!(rt; loose(&a, &b), is_loose, "{given:?} == {other:?}");
         assert_eq!(rt; loose(&b, &a), is_loose, "{other:?} == {given:?}");
+    }
+    Ok(())
+}
+
+#[test]
+fn converts_values(rt: HostRuntime) -> Result<(), Fail> {
+    let primitive: Result<Option<i64>, LooseFault> = Err(LooseFault::NeedsPrimitive);
+    let outside: Result<Option<i64>, LooseFault> = Err(LooseFault::Outside);
+    let rows = [
+        (Given::Undefined, Ok(None), false, "undefined"),
+        (Given::Null, Ok(Some(0)), false, "null"),
+        (Given::Truth(true), Ok(Some(1)), true, "true"),
+        (Given::Truth(false), Ok(Some(0)), false, "false"),
+        (Given::Number(Some(0)), Ok(Some(0)), false, "0"),
+        (Given::Number(None), Ok(None), false, "NaN"),
+        (Given::Text(""), Ok(Some(0)), false, ""),
+        (Given::Text("0"), Ok(Some(0)), true, "0"),
+        (Given::Text("1.5"), outside, true, "1.5"),
+        (Given::Object(1), primitive, true, "none"),
+    ];
+    for (given, wanted, truth, word) in rows {
+        let value = value(&rt, given)?;
+        let got = match number_of(&value) {
+            Ok(number) => Ok(number.get()),
+            Err(fault) => Err(fault),
+        };
+        assert_eq!(rt; got, wanted, "{given:?}");
+        assert_eq!(rt; is_true(&value), truth, "{given:?}");
+        if let Some(text) = text_of(rt.alloc(), &value)? {
+            assert!(rt; text == Units::from_utf8(rt.alloc(), word)?, "{given:?}");
+        }
+    }
+    Ok(())
+}
+
+#[test]
+fn orders_texts(rt: HostRuntime) -> Result<(), Fail> {
+    let rows = [
+        ("", "", false),
+        ("", "a", true),
+        ("a", "", false),
+        ("a", "ab", true),
+        ("b", "ab", false),
+        ("\u{FF61}", "\u{10002}", false),
+        ("\u{10002}", "\u{FF61}", true),
+    ];
+    for (a, b, less) in rows {
+        let left = Units::from_utf8(rt.alloc(), a)?;
+        let right = Units::from_utf8(rt.alloc(), b)?;
+        assert_eq!(rt; text_less(&left, &right), less, "{a} < {b}");
     }
     Ok(())
 }

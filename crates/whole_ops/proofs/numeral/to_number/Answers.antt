@@ -8,10 +8,10 @@ use Rattle.whole_ops.proofs.numeral.to_number.Goals as goal
 pub returns-clause-written : goal.returns-clause-written
 unfolding to_whole
 returns-clause-written c = λ gives writes.
-    c.literal.ensures ∙ ap literal_of (c.trimmed.ensures ∙ ap trimmed c.as_slice.ensures) ∙ agrees c.args.text.now gives writes
+    c.literal.ensures ∙ ap literal_of (c.trimmed.ensures ∙ ap trimmed c.as_slice.ensures.value) ∙ agrees c.args.text.now gives writes
 
 pub returns-clause-nan : goal.returns-clause-nan
 unfolding to_whole
 returns-clause-nan c = λ unwritten.
-    c.literal.ensures ∙ ap literal_of (c.trimmed.ensures ∙ ap trimmed c.as_slice.ensures)
+    c.literal.ensures ∙ ap literal_of (c.trimmed.ensures ∙ ap trimmed c.as_slice.ensures.value)
     ∙ elim (found c.args.text.now) [ inl e ↦ e | inr writes ↦ absurd (unwritten (to_whole c.args.text.now) writes) ]

@@ -1,0 +1,7 @@
+pub mod CodedRows
+pub mod Declarations
+pub mod Falls
+pub mod Kind
+pub mod Node
+pub mod Rows
+pub mod Table

@@ -1,0 +1,93 @@
+//! Rows of a table while it is made.
+
+ghost use Rattle.std.specs.Prelude.{◌≡◌, ◌≤◌, ◌++◌, ◌∷◌, [], IfOk, OnOk, length, map, option_copied, slice_get};
+ghost use Rattle.code_table.specs.Rows.{no_number};
+ghost use Rattle.code_table.specs.Table.{number_in, row_of};
+
+use crate::kind::Kind;
+use js_core::memory::OutOfMemory;
+use std::alloc::Global;
+use std::marker::Model;
+
+/// A node: its kind, and the numbers of its parts.
+#[cycle(code)]
+#[derive(Drop)]
+pub struct Entry {
+    pub kind: Kind,
+    pub parts: Vec<u32>,
+}
+
+/// The rows of the nodes that are numbered. There are less than 2^32.
+#[derive(Drop)]
+pub struct Rows {
+    entries: Vec<Entry>,
+}
+
+impl Model for Rows {
+    ghost use Rattle.std.specs.Prelude.{List, ◌≤◌, length, map};
+    ghost use Rattle.code_table.specs.Rows.{Row, no_number};
+
+    ghost Value = { List Row };
+
+    ghost use Rattle.code_table.specs.CodedRows.{coded_rows};
+
+    ghost coded = { coded_rows };
+
+    ghost use Rattle.code_table.specs.Table.{row_of};
+
+    ghost view = { λ r. map row_of r.entries.items };
+
+    ghost invariant = { λ r. length r.entries.items ≤ no_number };
+}
+
+impl Rows {
+    /// No rows.
+    pub fn new(alloc: Global) -> Rows
+        ensures { result ≡ [] }
+    {
+        Rows {
+            entries: Vec::new(alloc),
+        }
+    }
+
+    /// Numbers a node, whose parts have these numbers. More than 2^32 - 1 nodes are want of memory.
+    pub fn push(&mut self, kind: Kind, parts: Vec<u32>) -> Result<u32, OutOfMemory>
+        ensures row { OnOk result (self.new ≡ self.old ++ record { kind = kind; parts = parts.items } ∷ []) }
+        ensures number { IfOk result (λ number. number ≡ length self.old) }
+    {
+        let number = self.entries.len();
+        if number >= u32::MAX as usize {
+            return Err(OutOfMemory);
+        }
+        self.entries.push(Entry { kind, parts })?;
+        Ok(number as u32)
+    }
+
+    /// The nodes, in their order.
+    pub fn into_entries(self) -> Vec<Entry>
+        ensures rows { map row_of result.items ≡ self }
+        ensures few { length result.items ≤ no_number }
+    {
+        self.entries
+    }
+}
+
+/// The row of a number.
+pub fn entry_at(entries: &[Entry], node: u32) -> Option<&Entry>
+    ensures { option_copied result ≡ slice_get entries.now node }
+{
+    match entries.get(node as usize) {
+        Some(entry) => Some(entry),
+        None => None,
+    }
+}
+
+/// The kth number, or that of no node.
+pub fn number_at(parts: &[u32], k: u64) -> u32
+    ensures { result ≡ number_in (slice_get parts.now k) }
+{
+    match parts.get(k as usize) {
+        Some(number) => *number,
+        None => u32::MAX,
+    }
+}
