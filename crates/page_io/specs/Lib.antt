@@ -5,6 +5,7 @@ pub mod MemoryFilesOf
 pub mod MemorySinkOf
 pub mod RealFilesOf
 pub mod RealSinkOf
+pub mod Seen
 pub mod Streams
 pub mod Table
 pub mod MemoryKeeperOf

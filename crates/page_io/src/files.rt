@@ -1,8 +1,9 @@
 //! Files by name.
 
-ghost use Rattle.std.specs.Prelude.{◌≡◌, ℕ, List, Option, IfOk, IfErr};
-ghost use Rattle.page_io.specs.Content.{Told, IsContent, Allows, KeepsFailed};
+ghost use Rattle.std.specs.Prelude.{◌≡◌, ℕ, List, IfOk, IfErr};
+ghost use Rattle.page_io.specs.Content.{IsContent, Allows, KeepsFailed};
 ghost use Rattle.page_io.specs.Faults.{CountsFaults};
+ghost use Rattle.page_io.specs.Seen.{FilesSeen};
 
 use std::alloc::{AllocError, Global};
 use thiserror::Error;
@@ -34,14 +35,9 @@ impl From<AllocError> for ReadFault {
 
 /// Files that are read by their names. Contents never change.
 pub trait Files {
-    /// What a name holds, where that is told: no content, or its bytes.
-    ghost content: { Self → List ℕ → Told };
-
-    /// How many reads failed, a u64 that stays at its last value.
-    ghost faults: { Self → ℕ };
-
-    /// The name of the last read that answered `Failed`, if any did.
-    ghost failed: { Self → Option (List ℕ) };
+    /// What each name holds, where that is told: no content, or its bytes; how many reads failed, and the name of the
+    /// last one that answered `Failed`.
+    ghost seen: { Self → FilesSeen };
 
     /// The whole content of a file, which has at most `limit` bytes.
     ///
@@ -51,9 +47,11 @@ pub trait Files {
     /// `TooLong` where the read did not fail and the content has more than `limit` bytes;
     /// `OutOfMemory` where memory ran out.
     fn read(&mut self, alloc: Global, name: &str, limit: u64) -> Result<Vec<u8>, ReadFault>
-        ensures bytes { IfOk result (λ v. IsContent (content self.old name.now) limit v.items) }
-        ensures fault { IfErr result (λ e. Allows (content self.old name.now) limit e) }
-        ensures same { (n : List ℕ) → content self.new n ≡ content self.old n }
-        ensures counts { CountsFaults ReadFault.Failed (faults self.old) (faults self.new) result }
-        ensures name { KeepsFailed (failed self.old) (failed self.new) name.now result };
+        ensures bytes { IfOk result
+            (λ v. IsContent ((seen self.old).content name.now) limit v.items) }
+        ensures fault { IfErr result (λ e. Allows ((seen self.old).content name.now) limit e) }
+        ensures same { (n : List ℕ) → (seen self.new).content n ≡ (seen self.old).content n }
+        ensures counts { CountsFaults ReadFault.Failed
+            (seen self.old).faults (seen self.new).faults result }
+        ensures name { KeepsFailed (seen self.old).failed (seen self.new).failed name.now result };
 }

@@ -1,10 +1,11 @@
 //! Rows of bytes that are kept by name and version.
 
-ghost use Rattle.std.specs.Prelude.{◌≡◌, ℕ, Option, OnOk, OnErr, IfOk, IfSome, map};
+ghost use Rattle.std.specs.Prelude.{◌≡◌, OnOk, OnErr, IfOk, IfSome, map};
 ghost use Rattle.std.specs.Option.{option_map};
 ghost use Rattle.std.specs.FinMap.{get, insert, remove, contains_key, entries};
 ghost use Rattle.page_io.specs.Faults.{CountsFaults};
-ghost use Rattle.page_io.specs.Table.{Table, kept_name};
+ghost use Rattle.page_io.specs.Seen.{KeeperSeen};
+ghost use Rattle.page_io.specs.Table.{kept_name};
 
 use js_core::memory::OutOfMemory;
 use js_core::units::Units;
@@ -46,11 +47,8 @@ pub struct KeptName {
 
 /// A keeper of rows, each of which has a name, a version and bytes. After a fault the rows are as before.
 pub trait Keeper {
-    /// The rows, where they are told: from a name's bytes and a version to bytes.
-    ghost table: { Self → Option Table };
-
-    /// How many calls failed, a u64 that stays at its last value.
-    ghost faults: { Self → ℕ };
+    /// The rows, where they are told: from a name's bytes and a version to bytes; and how many calls failed.
+    ghost seen: { Self → KeeperSeen };
 
     /// Sets the row of this name and version.
     ///
@@ -64,10 +62,11 @@ pub trait Keeper {
         version: u64,
         bytes: &[u8],
     ) -> Result<(), KeeperFault>
-        ensures ok { OnOk result (table self.new
-            ≡ option_map (λ t. insert t (name.now, version) bytes.now) (table self.old)) }
-        ensures fault { OnErr result (table self.new ≡ table self.old) }
-        ensures counts { CountsFaults KeeperFault.Failed (faults self.old) (faults self.new) result };
+        ensures ok { OnOk result ((seen self.new).table
+            ≡ option_map (λ t. insert t (name.now, version) bytes.now) (seen self.old).table) }
+        ensures fault { OnErr result ((seen self.new).table ≡ (seen self.old).table) }
+        ensures counts { CountsFaults KeeperFault.Failed
+            (seen self.old).faults (seen self.new).faults result };
 
     /// The bytes of the row of this name and version, and `None` where there is no such row.
     ///
@@ -80,10 +79,11 @@ pub trait Keeper {
         name: &str,
         version: u64,
     ) -> Result<Option<Vec<u8>>, KeeperFault>
-        ensures ok { IfOk result (λ found. IfSome (table self.old)
+        ensures ok { IfOk result (λ found. IfSome (seen self.old).table
             (λ t. option_map (λ v. v.items) found ≡ get t (name.now, version))) }
-        ensures same { table self.new ≡ table self.old }
-        ensures counts { CountsFaults KeeperFault.Failed (faults self.old) (faults self.new) result };
+        ensures same { (seen self.new).table ≡ (seen self.old).table }
+        ensures counts { CountsFaults KeeperFault.Failed
+            (seen self.old).faults (seen self.new).faults result };
 
     /// The names of all rows, by the bytes of the name, then by the version.
     ///
@@ -91,10 +91,11 @@ pub trait Keeper {
     ///
     /// `Failed` where the call failed, which the count shows; `OutOfMemory` where memory ran out.
     fn list(&mut self, alloc: Global) -> Result<Vec<KeptName>, KeeperFault>
-        ensures ok { IfOk result (λ names. IfSome (table self.old)
+        ensures ok { IfOk result (λ names. IfSome (seen self.old).table
             (λ t. names.items ≡ map kept_name (entries t))) }
-        ensures same { table self.new ≡ table self.old }
-        ensures counts { CountsFaults KeeperFault.Failed (faults self.old) (faults self.new) result };
+        ensures same { (seen self.new).table ≡ (seen self.old).table }
+        ensures counts { CountsFaults KeeperFault.Failed
+            (seen self.old).faults (seen self.new).faults result };
 
     /// Removes the row of this name and version, and says whether there was one.
     ///
@@ -102,10 +103,11 @@ pub trait Keeper {
     ///
     /// `Failed` where the call failed, which the count shows; `OutOfMemory` where memory ran out.
     fn remove(&mut self, alloc: Global, name: &str, version: u64) -> Result<bool, KeeperFault>
-        ensures ok { IfOk result (λ was. IfSome (table self.old)
+        ensures ok { IfOk result (λ was. IfSome (seen self.old).table
             (λ t. was ≡ contains_key t (name.now, version))) }
-        ensures removed { OnOk result (table self.new
-            ≡ option_map (λ t. remove t (name.now, version)) (table self.old)) }
-        ensures fault { OnErr result (table self.new ≡ table self.old) }
-        ensures counts { CountsFaults KeeperFault.Failed (faults self.old) (faults self.new) result };
+        ensures removed { OnOk result ((seen self.new).table
+            ≡ option_map (λ t. remove t (name.now, version)) (seen self.old).table) }
+        ensures fault { OnErr result ((seen self.new).table ≡ (seen self.old).table) }
+        ensures counts { CountsFaults KeeperFault.Failed
+            (seen self.old).faults (seen self.new).faults result };
 }

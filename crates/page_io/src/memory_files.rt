@@ -87,11 +87,11 @@ impl Files for MemoryFiles {
     ghost use Rattle.std.specs.Prelude.{Some};
     ghost use Rattle.page_io.specs.MemoryFilesOf.{content_of};
 
-    ghost content = { λ m name. Some (content_of m.files name) };
-
-    ghost faults = { λ m. m.faults };
-
-    ghost failed = { λ m. m.failed };
+    ghost seen = { λ m. record {
+      content = λ name. Some (content_of m.files name);
+      faults = m.faults;
+      failed = m.failed;
+    } };
 
     fn read(&mut self, alloc: Global, name: &str, limit: u64) -> Result<Vec<u8>, ReadFault>
         ensures answer { Answers (answer_of self.old name.now limit) result }

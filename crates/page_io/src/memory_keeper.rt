@@ -126,9 +126,7 @@ fn remove_row(rows: &mut Rows, alloc: Global, name: &str, version: u64) -> Resul
 impl Keeper for MemoryKeeper {
     ghost use Rattle.std.specs.Prelude.{Some};
 
-    ghost table = { λ k. Some k.table };
-
-    ghost faults = { λ k. k.faults };
+    ghost seen = { λ k. record { table = Some k.table; faults = k.faults } };
 
     fn put(
         &mut self,

@@ -87,9 +87,7 @@ fn find_listed(failing: &[(u64, u64)], call: u64) -> Option<u64>
 impl Sink for MemorySink {
     ghost use Rattle.std.specs.Prelude.{Some};
 
-    ghost taken = { λ s. Some s.bytes };
-
-    ghost faults = { λ s. s.faults };
+    ghost seen = { λ s. record { taken = Some s.bytes; faults = s.faults } };
 
     fn put(&mut self, piece: &[u8]) -> Result<(), PutFault>
         ensures answer { result ≡ put_answer self.old piece.now }

@@ -84,11 +84,7 @@ fn read_file<R: std::fs::Files>(
 impl<R: std::fs::Files> Files for RealFiles<'_, R> {
     ghost use Rattle.std.specs.Prelude.{None};
 
-    ghost content = { λ m name. None };
-
-    ghost faults = { λ m. m.faults };
-
-    ghost failed = { λ m. m.failed };
+    ghost seen = { λ m. record { content = λ name. None; faults = m.faults; failed = m.failed } };
 
     fn read(&mut self, alloc: Global, name: &str, limit: u64) -> Result<Vec<u8>, ReadFault>
         ensures bytes { IfOk result (λ v. length v.items ≤ limit) }

@@ -1,7 +1,8 @@
 //! A place to put bytes.
 
-ghost use Rattle.std.specs.Prelude.{ℕ, List, Option, OnOk, OnErr};
+ghost use Rattle.std.specs.Prelude.{OnOk, OnErr};
 ghost use Rattle.page_io.specs.Faults.{CountsFaults};
+ghost use Rattle.page_io.specs.Seen.{SinkSeen};
 ghost use Rattle.page_io.specs.Taken.{Takes, TakesFront};
 
 use thiserror::Error;
@@ -16,11 +17,8 @@ pub enum PutFault {
 
 /// A sink, which takes bytes in the order in which they are put. It needs no memory for that.
 pub trait Sink {
-    /// The bytes taken so far, where they are told.
-    ghost taken: { Self → Option (List ℕ) };
-
-    /// How many puts failed, a u64 that stays at its last value.
-    ghost faults: { Self → ℕ };
+    /// The bytes taken, where they are told, and how many puts failed.
+    ghost seen: { Self → SinkSeen };
 
     /// Appends a piece.
     ///
@@ -28,7 +26,9 @@ pub trait Sink {
     ///
     /// `Failed` where the put failed, which the count shows; some front of the piece was appended.
     fn put(&mut self, piece: &[u8]) -> Result<(), PutFault>
-        ensures ok { OnOk result (Takes (taken self.old) (taken self.new) piece.now) }
-        ensures fault { OnErr result (TakesFront (taken self.old) (taken self.new) piece.now) }
-        ensures counts { CountsFaults PutFault.Failed (faults self.old) (faults self.new) result };
+        ensures ok { OnOk result (Takes (seen self.old).taken (seen self.new).taken piece.now) }
+        ensures fault { OnErr result
+            (TakesFront (seen self.old).taken (seen self.new).taken piece.now) }
+        ensures counts { CountsFaults PutFault.Failed
+            (seen self.old).faults (seen self.new).faults result };
 }

@@ -1,0 +1,15 @@
+pub mod Calls
+pub mod Chains
+pub mod First
+pub mod Generations
+pub mod Kept
+pub mod Linking
+pub mod Lists
+pub mod Moves
+pub mod Named
+pub mod Neighbours
+pub mod Proper
+pub mod Shown
+pub mod Texts
+pub mod Trees
+pub mod Upheld

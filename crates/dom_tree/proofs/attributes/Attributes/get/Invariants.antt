@@ -1,0 +1,7 @@
+use Rattle.std.proofs.Common.{◌≡◌, drop}
+use Rattle.dom_tree.specs.Attributes.{value_of}
+use Rattle.dom_tree.specs.Name.{folded}
+use Rattle.dom_tree.proofs.attributes.Attributes.get.Given as goal
+
+abbrev pub invariant-loop-known : goal.invariant-loop-known
+invariant-loop-known l = value_of (folded l.name) (drop l.known-index l.self) ≡ value_of (folded l.name) l.self

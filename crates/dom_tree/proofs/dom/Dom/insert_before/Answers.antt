@@ -1,0 +1,12 @@
+use Rattle.std.proofs.Common.{◌≡◌, ◌∙◌, sym, length, refl}
+use Rattle.dom_tree.specs.Change.{taken_out}
+use Rattle.dom_tree.specs.Fits.{Fits, IsReady}
+use Rattle.dom_tree.proofs.Moves.{fits, ready}
+use Rattle.dom_tree.proofs.dom.Dom.insert_before.Goals as goal
+
+pub put_under-requires-clause-ready : goal.put_under-requires-clause-ready
+put_under-requires-clause-ready c =
+    let t = c.args.self.now in
+    let f : Fits t c.args.parent c.args.child c.args.before = fits t c.args.parent c.args.child c.args.before (sym c.breaks_hierarchy.ensures ∙ c.if-breaks_hierarchy.false) (sym c.is_missing.ensures ∙ c.if-is_missing.false) in
+    let ok : IsReady (taken_out t c.args.child) c.args.parent c.args.child c.args.before (length t) = ready t c.args.parent c.args.child c.args.before c.recall_sound.ensures.trees c.requires.child (sym c.is_this.ensures ∙ c.if-is_this.false) f in
+    rw c.take_out.ensures (record { fits = ok.fits; alone = ok.alone; long = refl })

@@ -1,0 +1,13 @@
+pub mod Attributes
+pub mod Change
+pub mod Content
+pub mod DomText
+pub mod Fits
+pub mod Laws
+pub mod Links
+pub mod Name
+pub mod Node
+pub mod Pieces
+pub mod Sound
+pub mod Trees
+pub mod Visits

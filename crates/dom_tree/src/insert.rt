@@ -1,0 +1,116 @@
+//! How nodes are put under others and taken out (DOM Level 2 Core, interface Node).
+
+ghost use Rattle.std.specs.Prelude.{◌≡◌, ◌<◌, length};
+ghost use Rattle.std.specs.Option.{ForSome};
+ghost use Rattle.dom_tree.specs.Change.{Answers, breaks_hierarchy, has_other_element, inserted, insertion_fault, is_above, is_missing, removal_fault, taken_out};
+
+use crate::dom::{Dom, is_this};
+use crate::fault::DomFault;
+use js_values::ids::NodeId;
+
+impl Dom {
+    /// Puts the child under the parent, directly before the reference, which is a child of the parent, or at the end. A
+    /// child that is in a tree is taken out before, and one that is the reference stays. Answers `Hierarchy` exactly where
+    /// the parent is a text or a comment, or the child is the document or the parent or stands above it, or the document
+    /// would get a text or a second element, and else `NotFound` exactly where the reference is no child of the parent;
+    /// then nothing has changed. No memory. It costs the way from the parent to its root.
+    pub fn insert_before(
+        &mut self,
+        parent: NodeId,
+        child: NodeId,
+        before: Option<NodeId>,
+    ) -> Result<(), DomFault>
+        requires parent { parent.0 < length self.old }
+        requires child { child.0 < length self.old }
+        requires before { ForSome before (λ r. r.0 < length self.old) }
+        ensures { Answers (insertion_fault self.old parent child before) (inserted self.old parent child before) self.old self.new result }
+    {
+        self.recall_sound();
+        if self.breaks_hierarchy(parent, child) {
+            return Err(DomFault::Hierarchy);
+        }
+        if self.is_missing(parent, before) {
+            return Err(DomFault::NotFound);
+        }
+        if is_this(child, before) {
+            return Ok(());
+        }
+        self.take_out(child);
+        self.put_under(parent, child, before);
+        Ok(())
+    }
+
+    /// Takes the child out from under the parent. Answers `NotFound` exactly where it is no child of the parent; then
+    /// nothing has changed. No memory.
+    pub fn remove_child(&mut self, parent: NodeId, child: NodeId) -> Result<(), DomFault>
+        requires parent { parent.0 < length self.old }
+        requires child { child.0 < length self.old }
+        ensures { Answers (removal_fault self.old parent child) (taken_out self.old child) self.old self.new result }
+    {
+        if self.is_missing(parent, Some(child)) {
+            return Err(DomFault::NotFound);
+        }
+        self.take_out(child);
+        Ok(())
+    }
+
+    // Whether the child may not stand under the parent.
+    fn breaks_hierarchy(&self, parent: NodeId, child: NodeId) -> bool
+        requires parent { parent.0 < length self.now }
+        requires child { child.0 < length self.now }
+        ensures { result ≡ breaks_hierarchy self.now parent.0 child.0 }
+    {
+        let holder = &self.content(parent).kind;
+        let kind = &self.content(child).kind;
+        if !holder.may_have_children() || kind.is_document() || self.is_above(child, parent) {
+            return true;
+        }
+        holder.is_document()
+            && (kind.is_text() || (kind.is_element() && self.has_other_element(child)))
+    }
+
+    // Whether an element but this one is among the children of the document.
+    fn has_other_element(&self, child: NodeId) -> bool
+        ensures { result ≡ has_other_element self.now child.0 }
+    {
+        match self.document_element() {
+            Some(element) => child.0 != element.0,
+            None => false,
+        }
+    }
+
+    // Whether there is a reference that is no child of the parent.
+    fn is_missing(&self, parent: NodeId, before: Option<NodeId>) -> bool
+        requires parent { parent.0 < length self.now }
+        requires before { ForSome before (λ r. r.0 < length self.now) }
+        ensures { result ≡ is_missing self.now parent.0 before }
+    {
+        match before {
+            Some(reference) => !is_this(parent, self.parent(reference)),
+            None => false,
+        }
+    }
+
+    // Whether the node is this one or stands above it. A node without children stands above none.
+    fn is_above(&self, node: NodeId, at: NodeId) -> bool
+        requires node { node.0 < length self.now }
+        requires at { at.0 < length self.now }
+        ensures { result ≡ is_above self.now node.0 at.0 }
+    {
+        let count = self.count();
+        if self.first_child(node).is_none() {
+            return node.0 == at.0;
+        }
+        let mut at = at;
+        for step in 0..count {
+            if node.0 == at.0 {
+                return true;
+            }
+            let Some(parent) = self.parent(at) else {
+                return false;
+            };
+            at = parent;
+        }
+        false
+    }
+}

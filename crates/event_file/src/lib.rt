@@ -1,0 +1,14 @@
+//! Event files: what the host asks of a page, as JSON.
+#![tactic(auto)]
+
+mod fault;
+mod item;
+mod kind;
+mod laws;
+mod reading;
+#[cfg(test)]
+mod tests;
+
+pub use fault::EventFault;
+pub use laws::law_numbers_items;
+pub use reading::{MOST_EVENTS, calls, events};
