@@ -1,28 +1,21 @@
 //! `imagen` takes a web page in the middle of a session and lets it go on in another session.
 #![tactic(auto)]
 
+ghost use Rattle.std.specs.Prelude.{◌≡◌, IsErr};
+ghost use Rattle.command_line.specs.Notes.{note_of, Noted};
+
+use command_line::{Status, run, write_note};
+use page_io::files::Files;
+use page_io::keeper::Keeper;
 use page_io::memory_keeper::MemoryKeeper;
 use page_io::real_files::RealFiles;
 use page_io::real_sink::RealSink;
-use run::run;
-use status::Status;
+use page_io::sink::Sink;
+use std::alloc::Global;
 use std::io;
 use std::io::ErrorKind;
 use std::process::ExitCode;
 use std::rt::Env;
-
-mod check;
-mod command;
-mod events;
-mod notes;
-mod reading;
-mod replay;
-mod run;
-mod saving;
-mod status;
-#[cfg(test)]
-mod tests;
-mod work;
 
 // The words after the program's name.
 fn words_of<R: Env + AllocGlobal>(rt: &R) -> io::Result<Vec<String>> {
@@ -33,27 +26,42 @@ fn words_of<R: Env + AllocGlobal>(rt: &R) -> io::Result<Vec<String>> {
     Ok(words)
 }
 
-// Runs the command of the words. Words that are no UTF-8 are no command line.
-fn status_of(rt: &HostRuntime) -> Status {
-    let words = match words_of(rt) {
-        Ok(words) => words,
-        Err(error) if error.kind() == ErrorKind::OutOfMemory => return Status::OutOfMemory,
-        Err(_) => return Status::Usage,
-    };
-    let mut files = RealFiles::new(rt);
+// Ends as the words say. Words that are no UTF-8 are no command line, as no words are; and want of memory for them has
+// its note too.
+fn ended<F: Files, O: Sink, N: Sink, K: Keeper>(
+    alloc: Global,
+    words: io::Result<Vec<String>>,
+    files: &mut F,
+    out: &mut O,
+    notes: &mut N,
+    keeper: &mut K,
+) -> Status
+    ensures note { Noted (note_of result) (N.seen notes.old) (N.seen notes.new) }
+    ensures untouched { IsErr words → (files.new ≡ files.old) × (out.new ≡ out.old) }
+{
+    match words {
+        Ok(words) => run(alloc, &words, files, out, notes, keeper),
+        Err(error) if error.kind() == ErrorKind::OutOfMemory => {
+            write_note(notes, Status::OutOfMemory);
+            Status::OutOfMemory
+        }
+        Err(_) => run(alloc, &[], files, out, notes, keeper),
+    }
+}
+
+fn main(rt: HostRuntime) -> ExitCode {
+    let words = words_of(&rt);
+    let mut files = RealFiles::new(&rt);
     let mut out = RealSink::new(rt.stdout());
     let mut notes = RealSink::new(rt.stderr());
     let mut keeper = MemoryKeeper::new(rt.alloc(), Vec::new(rt.alloc()));
-    run(
+    let status = ended(
         rt.alloc(),
-        &words,
+        words,
         &mut files,
         &mut out,
         &mut notes,
         &mut keeper,
-    )
-}
-
-fn main(rt: HostRuntime) -> ExitCode {
-    ExitCode::from(status_of(&rt).code())
+    );
+    ExitCode::from(status.code())
 }

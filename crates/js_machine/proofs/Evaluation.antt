@@ -1,9 +1,8 @@
 -- The value of an expression is what the meaning gives.
-use Rattle.std.proofs.Common.{◌≡◌, ℕ, ℤ, Bool, true, false, List, [], ◌∷◌, ◌++◌, Option, None, Some, Result, Ok, Err, refl, bytes_eq, codes, if◌then◌else◌}
+use Rattle.std.proofs.Common.{◌≡◌, ℕ, ℤ, Bool, true, false, List, Option, None, Some, Result, Ok, Err, refl, bytes_eq, codes, if◌then◌else◌}
 use Rattle.js_core.specs.declared.operators.BinaryOp.TheVariants.{Add, Sub}
-use Rattle.js_core.specs.declared.line.LineKind.TheVariants.{Log}
-use Rattle.js_core.specs.declared.throw.Throw.{Throw}
-use Rattle.js_core.specs.declared.throw.Throw.TheVariants.{NotDefined, OutOfRange}
+use Rattle.js_values.specs.declared.throw.Throw.{Throw}
+use Rattle.js_values.specs.declared.throw.Throw.TheVariants.{NotDefined, OutOfRange}
 use Rattle.js_core.specs.Tree as tree
 use Rattle.js_core.specs.Tree.{name, num, binary}
 use Rattle.js_machine.specs.declared.cell.Cell.{Cell}
@@ -12,8 +11,8 @@ use Rattle.js_machine.specs.declared.machine.Next.TheVariants as next
 use Rattle.js_machine.specs.Act.{Store, Act, ret, bind}
 use Rattle.js_machine.specs.Globals.{World, held_by, with_name}
 use Rattle.js_machine.specs.Meaning.{or_raise, read_global, operate, eval}
-use Rattle.js_machine.specs.Numbers.{whole_add, whole_sub, to_number, text_of}
-use Rattle.js_machine.specs.Rest.{store_of, answered, Assigns, Logs}
+use Rattle.js_machine.specs.Numbers.{whole_add, whole_sub, to_number}
+use Rattle.js_machine.specs.Rest.{store_of, answered, Assigns}
 use Rattle.js_machine.specs.Values.{found_or_error, number_or_error, operated, value_of}
 
 number_is : (o : Option (Option ℤ)) (s : Store) (n : ℕ) → (bind (or_raise OutOfRange o) (λ k. ret (Num k))).run s n ≡ answered (number_or_error o) s n
@@ -47,9 +46,3 @@ assign_done x e w v h codes m = rw (eval_is e (store_of codes w) m.steps, h) ref
 
 pub assign_thrown : (x : List ℕ) (e : tree.Expr) (w : World) (t : Throw) → value_of w.names e ≡ Err t → Assigns x e w (next.Thrown t) w
 assign_thrown x e w t h codes m = rw (eval_is e (store_of codes w) m.steps, h) refl
-
-pub log_done : (e : tree.Expr) (w : World) (v : Cell) → value_of w.names e ≡ Ok v → Logs e w next.Done (record { names = w.names; lines = w.lines ++ record { kind = Log; text = text_of v } ∷ [] })
-log_done e w v h codes m = rw (eval_is e (store_of codes w) m.steps, h) refl
-
-pub log_thrown : (e : tree.Expr) (w : World) (t : Throw) → value_of w.names e ≡ Err t → Logs e w (next.Thrown t) w
-log_thrown e w t h codes m = rw (eval_is e (store_of codes w) m.steps, h) refl

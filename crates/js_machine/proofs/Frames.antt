@@ -1,22 +1,22 @@
 -- What acts do does not hang on the lines that were put out before.
 use Rattle.std.proofs.Common.{◌≡◌, ℕ, ℤ, zero, suc, Bool, true, false, List, [], ◌∷◌, ◌++◌, Option, Some, None, if◌then◌else◌, codes, bytes_eq, slice_get, refl, ap, ◌∙◌, append_assoc}
 use Rattle.js_core.specs.declared.operators.BinaryOp.TheVariants.{Add, Sub}
-use Rattle.js_core.specs.declared.line.Line.{Line}
-use Rattle.js_core.specs.declared.line.LineKind.{LineKind}
-use Rattle.js_core.specs.declared.line.LineKind.TheVariants.{Uncaught, Stopped as StoppedLine}
-use Rattle.js_core.specs.Throw.{thrown_text}
-use Rattle.js_core.specs.declared.throw.Throw.{Throw}
-use Rattle.js_core.specs.declared.throw.Throw.TheVariants.{NotDefined, NotFunction, OutOfRange, TooDeep}
+use Rattle.js_values.specs.declared.line.Line.{Line}
+use Rattle.js_values.specs.declared.line.LineKind.{LineKind}
+use Rattle.js_values.specs.declared.line.LineKind.TheVariants.{Uncaught, Stopped as StoppedLine}
+use Rattle.js_values.specs.Throw.{thrown_text}
+use Rattle.js_values.specs.declared.throw.Throw.{Throw}
+use Rattle.js_values.specs.declared.throw.Throw.TheVariants.{NotDefined, NotFunction, OutOfRange, TooDeep}
 use Rattle.js_core.specs.Tree as tree
 use Rattle.js_core.specs.Tree.{name, num, member, call, binary, assign, no_exprs, then_expr, one_expr, code, var, expr, no_stmts, then_stmt, no_declarators, then_declarator}
 use Rattle.js_machine.specs.declared.cell.Cell.{Cell}
 use Rattle.js_machine.specs.declared.cell.Cell.TheVariants.{Undefined, Num, Function}
-use Rattle.js_machine.specs.declared.event.Event.{Event}
-use Rattle.js_machine.specs.declared.event.Event.TheVariants.{Call}
+use Rattle.js_values.specs.declared.event.Event.{Event}
+use Rattle.js_values.specs.declared.event.Event.TheVariants.{Call}
 use Rattle.js_machine.specs.Act.{Store, Outcome, Ended, Thrown, Abandoned, Act, then_on, ret, bind, raise, ask, change, one_less, take_step}
 use Rattle.js_machine.specs.Numbers.{whole_add, whole_sub, to_number, text_of}
 use Rattle.js_machine.specs.Globals.{held_by}
-use Rattle.js_machine.specs.Meaning.{or_raise, read_global, write_name, put_line, console_log, operate, eval, exec, exec_all, callee, body_of, apply, call_name}
+use Rattle.js_machine.specs.Meaning.{or_raise, read_global, write_name, put_line, console_log, operate, Calls, eval, exec, exec_all, callee, body_of, log_at, apply, call_name}
 use Rattle.js_machine.specs.Run.{step_limit, depth_limit, settled, store_after, do_event, run_all}
 
 -- the same with these lines before its own
@@ -97,17 +97,22 @@ eval_framed (binary Add a b) = operate_framed whole_add (eval a) (eval b) (eval_
 eval_framed (binary Sub a b) = operate_framed whole_sub (eval a) (eval b) (eval_framed a) (eval_framed b)
 eval_framed e = framed_ret Undefined
 
-abbrev Calls : Type 0
-Calls = List ℕ → Act (Unit {0})
+-- calls that do the same after more lines
+abbrev pub AreFramed : Calls → Type 0
+AreFramed calls = ((f : List ℕ) → Framed (calls.of_name f)) × ((v : Cell) → Framed (calls.of_log v))
 
-pub exec_framed : (calls : Calls) → ((f : List ℕ) → Framed (calls f)) → (s : tree.Stmt) → Framed (exec calls s)
+log_at_framed : (d : ℕ) (v : Cell) → Framed (log_at d v)
+log_at_framed zero v = framed_bind take_step _ framed_step (λ _. framed_raise TooDeep)
+log_at_framed (suc d) v = framed_bind take_step _ framed_step (λ _. console_log_framed v)
+
+pub exec_framed : (calls : Calls) → AreFramed calls → (s : tree.Stmt) → Framed (exec calls s)
 exec_framed calls h (expr (assign None (name x) e)) = framed_bind (eval e) (write_name x) (eval_framed e) (write_name_framed x)
-exec_framed calls h (expr (call (member (name c) m) (then_expr e no_exprs))) = framed_bind (eval e) console_log (eval_framed e) console_log_framed
-exec_framed calls h (expr (call (name f) no_exprs)) = h f
+exec_framed calls h (expr (call (member (name c) m) (then_expr e no_exprs))) = framed_bind (eval e) calls.of_log (eval_framed e) h.1
+exec_framed calls h (expr (call (name f) no_exprs)) = h.0 f
 exec_framed calls h (var (then_declarator x (one_expr e) no_declarators)) = framed_bind (eval e) (write_name x) (eval_framed e) (write_name_framed x)
 exec_framed calls h s = framed_ret tt
 
-pub exec_all_framed : (calls : Calls) → ((f : List ℕ) → Framed (calls f)) → (ss : tree.Stmts) → Framed (exec_all calls ss)
+pub exec_all_framed : (calls : Calls) → AreFramed calls → (ss : tree.Stmts) → Framed (exec_all calls ss)
 exec_all_framed calls h no_stmts = framed_ret tt
 exec_all_framed calls h (then_stmt s ss) = framed_bind (exec calls s) (λ _. exec_all calls ss) (exec_framed calls h s) (λ _. exec_all_framed calls h ss)
 
@@ -123,7 +128,7 @@ apply_framed zero k = framed_bind take_step _ framed_step (λ _. framed_raise To
 apply_framed (suc d) k =
     framed_bind take_step _ framed_step λ _.
     framed_bind (ask (λ s. body_of (slice_get s.codes k))) _ (framed_ask _ (λ ls s. refl)) λ body.
-    exec_all_framed _ (called_framed (apply d) (apply_framed d)) body
+    exec_all_framed _ (called_framed (apply d) (apply_framed d), log_at_framed d) body
 
 pub call_name_framed : (d : ℕ) (f : List ℕ) → Framed (call_name d f)
 call_name_framed d f = called_framed (apply d) (apply_framed d) f
@@ -140,6 +145,7 @@ store_after_framed act h ls s = ap settled (h.run ls s step_limit) ∙ settled_f
 
 pub do_event_framed : (ls : List Line) (e : Event) (s : Store) → do_event e (after_lines ls s) ≡ after_lines ls (do_event e s)
 do_event_framed ls (Call f) s = store_after_framed (call_name depth_limit f) (call_name_framed depth_limit f) ls s
+do_event_framed ls e s = refl
 
 -- events do the same after more lines
 pub run_all_framed : (ls : List Line) (s : Store) (es : List Event) → run_all (after_lines ls s) es ≡ after_lines ls (run_all s es)

@@ -5,9 +5,9 @@ use Rattle.std.specs.Map.{keys_of}
 use Rattle.std.proofs.lemmas.Map.{keys-set_value}
 use Rattle.std.proofs.lemmas.Bool.{and_parts, le-leb}
 use Rattle.js_core.specs.declared.operators.BinaryOp.TheVariants.{Add, Sub}
-use Rattle.js_core.specs.declared.line.LineKind.{LineKind}
-use Rattle.js_core.specs.declared.throw.Throw.{Throw}
-use Rattle.js_core.specs.declared.throw.Throw.TheVariants.{NotDefined, NotFunction, OutOfRange, TooDeep}
+use Rattle.js_values.specs.declared.line.LineKind.{LineKind}
+use Rattle.js_values.specs.declared.throw.Throw.{Throw}
+use Rattle.js_values.specs.declared.throw.Throw.TheVariants.{NotDefined, NotFunction, OutOfRange, TooDeep}
 use Rattle.js_core.specs.Whole.{largest, is_whole}
 use Rattle.js_core.specs.Tree as tree
 use Rattle.js_core.specs.Tree.{name, num, member, call, binary, assign, no_exprs, then_expr, no_expr, one_expr, code, var, function, expr, no_stmts, then_stmt, no_declarators, then_declarator}
@@ -18,7 +18,7 @@ use Rattle.js_machine.specs.declared.cell.Cell.TheVariants.{Undefined, Num, Func
 use Rattle.js_machine.specs.Act.{Store, Outcome, Ended, Thrown, Abandoned, Act, then_on, ret, bind, raise, ask, change, one_less, take_step}
 use Rattle.js_machine.specs.Numbers.{whole_by, to_number, text_of}
 use Rattle.js_machine.specs.Globals.{held_by, with_name}
-use Rattle.js_machine.specs.Meaning.{or_raise, read_global, write_name, put_line, console_log, operate, eval, exec, exec_all, callee, body_of, apply, call_name}
+use Rattle.js_machine.specs.Meaning.{or_raise, read_global, write_name, put_line, console_log, operate, Calls, eval, exec, exec_all, callee, body_of, log_at, apply, call_name, calls_at}
 use Rattle.js_machine.proofs.SavedNames.{Names, held_after, with_after}
 
 -- a number in range, or NaN
@@ -199,18 +199,19 @@ module _ (fs : Names) (cs : List tree.Code) (vars : List (List ℕ)) (declared c
       operate_safe (λ x y. x -ℤ y) (eval a) (eval b) (eval_safe a h.0 both.0) (eval_safe b (term_is_sum b h.1) both.1)
   eval_safe e h d = absurd h
 
-  abbrev Calls : Type 0
-  Calls = List ℕ → Act (Unit {0})
+  -- calls that keep it
+  abbrev pub AreSafe : Calls → Type 0
+  AreSafe calls = ((f : List ℕ) → Safe K Any (calls.of_name f)) × ((v : Cell) → Safe K Any (calls.of_log v))
 
-  pub statement_safe : (calls : Calls) → ((f : List ℕ) → Safe K Any (calls f)) → (s : tree.Stmt) → IsStatement s → stmt_is_declared declared callable s ≡ true → Safe K Any (exec calls s)
+  pub statement_safe : (calls : Calls) → AreSafe calls → (s : tree.Stmt) → IsStatement s → stmt_is_declared declared callable s ≡ true → Safe K Any (exec calls s)
   statement_safe calls g (expr (assign None (name x) e)) h d =
       let both = and_parts (declared x) (expr_is_declared declared e) d in
       safe_bind K IsPlain Any (eval e) (write_name x) (eval_safe e h.1 both.1) (λ v p. write_safe x v both.0 p)
-  statement_safe calls g (expr (call (member (name c) m) (then_expr e no_exprs))) h d = safe_bind K IsPlain Any (eval e) console_log (eval_safe e h.2 d) (λ v p. log_safe v)
-  statement_safe calls g (expr (call (name f) no_exprs)) h d = g f
+  statement_safe calls g (expr (call (member (name c) m) (then_expr e no_exprs))) h d = safe_bind K IsPlain Any (eval e) calls.of_log (eval_safe e h.2 d) (λ v p. g.1 v)
+  statement_safe calls g (expr (call (name f) no_exprs)) h d = g.0 f
   statement_safe calls g s h d = absurd h
 
-  pub statements_safe : (calls : Calls) → ((f : List ℕ) → Safe K Any (calls f)) → (ss : tree.Stmts) → AreStatements ss → stmts_are_declared declared callable ss ≡ true → Safe K Any (exec_all calls ss)
+  pub statements_safe : (calls : Calls) → AreSafe calls → (ss : tree.Stmts) → AreStatements ss → stmts_are_declared declared callable ss ≡ true → Safe K Any (exec_all calls ss)
   statements_safe calls g no_stmts h d = safe_ret K Any tt tt
   statements_safe calls g (then_stmt s ss) h d =
       let both = and_parts (stmt_is_declared declared callable s) (stmts_are_declared declared callable ss) d in
@@ -219,12 +220,19 @@ module _ (fs : Names) (cs : List tree.Code) (vars : List (List ℕ)) (declared c
   bodies_kept : (k : ℕ) (s : Store) → K s → IsBody declared callable (body_of (slice_get s.codes k))
   bodies_kept k s h = rw (h.codes) (bodies k)
 
+  log_at_safe : (d : ℕ) (v : Cell) → Safe K Any (log_at d v)
+  log_at_safe zero v = safe_bind K Any Any take_step _ (safe_step K) (λ w u. safe_raise K Any TooDeep)
+  log_at_safe (suc d) v = safe_bind K Any Any take_step _ (safe_step K) (λ w u. log_safe v)
+
   pub apply_safe : (d k : ℕ) → Safe K Any (apply d k)
   apply_safe zero k = safe_bind K Any Any take_step _ (safe_step K) (λ v u. safe_raise K Any TooDeep)
   apply_safe (suc d) k =
       safe_bind K Any Any take_step _ (safe_step K) λ v u.
       safe_bind K (IsBody declared callable) Any (ask (λ s. body_of (slice_get s.codes k))) _ (safe_ask K (IsBody declared callable) _ (bodies_kept k)) λ body h.
-      statements_safe _ (called_safe K (apply d) (apply_safe d)) body h.shaped h.declared_all
+      statements_safe _ (called_safe K (apply d) (apply_safe d), log_at_safe d) body h.shaped h.declared_all
 
   pub call_name_safe : (d : ℕ) (f : List ℕ) → Safe K Any (call_name d f)
   call_name_safe d f = called_safe K (apply d) (apply_safe d) f
+
+  pub calls_safe : (d : ℕ) → AreSafe (calls_at d)
+  calls_safe d = (call_name_safe d, log_at_safe d)

@@ -3,22 +3,23 @@ use Rattle.std.proofs.Common.{◌≡◌, ℕ, zero, suc, ◌≤◌, Bool, true, 
 use Rattle.std.specs.List.{list_all}
 use Rattle.std.proofs.lemmas.Bool.{and_parts}
 use Rattle.js_core.specs.Height.{stmts_height}
-use Rattle.js_core.specs.declared.line.LineKind.{LineKind}
-use Rattle.js_core.specs.declared.line.LineKind.TheVariants.{Uncaught, Stopped as StoppedLine}
-use Rattle.js_core.specs.Throw.{thrown_text}
+use Rattle.js_values.specs.declared.line.LineKind.{LineKind}
+use Rattle.js_values.specs.declared.line.LineKind.TheVariants.{Uncaught, Stopped as StoppedLine}
+use Rattle.js_values.specs.Throw.{thrown_text}
 use Rattle.js_core.specs.Tree as tree
 use Rattle.js_core.specs.Tree.{no_expr, one_expr, code, var, function, expr, no_stmts, then_stmt, no_declarators, then_declarator}
 use Rattle.first_scripts.specs.Names.{is_one_of}
 use Rattle.first_scripts.specs.Items.{IsFirst, AreItems, variables_of, functions_of, stmts_are_declared, expr_is_declared, item_is_declared, items_are_declared, are_distinct, with_directive, items_of, height_limit}
+use Rattle.js_machine.specs.declared.cell.Cell.{Cell}
 use Rattle.js_machine.specs.declared.cell.Cell.TheVariants.{Undefined}
-use Rattle.js_machine.specs.declared.event.Event.{Event}
-use Rattle.js_machine.specs.declared.event.Event.TheVariants.{Call}
+use Rattle.js_values.specs.declared.event.Event.{Event}
+use Rattle.js_values.specs.declared.event.Event.TheVariants.{Call}
 use Rattle.js_machine.specs.Act.{Store, Outcome, Ended, Thrown, Abandoned, Act, ret, bind}
 use Rattle.js_machine.specs.Globals.{held_by}
-use Rattle.js_machine.specs.Meaning.{write_name, eval, exec, exec_all, body_of, call_name, put_line}
+use Rattle.js_machine.specs.Meaning.{Calls, write_name, eval, exec, exec_all, body_of, call_name, calls_at, put_line}
 use Rattle.js_machine.specs.Run.{step_limit, depth_limit, settled, store_after, codes_of, function_names, first_ones, entered, load_of, do_event, run_all, run_of}
 use Rattle.js_machine.proofs.SavedNames.{Names, keys_map, no_function, Among, among_self}
-use Rattle.js_machine.proofs.Keeps.{ArePlain, IsPlain, Keeps, Kept, Safe, Any, safe_ret, safe_bind, IsBody, line_kept, write_safe, eval_safe, statement_safe, call_name_safe}
+use Rattle.js_machine.proofs.Keeps.{ArePlain, IsPlain, Keeps, Kept, Safe, Any, safe_ret, safe_bind, IsBody, line_kept, write_safe, eval_safe, statement_safe, call_name_safe, calls_safe}
 
 -- a first script by its items
 pub record FirstItems (items : tree.Stmts) : Type 0 where
@@ -86,10 +87,7 @@ module _ (items : tree.Stmts) (first : FirstItems items) where
   bodies : (k : ℕ) → IsBody (is_one_of (variables_of items)) (is_one_of (functions_of items)) (body_of (slice_get (codes_of items) k))
   bodies k = body_at (is_one_of (variables_of items)) (is_one_of (functions_of items)) (codes_of items) k (bodies_of (is_one_of (variables_of items)) (is_one_of (functions_of items)) items first.shaped first.declared)
 
-  abbrev Calls : Type 0
-  Calls = List ℕ → Act (Unit {0})
-
-  items_safe : (calls : Calls) → ((f : List ℕ) → Safe K Any (calls f)) → (ss : tree.Stmts) → AreItems ss → items_are_declared (is_one_of (variables_of items)) (is_one_of (functions_of items)) ss ≡ true → Among (variables_of items) (variables_of ss) → Safe K Any (exec_all calls ss)
+  items_safe : (calls : Calls) → ((f : List ℕ) → Safe K Any (calls.of_name f)) × ((v : Cell) → Safe K Any (calls.of_log v)) → (ss : tree.Stmts) → AreItems ss → items_are_declared (is_one_of (variables_of items)) (is_one_of (functions_of items)) ss ≡ true → Among (variables_of items) (variables_of ss) → Safe K Any (exec_all calls ss)
   items_safe calls g no_stmts h d a = safe_ret K Any tt tt
   items_safe calls g (then_stmt (var (then_declarator x no_expr no_declarators)) ss) h d a =
       let both = and_parts true (items_are_declared (is_one_of (variables_of items)) (is_one_of (functions_of items)) ss) d in
@@ -111,6 +109,9 @@ module _ (items : tree.Stmts) (first : FirstItems items) where
 
   call_safe : (f : List ℕ) → Safe K Any (call_name depth_limit f)
   call_safe f = call_name_safe fs (codes_of items) vars (is_one_of (variables_of items)) (is_one_of (functions_of items)) free bodies depth_limit f
+
+  all_calls_safe : ((f : List ℕ) → Safe K Any ((calls_at depth_limit).of_name f)) × ((v : Cell) → Safe K Any ((calls_at depth_limit).of_log v))
+  all_calls_safe = calls_safe fs (codes_of items) vars (is_one_of (variables_of items)) (is_one_of (functions_of items)) free bodies depth_limit
 
   line_safe : (kind : LineKind) (words : List ℕ) (s : Store) → K s → K (put_line kind words s)
   line_safe kind words s k = line_kept fs (codes_of items) vars (is_one_of (variables_of items)) (is_one_of (functions_of items)) free bodies kind words s k
@@ -134,12 +135,13 @@ module _ (items : tree.Stmts) (first : FirstItems items) where
 
   load_kept : K (load_of (with_directive items))
   load_kept =
-      store_after_kept (exec_all (call_name depth_limit) (with_directive items))
-      (safe_bind K Any Any (ret tt) (λ _. exec_all (call_name depth_limit) items) (safe_ret K Any tt tt) (λ v u. items_safe (call_name depth_limit) call_safe items first.shaped first.declared (among_self (variables_of items))))
+      store_after_kept (exec_all (calls_at depth_limit) (with_directive items))
+      (safe_bind K Any Any (ret tt) (λ _. exec_all (calls_at depth_limit) items) (safe_ret K Any tt tt) (λ v u. items_safe (calls_at depth_limit) all_calls_safe items first.shaped first.declared (among_self (variables_of items))))
       (entered (with_directive items)) entered_kept
 
   do_event_kept : (e : Event) (s : Store) → K s → K (do_event e s)
   do_event_kept (Call f) s k = store_after_kept (call_name depth_limit f) (call_safe f) s k
+  do_event_kept e s k = k
 
   run_all_kept : (s : Store) (es : List Event) → K s → K (run_all s es)
   run_all_kept s [] k = k

@@ -4,6 +4,7 @@ pub mod Frames
 pub mod Keeps
 pub mod KeptRuns
 pub mod Limits
+pub mod Logs
 pub mod Names
 pub mod SavedLoading
 pub mod SavedNames

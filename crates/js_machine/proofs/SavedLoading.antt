@@ -3,23 +3,20 @@ use Rattle.std.proofs.Common.{◌≡◌, ℕ, ℤ, suc, pos, negsuc, ◌-ℤ◌,
 use Rattle.std.proofs.lemmas.Int.{ints}
 use Rattle.std.specs.Map.{keys_of}
 use Rattle.js_core.specs.Whole.{is_whole, whole_of}
-use Rattle.js_core.specs.declared.throw.Throw.TheVariants.{OutOfRange}
+use Rattle.js_values.specs.declared.throw.Throw.TheVariants.{OutOfRange}
 use Rattle.js_core.specs.Tree as tree
 use Rattle.first_scripts.specs.Items.{variables_of, with_directive}
 use Rattle.js_machine.specs.declared.cell.Cell.{Cell}
 use Rattle.js_machine.specs.declared.cell.Cell.TheVariants.{Undefined, Num, Function}
 use Rattle.js_machine.specs.Act.{Store, Ended, Act, then_on, ret, bind}
 use Rattle.js_machine.specs.Globals.{held_by}
-use Rattle.js_machine.specs.Meaning.{or_raise, eval, exec_all, write_name, call_name}
+use Rattle.js_machine.specs.Meaning.{Calls, or_raise, eval, exec_all, write_name, calls_at}
 use Rattle.js_machine.specs.Run.{step_limit, depth_limit, settled, codes_of, function_names, first_ones, entered, load_of}
 use Rattle.js_machine.specs.Saved.{saved_number, saved_variable, saved_variables, saved_functions, saved_script, without_lines}
 use Rattle.js_machine.proofs.SavedNames.{Names, blank, map_keys, with_after, with_head, Apart, apart_first_ones, first_ones_again, Among, among_self, among_first, Fresh, fresh, no_function}
 use Rattle.js_machine.proofs.Keeps.{IsPlainNumber, IsPlain, ArePlain, Keeps}
 use Rattle.js_machine.proofs.KeptRuns.{FirstItems}
 use Rattle.js_machine.proofs.SavedShape.{saved_items_are, variables_saved, no_variables, codes_after, codes_saved}
-
-abbrev Calls : Type 0
-Calls = List ℕ → Act (Unit {0})
 
 abbrev page : Names → List tree.Code → Store
 page names cs = record { names = names; codes = cs; lines = [] }
@@ -68,7 +65,7 @@ enters cs es plain distinct =
 
 loads_as : (cs : List tree.Code) (es : Names) → ArePlain es → first_ones [] (keys_of es) ≡ keys_of es → Fresh (function_names 0 cs) es → load_of (with_directive (saved_variables es (saved_functions cs))) ≡ page (function_names 0 cs ++ es) cs
 loads_as cs es plain distinct new =
-    let calls = call_name depth_limit in
+    let calls = calls_at depth_limit in
     ap (λ s. settled ((exec_all calls (saved_variables es (saved_functions cs))).run s step_limit)) (enters cs es plain distinct)
     ∙ ap settled (variables_run calls (function_names 0 cs) es (saved_functions cs) cs step_limit new plain)
     ∙ ap settled (functions_run calls cs (page (function_names 0 cs ++ es) cs) step_limit)

@@ -2,11 +2,11 @@
 use Rattle.std.proofs.Common.{◌≡◌, ◌≤◌, max, List, [], ◌∷◌, ◌++◌, length, drop, refl, ap, sym, ◌∙◌, append-nil}
 use Rattle.std.proofs.lemmas.List.{length-append}
 use Rattle.std.proofs.Math.Seq.{drop-append-add}
-use Rattle.js_core.specs.declared.line.Line.{Line}
+use Rattle.js_values.specs.declared.line.Line.{Line}
 use Rattle.js_core.specs.Height.{stmts_height}
 use Rattle.js_core.specs.Tree as tree
 use Rattle.first_scripts.specs.Items.{IsFirst, with_directive}
-use Rattle.js_machine.specs.declared.event.Event.{Event}
+use Rattle.js_values.specs.declared.event.Event.{Event}
 use Rattle.js_machine.specs.Act.{Store}
 use Rattle.js_machine.specs.Run.{LinesGrow, codes_of, load_of, do_event, run_all, run_of, lines_of_run, lines_added}
 use Rattle.js_machine.specs.Saved.{saved_script, without_lines, SavedIsFirst, SavedLoads, SavedGoesOn, SavedAgain, SavedGoesOnLater, MovesKeepLines, SavedKeepsFunctions, SavedIsLow, saved_variable_height, joined}

@@ -2,8 +2,8 @@
 use Rattle.std.specs.Prelude.{ℕ, zero, suc, ◌≤◌, List}
 use Rattle.std.proofs.Common.{le_refl, le_trans}
 use Rattle.std.proofs.Math.Nat.{le-suc}
-use Rattle.js_core.specs.declared.line.Line.{Line}
-use Rattle.js_core.specs.declared.throw.Throw.{Throw}
+use Rattle.js_values.specs.declared.line.Line.{Line}
+use Rattle.js_values.specs.declared.throw.Throw.{Throw}
 use Rattle.js_core.specs.Tree as tree
 use Rattle.js_machine.specs.declared.cell.Cell.{Cell}
 

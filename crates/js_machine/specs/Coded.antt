@@ -1,8 +1,8 @@
 -- How the logic stores the functions of a page, and the page.
 use Rattle.std.specs.Prelude.{ℕ, List, refl}
 use Rattle.std.specs.Coded.{Coded, code_by, coded_ℕ, coded_list, coded×}
-use Rattle.js_core.specs.declared.line.Line.{Line}
-use Rattle.js_core.specs.contracts.line.Line as line
+use Rattle.js_values.specs.declared.line.Line.{Line}
+use Rattle.js_values.specs.contracts.line.Line as line
 use Rattle.js_core.specs.Tree as tree
 use Rattle.js_core.specs.Codes.{coded_code}
 use Rattle.js_machine.specs.declared.cell.Cell.{Cell}

@@ -5,7 +5,7 @@ use Rattle.js_core.specs.Tree.{name, member, call, assign, no_exprs, then_expr, 
 use Rattle.js_machine.specs.declared.deed.Deed.{Deed}
 use Rattle.js_machine.specs.declared.deed.Deed.TheVariants as deed
 use Rattle.js_machine.specs.Act.{Act, ret, bind}
-use Rattle.js_machine.specs.Meaning.{eval, write_name, console_log}
+use Rattle.js_machine.specs.Meaning.{Calls, eval, write_name}
 
 pub data Work : Type 0 where
   assigns : List ℕ → tree.Expr → Work
@@ -20,11 +20,11 @@ deed_of (expr (call (name f) no_exprs)) = calls f
 deed_of (var (then_declarator x (one_expr e) no_declarators)) = assigns x e
 deed_of s = nothing
 
-abbrev pub done_by : (List ℕ → Act (Unit {0})) → Work → Act (Unit {0})
-done_by call_of (assigns x e) = bind (eval e) (write_name x)
-done_by call_of (logs e) = bind (eval e) console_log
-done_by call_of (calls f) = call_of f
-done_by call_of nothing = ret tt
+abbrev pub done_by : Calls → Work → Act (Unit {0})
+done_by doing (assigns x e) = bind (eval e) (write_name x)
+done_by doing (logs e) = bind (eval e) doing.of_log
+done_by doing (calls f) = doing.of_name f
+done_by doing nothing = ret tt
 
 -- what the machine's own value stands for
 abbrev pub seen : Deed → Work

@@ -1,7 +1,7 @@
 -- Global names and what they hold, in the order in which they came.
 use Rattle.std.specs.Prelude.{ℕ, List, Option, bytes_eq}
 use Rattle.std.specs.Map.{lookup, set_value}
-use Rattle.js_core.specs.declared.line.Line.{Line}
+use Rattle.js_values.specs.declared.line.Line.{Line}
 use Rattle.js_machine.specs.declared.cell.Cell.{Cell}
 
 -- what the name holds

@@ -1,6 +1,6 @@
 -- What a statement leads to, and what a stack of lists of statements has yet to do.
 use Rattle.std.specs.Prelude.{ℕ, suc, ◌+◌, ◌*◌, ◌≤◌, ◌≡◌, List, [], ◌∷◌, length, Result, Ok, Err}
-use Rattle.js_core.specs.declared.throw.Throw.{Throw}
+use Rattle.js_values.specs.declared.throw.Throw.{Throw}
 use Rattle.js_core.specs.Tree as tree
 use Rattle.js_core.specs.Tree.{code, no_stmts, then_stmt, stmts_of}
 use Rattle.js_machine.specs.declared.cell.Cell.{Cell}
@@ -11,7 +11,7 @@ use Rattle.js_machine.specs.declared.machine.End.TheVariants as end
 use Rattle.js_machine.specs.declared.machine.Meter.{Meter}
 use Rattle.js_machine.specs.Act.{Store, Outcome, Ended, Thrown, Abandoned, Act, ret, bind}
 use Rattle.js_machine.specs.Globals.{World}
-use Rattle.js_machine.specs.Meaning.{eval, exec, exec_all, apply, call_name, write_name, console_log}
+use Rattle.js_machine.specs.Meaning.{eval, exec, exec_all, apply, call_name, calls_at, log_at, write_name}
 
 abbrev pub store_of : List tree.Code → World → Store
 store_of codes w = record { names = w.names; codes = codes; lines = w.lines }
@@ -24,7 +24,7 @@ answered (Err t) s n = Thrown t s n
 -- what is left to do once a statement has led to this
 abbrev pub after : List tree.Code → Next → World → Meter → Outcome (Unit {0})
 after codes next.Done w m = Ended tt (store_of codes w) m.steps
-after codes (next.Enter body) w m = (exec_all (call_name m.depth) (stmts_of body.now)).run (store_of codes w) m.steps
+after codes (next.Enter body) w m = (exec_all (calls_at m.depth) (stmts_of body.now)).run (store_of codes w) m.steps
 after codes (next.Thrown t) w m = Thrown t (store_of codes w) m.steps
 after codes next.Stopped w m = Abandoned (store_of codes w)
 
@@ -35,14 +35,15 @@ outcome_of end.Stopped s n = Abandoned s
 
 -- a step of a statement keeps what is left to do
 abbrev pub Follows : List tree.Code → tree.Stmt → World → Meter → Next → World → Meter → Type 0
-Follows codes s w m next w' m' = (exec (call_name m.depth) s).run (store_of codes w) m.steps ≡ after codes next w' m'
+Follows codes s w m next w' m' = (exec (calls_at m.depth) s).run (store_of codes w) m.steps ≡ after codes next w' m'
 
 -- so does an assignment, with any functions and whatever is left, which stays
 abbrev pub Assigns : List ℕ → tree.Expr → World → Next → World → Type 0
 Assigns x e w next w' = (codes : List tree.Code) (m : Meter) → (bind (eval e) (write_name x)).run (store_of codes w) m.steps ≡ after codes next w' m
 
-abbrev pub Logs : tree.Expr → World → Next → World → Type 0
-Logs e w next w' = (codes : List tree.Code) (m : Meter) → (bind (eval e) console_log).run (store_of codes w) m.steps ≡ after codes next w' m
+-- so does a log
+abbrev pub Logs : tree.Expr → World → Meter → Next → World → Meter → Type 0
+Logs e w m next w' m' = (codes : List tree.Code) → (bind (eval e) (log_at m.depth)).run (store_of codes w) m.steps ≡ after codes next w' m'
 
 -- so does the call of a global name
 abbrev pub Calls : List tree.Code → List ℕ → World → Meter → Next → Meter → Type 0
@@ -92,7 +93,7 @@ Lighter codes m next m' = load codes m'.steps (weight_of next) ≤ load codes m.
 -- what the lists have yet to do, the first with so many levels of depth left, and each one below with one more
 abbrev pub rest_all : ℕ → List (List tree.Stmt) → Act (Unit {0})
 rest_all d [] = ret tt
-rest_all d (f ∷ fs) = bind (exec_all (call_name d) (stmts_of f)) (λ _. rest_all (suc d) fs)
+rest_all d (f ∷ fs) = bind (exec_all (calls_at d) (stmts_of f)) (λ _. rest_all (suc d) fs)
 
 abbrev pub weigh_all : List (List tree.Stmt) → ℕ
 weigh_all [] = 0

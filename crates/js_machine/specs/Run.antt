@@ -1,18 +1,18 @@
 -- What a page does when it is loaded, and under host events.
 use Rattle.std.specs.Prelude.{ℕ, ◌≡◌, ◌+◌, ◌++◌, List, [], ◌∷◌, Some, None, if◌then◌else◌, length, map, drop}
-use Rattle.js_core.specs.declared.line.Line.{Line}
-use Rattle.js_core.specs.declared.line.LineKind.TheVariants.{Uncaught, Stopped as StoppedLine}
-use Rattle.js_core.specs.Throw.{thrown_text}
+use Rattle.js_values.specs.declared.line.Line.{Line}
+use Rattle.js_values.specs.declared.line.LineKind.TheVariants.{Uncaught, Stopped as StoppedLine}
+use Rattle.js_values.specs.Throw.{thrown_text}
 use Rattle.js_core.specs.Tree as tree
 use Rattle.js_core.specs.Tree.{code, function, no_stmts, then_stmt}
 use Rattle.first_scripts.specs.Names.{is_one_of}
 use Rattle.first_scripts.specs.Items.{variables_of}
 use Rattle.js_machine.specs.declared.cell.Cell.{Cell}
 use Rattle.js_machine.specs.declared.cell.Cell.TheVariants.{Undefined, Function}
-use Rattle.js_machine.specs.declared.event.Event.{Event}
-use Rattle.js_machine.specs.declared.event.Event.TheVariants.{Call}
+use Rattle.js_values.specs.declared.event.Event.{Event}
+use Rattle.js_values.specs.declared.event.Event.TheVariants.{Call}
 use Rattle.js_machine.specs.Act.{Store, Outcome, Ended, Thrown, Abandoned, Act}
-use Rattle.js_machine.specs.Meaning.{exec_all, call_name, put_line}
+use Rattle.js_machine.specs.Meaning.{exec_all, call_name, calls_at, put_line}
 
 -- steps that a script and a host event have; functions that may be active at once. They do not unfold.
 unfoldable pub step_limit : ℕ
@@ -57,11 +57,12 @@ entered script = record {
 
 -- the page once its script has run
 abbrev pub load_of : tree.Stmts → Store
-load_of script = store_after (exec_all (call_name depth_limit) script) (entered script)
+load_of script = store_after (exec_all (calls_at depth_limit) script) (entered script)
 
--- the page after one host event
+-- the page after one host event; of other events than calls nothing is meant here
 abbrev pub do_event : Event → Store → Store
 do_event (Call f) s = store_after (call_name depth_limit f) s
+do_event e s = s
 
 -- an event takes no line back
 abbrev pub LinesGrow : Type 0

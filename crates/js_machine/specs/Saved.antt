@@ -1,14 +1,14 @@
 -- A page as a script of its own, and what that script is worth.
 use Rattle.std.specs.Prelude.{ℕ, ℤ, suc, pos, negsuc, ◌≡◌, ◌≤◌, max, ◌++◌, List, [], ◌∷◌, Option, Some, None, codes}
 use Rattle.js_core.specs.declared.operators.BinaryOp.TheVariants.{Sub}
-use Rattle.js_core.specs.declared.line.Line.{Line}
+use Rattle.js_values.specs.declared.line.Line.{Line}
 use Rattle.js_core.specs.Height.{stmts_height}
 use Rattle.js_core.specs.Tree as tree
 use Rattle.js_core.specs.Tree.{name, num, binary, no_expr, one_expr, var, function, no_stmts, then_stmt, no_declarators, then_declarator}
 use Rattle.first_scripts.specs.Items.{IsFirst, with_directive}
 use Rattle.js_machine.specs.declared.cell.Cell.{Cell}
 use Rattle.js_machine.specs.declared.cell.Cell.TheVariants.{Undefined, Num, Function}
-use Rattle.js_machine.specs.declared.event.Event.{Event}
+use Rattle.js_values.specs.declared.event.Event.{Event}
 use Rattle.js_machine.specs.Act.{Store}
 use Rattle.js_machine.specs.Run.{codes_of, load_of, run_of, lines_of_run, lines_after}
 

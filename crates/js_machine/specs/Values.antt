@@ -2,8 +2,8 @@
 -- takes no step.
 use Rattle.std.specs.Prelude.{ℕ, ℤ, List, Option, Some, None, Result, Ok, Err, codes, bytes_eq, if◌then◌else◌}
 use Rattle.js_core.specs.declared.operators.BinaryOp.TheVariants.{Add, Sub}
-use Rattle.js_core.specs.declared.throw.Throw.{Throw}
-use Rattle.js_core.specs.declared.throw.Throw.TheVariants.{NotDefined, OutOfRange}
+use Rattle.js_values.specs.declared.throw.Throw.{Throw}
+use Rattle.js_values.specs.declared.throw.Throw.TheVariants.{NotDefined, OutOfRange}
 use Rattle.js_core.specs.Whole.{nan}
 use Rattle.js_core.specs.Tree as tree
 use Rattle.js_core.specs.Tree.{name, num, binary}

@@ -62,7 +62,8 @@ fn call_deed<'a>(callee: &'a Expr, args: &'a [Expr]) -> Deed<'a>
 }
 
 fn name_call_deed<'a>(name: &'a Units, args: &'a [Expr]) -> Deed<'a>
-    ensures { seen result ≡ deed_of (tree.expr (tree.call (tree.name name.now) (exprs_of args.now))) }
+    ensures { seen result ≡ deed_of (tree.expr (tree.call (tree.name name.now)
+        (exprs_of args.now))) }
 {
     match args {
         [] => Deed::Call(name),
@@ -71,7 +72,8 @@ fn name_call_deed<'a>(name: &'a Units, args: &'a [Expr]) -> Deed<'a>
 }
 
 fn member_call_deed<'a>(object: &'a Expr, member: &'a Units, args: &'a [Expr]) -> Deed<'a>
-    ensures { seen result ≡ deed_of (tree.expr (tree.call (tree.member object.now member.now) (exprs_of args.now))) }
+    ensures { seen result ≡ deed_of (tree.expr (tree.call (tree.member object.now member.now)
+        (exprs_of args.now))) }
 {
     match &object.node {
         ExprNode::Name(name) => log_deed(name, member, args),
@@ -80,7 +82,8 @@ fn member_call_deed<'a>(object: &'a Expr, member: &'a Units, args: &'a [Expr]) -
 }
 
 fn log_deed<'a>(object: &'a Units, member: &'a Units, args: &'a [Expr]) -> Deed<'a>
-    ensures { seen result ≡ deed_of (tree.expr (tree.call (tree.member (tree.name object.now) member.now) (exprs_of args.now))) }
+    ensures { seen result ≡ deed_of (tree.expr (tree.call (tree.member
+        (tree.name object.now) member.now) (exprs_of args.now))) }
 {
     match args {
         [] => Deed::Nothing,

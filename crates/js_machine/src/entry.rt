@@ -13,7 +13,8 @@ use js_core::syntax::{Declarator, Stmt, StmtNode};
 
 /// Binds the name of each function to its place among them.
 pub fn declare_functions(globals: &mut Globals, codes: &Codes) -> Result<(), OutOfMemory>
-    ensures { OnOk result (globals.new ≡ record { names = bind_functions globals.old.names 0 codes.now; lines = globals.old.lines }) }
+    ensures { OnOk result
+        (globals.new ≡ record { names = bind_functions globals.old.names 0 codes.now; lines = globals.old.lines }) }
 {
     for (at, code) in codes.as_slice().iter().enumerate() {
         if let Some(name) = &code.name {
@@ -25,7 +26,11 @@ pub fn declare_functions(globals: &mut Globals, codes: &Codes) -> Result<(), Out
 
 /// Binds the variables that the script declares.
 pub fn declare_variables(globals: &mut Globals, script: &[Stmt]) -> Result<(), OutOfMemory>
-    ensures { OnOk result (globals.new ≡ record { names = bind_variables globals.old.names (variables_of (stmts_of script.now)); lines = globals.old.lines }) }
+    ensures { OnOk result (globals.new ≡ record {
+      names = bind_variables globals.old.names
+          (variables_of (stmts_of script.now));
+      lines = globals.old.lines;
+    }) }
 {
     for stmt in script {
         if let StmtNode::Var(declarators) = &stmt.node {
@@ -37,7 +42,11 @@ pub fn declare_variables(globals: &mut Globals, script: &[Stmt]) -> Result<(), O
 
 // A declaration of the first pages has one declarator.
 fn declare_first(globals: &mut Globals, declarators: &[Declarator]) -> Result<(), OutOfMemory>
-    ensures { OnOk result (globals.new ≡ record { names = bind_variables globals.old.names (first_of (declarators_of declarators.now)); lines = globals.old.lines }) }
+    ensures { OnOk result (globals.new ≡ record {
+      names = bind_variables globals.old.names
+          (first_of (declarators_of declarators.now));
+      lines = globals.old.lines;
+    }) }
 {
     match declarators {
         [Declarator { name, value: _ }, ..] => globals.declare_variable(name),

@@ -10,9 +10,9 @@ use crate::numbers::{to_number, whole_add, whole_sub};
 use js_core::memory::OutOfMemory;
 use js_core::operators::BinaryOp;
 use js_core::syntax::{Expr, ExprNode};
-use js_core::throw::Throw;
 use js_core::units::Units;
 use js_core::whole::Whole;
+use js_values::throw::Throw;
 
 /// The value of the expression, or what its evaluation throws (ECMA-262 5.1 section 11).
 pub fn value(globals: &Globals, e: &Expr) -> Result<Result<Cell, Throw>, OutOfMemory>

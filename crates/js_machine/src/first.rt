@@ -3,32 +3,26 @@
 ghost use Rattle.std.specs.Prelude.{◌≡◌, ◌<◌, ◌^◌, IfOk, OnOk, ℕ, List};
 ghost use Rattle.js_core.specs.Tree as tree;
 ghost use Rattle.first_scripts.specs.Items.{IsFirst};
-ghost use Rattle.js_machine.specs.declared.event.Event.TheVariants.{Call};
+ghost use Rattle.js_values.specs.declared.event.Event.TheVariants.{Call};
 ghost use Rattle.js_machine.specs.Entry.{bound};
-ghost use Rattle.js_machine.specs.Globals.{held_by};
-ghost use Rattle.js_machine.specs.Meaning.{exec_all, call_name};
+ghost use Rattle.js_machine.specs.Meaning.{exec_all, call_name, calls_at};
 ghost use Rattle.js_machine.specs.Rest.{store_of, outcome_of};
 ghost use Rattle.js_machine.specs.Run.{step_limit, depth_limit, settled, store_after, load_of, do_event, LinesGrow};
 
 use crate::cell::Cell;
 use crate::codes::Codes;
 use crate::entry::{declare_functions, declare_variables};
-use crate::event::Event;
 use crate::globals::Globals;
 use crate::machine::{End, Meter, run, run_call};
 use indexmap::map::Slice;
-use js_core::line::{Line, LineKind};
+use js_core::limits::{DEPTH_LIMIT, STEP_LIMIT};
 use js_core::memory::OutOfMemory;
 use js_core::syntax::Script;
 use js_core::units::Units;
+use js_values::event::Event;
+use js_values::line::{Line, LineKind};
 use std::alloc::Global;
 use std::marker::Model;
-
-/// The steps that a script and a host event have.
-pub const STEP_LIMIT: u64 = 1_000_000;
-
-/// How many functions may be active at once.
-pub const DEPTH_LIMIT: u64 = 1_000;
 
 /// A page between host events. Contracts see its global names with what they hold, in the order in which they came, its
 /// functions, and the lines that it has put out.
@@ -62,7 +56,8 @@ pub fn load_first(alloc: Global, script: &Script) -> Result<First, OutOfMemory>
 
 // The page of any script once it has run.
 pub(crate) fn load(alloc: Global, script: &Script) -> Result<First, OutOfMemory>
-    ensures { IfOk result (λ page. page ≡ store_after (exec_all (call_name depth_limit) script.now) (bound script.now)) }
+    ensures { IfOk result (λ page. page ≡ store_after (exec_all (calls_at depth_limit) script.now)
+        (bound script.now)) }
 {
     let mut page = enter(alloc, script)?;
     page.run_script(script)?;
@@ -82,9 +77,10 @@ fn enter(alloc: Global, script: &Script) -> Result<First, OutOfMemory>
 
 impl First {
     fn run_script(&mut self, script: &Script) -> Result<(), OutOfMemory>
-        ensures { OnOk result (self.new ≡ store_after (exec_all (call_name depth_limit) script.now) self.old) }
+        ensures { OnOk result (self.new ≡ store_after (exec_all
+            (calls_at depth_limit) script.now) self.old) }
     {
-        let mut meter = full(all_steps());
+        let mut meter = full();
         let end = run(
             &self.codes,
             &mut self.globals,
@@ -94,13 +90,15 @@ impl First {
         settle(&mut self.globals, end)
     }
 
-    /// The page after the host event. An exception that nothing catches and want of steps end the event: both are told
-    /// by a line, and what was done before stays. After an `Err` the page is spent.
+    /// The page after the host event, which is a call: other events leave a first page as it is. An exception that nothing
+    /// catches and want of steps end the event: both are told by a line, and what was done before stays. After an `Err` the
+    /// page is spent.
     pub fn act(&mut self, event: &Event) -> Result<(), OutOfMemory>
         ensures { OnOk result (self.new ≡ do_event event.now self.old) }
     {
         match event {
             Event::Call(name) => self.call(name),
+            Event::Fire { .. } | Event::Input { .. } | Event::Tick(_) | Event::Dom => Ok(()),
         }
     }
 
@@ -108,14 +106,7 @@ impl First {
     pub fn call(&mut self, name: &Units) -> Result<(), OutOfMemory>
         ensures { OnOk result (self.new ≡ do_event (Call name.now) self.old) }
     {
-        self.call_within(name, all_steps())
-    }
-
-    // The same with so many steps.
-    pub(crate) fn call_within(&mut self, name: &Units, steps: u64) -> Result<(), OutOfMemory>
-        ensures { OnOk result (self.new ≡ settled ((call_name depth_limit name.now).run self.old steps)) }
-    {
-        let mut meter = full(steps);
+        let mut meter = full();
         let end = run_call(&self.codes, &mut self.globals, name, &mut meter)?;
         settle(&mut self.globals, end)
     }
@@ -125,13 +116,6 @@ impl First {
         ensures { result.now ≡ self.now.lines }
     {
         self.globals.lines()
-    }
-
-    /// What the global name holds, or `None` where it is not there.
-    pub fn cell(&self, name: &Units) -> Option<Cell>
-        ensures { result ≡ held_by self.now.names name.now }
-    {
-        self.globals.get(name)
     }
 
     /// The global names with what they hold, in the order in which they came.
@@ -149,28 +133,22 @@ impl First {
     }
 }
 
-#[tactic(auto, using(crate::proofs::Limits::step_limit_is))]
-fn all_steps() -> u64
-    ensures { result ≡ step_limit }
-{
-    STEP_LIMIT
-}
-
-// So many steps, and all the levels of depth.
-#[tactic(auto, using(crate::proofs::Limits::depth_limit_is))]
-fn full(steps: u64) -> Meter
-    ensures all { result ≡ record { steps = steps; depth = depth_limit } }
+// All the steps, and all the levels of depth.
+#[tactic(auto, using(crate::proofs::Limits::step_limit_is, crate::proofs::Limits::depth_limit_is))]
+fn full() -> Meter
+    ensures all { result ≡ record { steps = step_limit; depth = depth_limit } }
     ensures fits { depth_limit < 2 ^ 32 }
 {
     Meter {
-        steps,
+        steps: STEP_LIMIT,
         depth: DEPTH_LIMIT,
     }
 }
 
 // An exception that nothing catches and want of steps are told by a line.
 fn settle(globals: &mut Globals, end: End) -> Result<(), OutOfMemory>
-    ensures { OnOk result ((codes : List tree.Code) (n : ℕ) → store_of codes globals.new ≡ settled (outcome_of end (store_of codes globals.old) n)) }
+    ensures { OnOk result ((codes : List tree.Code) (n : ℕ) → store_of codes globals.new
+        ≡ settled (outcome_of end (store_of codes globals.old) n)) }
 {
     let alloc = globals.allocator();
     match end {

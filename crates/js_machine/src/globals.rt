@@ -7,9 +7,9 @@ ghost use Rattle.js_machine.specs.Entry.{bind_function, bind_variable};
 use crate::cell::Cell;
 use indexmap::IndexMap;
 use indexmap::map::Slice;
-use js_core::line::{Line, LineKind};
 use js_core::memory::OutOfMemory;
 use js_core::units::Units;
+use js_values::line::{Line, LineKind};
 use std::alloc::Global;
 use std::marker::Model;
 
@@ -60,7 +60,8 @@ impl Globals {
 
     /// The name of a function holds its place among the codes, and comes last where it is new.
     pub fn declare_function(&mut self, name: Units, at: u64) -> Result<(), OutOfMemory>
-        ensures { OnOk result (self.new ≡ record { names = bind_function self.old.names name at; lines = self.old.lines }) }
+        ensures { OnOk result
+            (self.new ≡ record { names = bind_function self.old.names name at; lines = self.old.lines }) }
     {
         self.names.insert(name, Cell::Function(at))?;
         Ok(())
@@ -68,7 +69,8 @@ impl Globals {
 
     /// The name of a variable comes last, with undefined, where it is new.
     pub fn declare_variable(&mut self, name: &Units) -> Result<(), OutOfMemory>
-        ensures { OnOk result (self.new ≡ record { names = bind_variable self.old.names name.now; lines = self.old.lines }) }
+        ensures { OnOk result
+            (self.new ≡ record { names = bind_variable self.old.names name.now; lines = self.old.lines }) }
     {
         if !self.names.contains_key(name) {
             self.names.insert(name.clone()?, Cell::Undefined)?;
@@ -78,7 +80,12 @@ impl Globals {
 
     /// One more line.
     pub fn put_line(&mut self, kind: LineKind, text: Units) -> Result<(), OutOfMemory>
-        ensures { OnOk result (self.new ≡ record { names = self.old.names; lines = self.old.lines ++ record { kind = kind; text = text } ∷ [] }) }
+        ensures { OnOk result
+            (self.new ≡ record {
+              names = self.old.names;
+              lines = self.old.lines
+                  ++ record { kind = kind; text = text } ∷ [];
+            }) }
     {
         self.lines.push(Line { kind, text })?;
         Ok(())

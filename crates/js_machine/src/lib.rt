@@ -5,12 +5,9 @@ pub mod cell;
 pub mod codes;
 pub mod deed;
 pub mod entry;
-pub mod event;
 pub mod expressions;
 pub mod first;
 pub mod globals;
 pub mod machine;
 pub mod numbers;
 pub mod saving;
-#[cfg(test)]
-mod tests;

@@ -1,9 +1,9 @@
 //! The machine: a stack of lists of statements that are left to do, one for each function that is active.
 
-ghost use Rattle.std.specs.Prelude.{◌≡◌, ◌<◌, ◌+◌, ◌^◌, IfOk};
+ghost use Rattle.std.specs.Prelude.{◌≡◌, ◌<◌, ◌≤◌, ◌+◌, ◌^◌, IfOk, OnOk};
 ghost use Rattle.js_core.specs.Tree.{stmts_of};
-ghost use Rattle.js_machine.specs.Meaning.{exec_all, call_name};
-ghost use Rattle.js_machine.specs.Rest.{store_of, outcome_of, Follows, Assigns, Logs, Calls, Enters, IsFlat, Levels, Lighter};
+ghost use Rattle.js_machine.specs.Meaning.{exec_all, call_name, calls_at};
+ghost use Rattle.js_machine.specs.Rest.{store_of, outcome_of, Follows, Assigns, Logs, Calls, Enters, IsFlat, Levels, Lighter, weight_of};
 
 use crate::cell::Cell;
 use crate::codes::Codes;
@@ -11,11 +11,11 @@ use crate::deed::{Deed, what_is_done};
 use crate::expressions::{global_value, value};
 use crate::globals::Globals;
 use crate::numbers::text_of;
-use js_core::line::LineKind;
 use js_core::memory::OutOfMemory;
 use js_core::syntax::{Expr, Stmt};
-use js_core::throw::Throw;
 use js_core::units::Units;
+use js_values::line::LineKind;
+use js_values::throw::Throw;
 
 /// What is left.
 #[derive(Clone, Copy)]
@@ -54,7 +54,10 @@ pub fn run<'a>(
     meter: &mut Meter,
 ) -> Result<End, OutOfMemory>
     requires { meter.old.depth < 2 ^ 32 }
-    ensures { IfOk result (λ end. outcome_of end (store_of codes.now globals.new) meter.new.steps ≡ (exec_all (call_name meter.old.depth) (stmts_of body.now)).run (store_of codes.now globals.old) meter.old.steps) }
+    ensures { IfOk result (λ end. outcome_of end
+        (store_of codes.now globals.new) meter.new.steps
+        ≡ (exec_all (calls_at meter.old.depth) (stmts_of body.now)).run
+        (store_of codes.now globals.old) meter.old.steps) }
 {
     let mut stack = Vec::new(globals.allocator());
     stack.push(body)?;
@@ -83,7 +86,10 @@ pub fn run_call(
     meter: &mut Meter,
 ) -> Result<End, OutOfMemory>
     requires { meter.old.depth < 2 ^ 32 }
-    ensures { IfOk result (λ end. outcome_of end (store_of codes.now globals.new) meter.new.steps ≡ (call_name meter.old.depth name.now).run (store_of codes.now globals.old) meter.old.steps) }
+    ensures { IfOk result (λ end. outcome_of end
+        (store_of codes.now globals.new) meter.new.steps
+        ≡ (call_name meter.old.depth name.now).run
+        (store_of codes.now globals.old) meter.old.steps) }
 {
     match call(codes, globals, name, meter)? {
         Next::Done => Ok(End::Done),
@@ -94,20 +100,21 @@ pub fn run_call(
 }
 
 /// Does the statement, up to the entry of the function that it calls.
-#[tactic(auto, using(crate::proofs::Steps::assign_follows, crate::proofs::Steps::log_follows, crate::proofs::Steps::call_follows, crate::proofs::Steps::nothing_follows))]
+#[tactic(auto, using(crate::proofs::Steps::assign_follows, crate::proofs::Steps::log_follows, crate::proofs::Steps::call_follows, crate::proofs::Steps::nothing_follows, crate::proofs::Steps::light_is_lighter))]
 fn step<'a>(
     codes: &'a Codes,
     globals: &mut Globals,
     stmt: &Stmt,
     meter: &mut Meter,
 ) -> Result<Next<'a>, OutOfMemory>
-    ensures follows { IfOk result (λ next. Follows codes.now stmt.now globals.old meter.old next globals.new meter.new) }
+    ensures follows { IfOk result
+        (λ next. Follows codes.now stmt.now globals.old meter.old next globals.new meter.new) }
     ensures levels { IfOk result (λ next. Levels meter.old next meter.new) }
     ensures lighter { IfOk result (λ next. Lighter codes.now meter.old next meter.new) }
 {
     match what_is_done(stmt) {
         Deed::Assign(name, e) => assign(globals, name, e),
-        Deed::Log(e) => log(globals, e),
+        Deed::Log(e) => log(globals, e, meter),
         Deed::Call(name) => call(codes, globals, name, meter),
         Deed::Nothing => Ok(Next::Done),
     }
@@ -127,19 +134,29 @@ fn assign<'a>(globals: &mut Globals, name: &Units, e: &Expr) -> Result<Next<'a>,
     }
 }
 
-#[tactic(auto, using(crate::proofs::Evaluation::log_done, crate::proofs::Evaluation::log_thrown))]
-fn log<'a>(globals: &mut Globals, e: &Expr) -> Result<Next<'a>, OutOfMemory>
-    ensures follows { IfOk result (λ next. Logs e.now globals.old next globals.new) }
-    ensures flat { IfOk result IsFlat }
+/// Puts out the value of the expression. It is the call of a built-in, which takes a step and needs a level of depth.
+#[tactic(auto, using(crate::proofs::Logs::log_done, crate::proofs::Logs::log_deep, crate::proofs::Logs::log_stopped, crate::proofs::Logs::log_thrown))]
+fn log<'a>(globals: &mut Globals, e: &Expr, meter: &mut Meter) -> Result<Next<'a>, OutOfMemory>
+    ensures follows { IfOk result
+        (λ next. Logs e.now globals.old meter.old next globals.new meter.new) }
+    ensures levels { IfOk result (λ next. Levels meter.old next meter.new) }
+    ensures light { IfOk result (λ next. weight_of next ≡ 0) }
+    ensures fewer { OnOk result (meter.new.steps ≤ meter.old.steps) }
 {
-    match value(globals, e)? {
-        Ok(cell) => {
-            let text = text_of(globals.allocator(), cell)?;
-            globals.put_line(LineKind::Log, text)?;
-            Ok(Next::Done)
-        }
-        Err(what) => Ok(Next::Thrown(what)),
+    let cell = match value(globals, e)? {
+        Ok(cell) => cell,
+        Err(what) => return Ok(Next::Thrown(what)),
+    };
+    if meter.steps == 0 {
+        return Ok(Next::Stopped);
     }
+    meter.steps -= 1;
+    if meter.depth == 0 {
+        return Ok(Next::Thrown(Throw::TooDeep));
+    }
+    let text = text_of(globals.allocator(), cell)?;
+    globals.put_line(LineKind::Log, text)?;
+    Ok(Next::Done)
 }
 
 /// Calls a global name, up to the entry of the function.
@@ -149,7 +166,8 @@ pub fn call<'a>(
     name: &Units,
     meter: &mut Meter,
 ) -> Result<Next<'a>, OutOfMemory>
-    ensures follows { IfOk result (λ next. Calls codes.now name.now globals.now meter.old next meter.new) }
+    ensures follows { IfOk result
+        (λ next. Calls codes.now name.now globals.now meter.old next meter.new) }
     ensures levels { IfOk result (λ next. Levels meter.old next meter.new) }
     ensures lighter { IfOk result (λ next. Lighter codes.now meter.old next meter.new) }
 {

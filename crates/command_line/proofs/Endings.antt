@@ -1,0 +1,163 @@
+-- How commands end, by what their parts answer.
+use Rattle.std.proofs.Common.{◌≡◌, ℕ, ◌≤◌, List, [], ◌∷◌, length, Option, Some, None, refl, subst, inl, inr, arith}
+use Rattle.std.specs.Prelude.{◌⊎◌}
+use Rattle.page_io.specs.Content.{Told}
+use Rattle.page_io.specs.Faults.{Rose}
+use Rattle.js_core.specs.Tree as tree
+use Rattle.page_check.specs.Accept.{IsRefused}
+use Rattle.page_check.specs.declared.page.Refusal.{Refusal}
+use Rattle.page_check.specs.declared.page.Refusal.TheVariants.{NotBuilt}
+use Rattle.js_values.specs.declared.event.Event.{Event}
+use Rattle.command_line.specs.declared.status.Status.{Status}
+use Rattle.command_line.specs.declared.status.Status.TheVariants.{Ok, PageRefused, Usage, EventsRefused, ReadFault, WriteFault, OutOfMemory}
+use Rattle.command_line.specs.declared.command.Work.{Work}
+use Rattle.command_line.specs.Command.{Command, check, session}
+use Rattle.command_line.specs.Page.{page_limit, Page, Accepts, IsPage, IsBuilt, IsNotBuilt, IsNotRun, IsRunnable}
+use Rattle.command_line.specs.Reading.{StopsAtPage, StopsAtEvents}
+use Rattle.command_line.specs.Replay.{IsEventFile}
+use Rattle.command_line.specs.Stages.{Seen, Of, Held, ReadFailed, Stops, Stage, page_file, acceptance, building, event_file, writing, EndsAt, work_of, Ends}
+use Rattle.command_line.specs.Texts.{PutsText, Puts}
+
+-- ---- what is told of the bytes of a name
+
+told_fits : (told : Told) (P : List ℕ → Type 0) → Of told (λ b. (length b ≤ page_limit) × P b) → Of told (λ b. length b ≤ page_limit) × Of told P
+told_fits None P h = (tt, tt)
+told_fits (Some None) P h = absurd h
+told_fits (Some (Some bytes)) P h = (h.0, h.1)
+
+-- a page is accepted as some page
+told_accepted : (told : Told) (page : Page) → Of told (λ b. IsPage b page) → Of told (λ b. length b ≤ page_limit) × Of told (λ b. (page : Page) × Accepts b page)
+told_accepted None page h = (tt, tt)
+told_accepted (Some None) page h = absurd h
+told_accepted (Some (Some bytes)) page h = (h.fits, (page, h.accepted))
+
+-- a page that is not built in is accepted
+told_only_unbuilt : (told : Told) (k : ℕ) → Of told (λ b. IsNotBuilt b (NotBuilt k)) → Of told (λ b. (page : Page) × Accepts b page)
+told_only_unbuilt None k h = tt
+told_only_unbuilt (Some None) k h = absurd h
+told_only_unbuilt (Some (Some bytes)) k h = (h.1.0, h.1.1)
+
+-- a page that runs passes the stages of the page
+pub record PassesPage (told : Told) : Type 0 where
+  pub fits : Of told (λ b. length b ≤ page_limit)
+  pub accepted : Of told (λ b. (page : Page) × Accepts b page)
+  pub built : Of told (λ b. (page : Page) × Accepts b page × IsBuilt page)
+
+pub told_runnable : (told : Told) (script : tree.Stmts) → Of told (λ b. IsRunnable b script) → PassesPage told
+told_runnable None script h = record { fits = tt; accepted = tt; built = tt }
+told_runnable (Some None) script h = absurd h
+told_runnable (Some (Some bytes)) script h = record {
+  fits = h.accepted.fits;
+  accepted = (h.page, h.accepted.accepted);
+  built = (h.page, h.accepted.accepted, (script, h.runs));
+}
+
+told_events : (told : Told) (events : List Event) → Of told (λ f. IsEventFile f events) → Of told (λ f. (events : List Event) × IsEventFile f events)
+told_events None events h = tt
+told_events (Some None) events h = absurd h
+told_events (Some (Some file)) events h = (events, h)
+
+-- ---- check
+
+-- reading the page ends a check
+pub check_stops : (p : List ℕ) (status : Status) (seen : Seen) → StopsAtPage IsRefused status (seen.files_before.content p) → (status ≡ ReadFault → ReadFailed p seen) → EndsAt (work_of (check p)) status seen
+check_stops p Ok seen h f = absurd h
+check_stops p (PageRefused None) seen h f = inl h
+check_stops p (PageRefused (Some r)) seen h f = let both = told_fits (seen.files_before.content p) (λ b. IsRefused b r) h in inr (both.0, inl both.1)
+check_stops p Usage seen h f = absurd h
+check_stops p (EventsRefused i) seen h f = absurd h
+check_stops p ReadFault seen h f = inl (f refl)
+check_stops p WriteFault seen h f = absurd h
+check_stops p OutOfMemory seen h f = inl tt
+
+-- or writing does
+pub check_writes : (p : List ℕ) (status : Status) (seen : Seen) (page : Page) → Held seen p (λ b. IsPage b page) → Stops writing status seen → EndsAt (work_of (check p)) status seen
+check_writes p status seen page h s = let both = told_accepted (seen.files_before.content p) page h in inr (both.0, inr (both.1, inl s))
+
+-- ---- replay and save
+
+-- a page that is not run is refused, or is not built in
+session_refused : (work : Work) (p e : List ℕ) (r : Refusal) (seen : Seen) → Held seen p (λ b. (length b ≤ page_limit) × IsNotRun b r) → EndsAt (work_of (session work p e)) (PageRefused (Some r)) seen
+session_refused work p e (NotBuilt k) seen h =
+    let both = told_fits (seen.files_before.content p) (λ b. IsNotBuilt b (NotBuilt k)) h in
+    inr (both.0, inr (told_only_unbuilt (seen.files_before.content p) k both.1, inl both.1))
+session_refused work p e r seen h = let both = told_fits (seen.files_before.content p) (λ b. IsRefused b r) h in inr (both.0, inl both.1)
+
+-- reading the page ends the session
+pub session_stops : (work : Work) (p e : List ℕ) (status : Status) (seen : Seen) → StopsAtPage IsNotRun status (seen.files_before.content p) → (status ≡ ReadFault → ReadFailed p seen) → EndsAt (work_of (session work p e)) status seen
+session_stops work p e Ok seen h f = absurd h
+session_stops work p e (PageRefused None) seen h f = inl h
+session_stops work p e (PageRefused (Some r)) seen h f = session_refused work p e r seen h
+session_stops work p e Usage seen h f = absurd h
+session_stops work p e (EventsRefused i) seen h f = absurd h
+session_stops work p e ReadFault seen h f = inl (f refl)
+session_stops work p e WriteFault seen h f = absurd h
+session_stops work p e OutOfMemory seen h f = inl tt
+
+-- what stands behind the stages of the page
+behind_page : (work : Work) (p e : List ℕ) (status : Status) (seen : Seen) → PassesPage (seen.files_before.content p) → EndsAt (event_file e ∷ writing ∷ []) status seen → EndsAt (work_of (session work p e)) status seen
+behind_page work p e status seen h s = inr (h.fits, inr (h.accepted, inr (h.built, s)))
+
+stops_at_events : (e : List ℕ) (status : Status) (seen : Seen) → StopsAtEvents status (seen.files_before.content e) → (status ≡ ReadFault → ReadFailed e seen) → EndsAt (event_file e ∷ writing ∷ []) status seen
+stops_at_events e Ok seen h f = absurd h
+stops_at_events e (PageRefused r) seen h f = absurd h
+stops_at_events e Usage seen h f = absurd h
+stops_at_events e (EventsRefused i) seen h f = inl h
+stops_at_events e ReadFault seen h f = inl (f refl)
+stops_at_events e WriteFault seen h f = absurd h
+stops_at_events e OutOfMemory seen h f = inl tt
+
+-- reading the events ends the session
+pub session_events : (work : Work) (p e : List ℕ) (status : Status) (seen : Seen) (script : tree.Stmts) → Held seen p (λ b. IsRunnable b script) → StopsAtEvents status (seen.files_before.content e) → (status ≡ ReadFault → ReadFailed e seen) → EndsAt (work_of (session work p e)) status seen
+session_events work p e status seen script h s f = behind_page work p e status seen (told_runnable (seen.files_before.content p) script h) (stops_at_events e status seen s f)
+
+-- or writing does
+pub session_writes : (work : Work) (p e : List ℕ) (status : Status) (seen : Seen) (script : tree.Stmts) (events : List Event) → Held seen p (λ b. IsRunnable b script) → Held seen e (λ f. IsEventFile f events) → Stops writing status seen → EndsAt (work_of (session work p e)) status seen
+session_writes work p e status seen script events h g s = behind_page work p e status seen (told_runnable (seen.files_before.content p) script h) (inr (told_events (seen.files_before.content e) events g, inl s))
+
+-- ---- nothing is put where reading ends the command
+
+pub page_puts : (Why : List ℕ → Refusal → Type 0) (command : Command) (status : Status) (seen : Seen) (told : Told) → StopsAtPage Why status told → seen.out_now.taken ≡ seen.out_before.taken → PutsText command status seen
+page_puts Why command Ok seen told h e = absurd h
+page_puts Why command (PageRefused r) seen told h e = e
+page_puts Why command Usage seen told h e = e
+page_puts Why command (EventsRefused i) seen told h e = e
+page_puts Why command ReadFault seen told h e = e
+page_puts Why command WriteFault seen told h e = absurd h
+page_puts Why command OutOfMemory seen told h e = e
+
+pub events_put : (command : Command) (status : Status) (seen : Seen) (told : Told) → StopsAtEvents status told → seen.out_now.taken ≡ seen.out_before.taken → PutsText command status seen
+events_put command Ok seen told h e = absurd h
+events_put command (PageRefused r) seen told h e = e
+events_put command Usage seen told h e = e
+events_put command (EventsRefused i) seen told h e = e
+events_put command ReadFault seen told h e = e
+events_put command WriteFault seen told h e = absurd h
+events_put command OutOfMemory seen told h e = e
+
+-- ---- counts
+
+-- a count that rose in the second of two calls rose in both
+pub rose_later : (a b c : ℕ) → a ≤ b → Rose b c → Rose a c
+rose_later a b c h (inl r) = inl (omega (arith, h, r))
+rose_later a b c h (inr r) = inr r
+
+-- ---- the command of the words
+
+pub obeyed : (asked : Option Command) (command : Command) (status : Status) (seen : Seen) → Some command ≡ asked → EndsAt (work_of command) status seen → Ends asked status seen
+obeyed asked command status seen e h = subst (λ (a : Option Command). Ends a status seen) e (inr (refl, h))
+
+pub puts_obeyed : (asked : Option Command) (command : Command) (status : Status) (seen : Seen) → Some command ≡ asked → PutsText command status seen → Puts asked status seen
+puts_obeyed asked command status seen e h = subst (λ (a : Option Command). Puts a status seen) e h
+
+pub no_words : (asked : Option Command) (seen : Seen) → None ≡ asked → Ends asked Usage seen
+no_words asked seen e = subst (λ (a : Option Command). Ends a Usage seen) e (inl tt)
+
+neither : {A B P : Type 0} → (A → ⊥) → (B → ⊥) → A ⊎ (P × B) → ⊥
+neither f g (inl a) = f a
+neither f g (inr b) = g b.1
+
+-- no command ends as words that are none
+pub no_usage : (command : Command) (seen : Seen) → ¬ EndsAt (work_of command) Usage seen
+no_usage (check p) seen = neither (λ x. x) (neither (λ x. x) (neither (λ x. x) (λ x. x)))
+no_usage (session work p e) seen = neither (λ x. x) (neither (λ x. x) (neither (λ x. x) (neither (λ x. x) (neither (λ x. x) (λ x. x)))))

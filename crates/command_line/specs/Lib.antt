@@ -1,0 +1,12 @@
+pub mod Behaviour
+pub mod Checking
+pub mod Command
+pub mod Events
+pub mod Notes
+pub mod Page
+pub mod Reading
+pub mod Replay
+pub mod Saving
+pub mod Stages
+pub mod Status
+pub mod Texts

@@ -1,0 +1,58 @@
+-- Which pages the commands take.
+use Rattle.std.specs.Prelude.{ℕ, ◌≡◌, ◌≤◌, List, [], ◌∷◌, length}
+use Rattle.js_core.specs.Tree as tree
+use Rattle.first_scripts.specs.Items.{IsFirst}
+use Rattle.page_check.specs.Accept.{IsAcceptedAs, IsRefused}
+use Rattle.page_check.specs.declared.page.Accepted.{Accepted}
+use Rattle.page_check.specs.declared.page.Kind.{Kind}
+use Rattle.page_check.specs.declared.page.Refusal.{Refusal}
+use Rattle.page_check.specs.declared.page.Refusal.TheVariants.{NotBuilt}
+
+-- a page file and an event file have at most so many bytes
+abbrev pub page_limit : ℕ
+page_limit = 16777216
+
+abbrev pub event_file_limit : ℕ
+event_file_limit = 4194304
+
+-- what a page is, and the trees of its scripts in document order
+pub record Page : Type 0 where
+  pub kind : Kind
+  pub scripts : List tree.Stmts
+
+-- the bytes are accepted as this page, and as no other (`law_one_answer` of page_check)
+abbrev pub Accepts : List ℕ → Page → Type 0
+Accepts bytes page = IsAcceptedAs bytes page.kind page.scripts
+
+abbrev pub page_of : Accepted → Page
+page_of accepted = record { kind = accepted.kind; scripts = accepted.scripts.items }
+
+-- the bytes are not too long, and accepted as this page
+pub record IsPage (bytes : List ℕ) (page : Page) : Type 0 where
+  pub fits : length bytes ≤ page_limit
+  pub accepted : Accepts bytes page
+
+-- the page has one script, which is of a form that runs
+pub record Runs (page : Page) (script : tree.Stmts) : Type 0 where
+  pub only : page.scripts ≡ script ∷ []
+  pub first : IsFirst script
+
+-- a page that is built in: one that runs
+abbrev pub IsBuilt : Page → Type 0
+IsBuilt page = (script : tree.Stmts) × Runs page script
+
+-- the bytes are a page that runs, with this script
+pub record IsRunnable (bytes : List ℕ) (script : tree.Stmts) : Type 0 where
+  pub page : Page
+  pub accepted : IsPage bytes page
+  pub runs : Runs page script
+
+-- the page is accepted, and its script of this number is of no form that runs
+abbrev pub IsNotBuilt : List ℕ → Refusal → Type 0
+IsNotBuilt bytes (NotBuilt k) = (k ≡ 1) × ((page : Page) × Accepts bytes page × ¬ IsBuilt page)
+IsNotBuilt bytes refusal = ⊥
+
+-- why a page is not run: it is refused, or it is not built in
+abbrev pub IsNotRun : List ℕ → Refusal → Type 0
+IsNotRun bytes (NotBuilt k) = IsNotBuilt bytes (NotBuilt k)
+IsNotRun bytes refusal = IsRefused bytes refusal

@@ -1,0 +1,30 @@
+-- What reading a file of a command says.
+use Rattle.std.specs.Prelude.{◌≡◌, ℕ, ◌<◌, ◌≤◌, List, length, Option, Some, None, Result, Err}
+use Rattle.page_io.specs.Content.{Told}
+use Rattle.page_io.specs.Faults.{Rose}
+use Rattle.page_io.specs.Seen.{FilesSeen}
+use Rattle.page_check.specs.declared.page.Refusal.{Refusal}
+use Rattle.command_line.specs.declared.status.Status.{Status}
+use Rattle.command_line.specs.declared.status.Status.TheVariants.{PageRefused, EventsRefused, ReadFault, OutOfMemory}
+use Rattle.command_line.specs.Page.{page_limit}
+use Rattle.command_line.specs.Stages.{Of, IsNoEventFile}
+
+-- why reading the page ends the command
+abbrev pub StopsAtPage : (List ℕ → Refusal → Type 0) → Status → Told → Type 0
+StopsAtPage Why (PageRefused None) page = Of page (λ bytes. page_limit < length bytes)
+StopsAtPage Why (PageRefused (Some r)) page = Of page (λ bytes. (length bytes ≤ page_limit) × Why bytes r)
+StopsAtPage Why ReadFault page = Unit {0}
+StopsAtPage Why OutOfMemory page = Unit {0}
+StopsAtPage Why status page = ⊥
+
+-- why reading the events ends the command
+abbrev pub StopsAtEvents : Status → Told → Type 0
+StopsAtEvents (EventsRefused i) file = Of file (λ bytes. IsNoEventFile bytes i)
+StopsAtEvents ReadFault file = Unit {0}
+StopsAtEvents OutOfMemory file = Unit {0}
+StopsAtEvents status file = ⊥
+
+-- the count never falls, and a read of this name that ends the command with `ReadFault` failed in the call
+pub record CountsReads {T : Type 0} (before now : FilesSeen) (name : List ℕ) (result : Result T Status) : Type 0 where
+  pub later : before.faults ≤ now.faults
+  pub rose : result ≡ Err ReadFault → Rose before.faults now.faults × (now.failed ≡ Some name)

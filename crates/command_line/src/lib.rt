@@ -1,0 +1,21 @@
+//! What the program does: the top call `run`, over files, an output, notes and a keeper.
+#![tactic(auto)]
+
+mod check;
+mod command;
+mod events;
+mod laws;
+mod notes;
+mod program;
+mod reading;
+mod replay;
+mod saving;
+mod status;
+mod work;
+
+pub use command::{Command, Work};
+pub use events::EventFault;
+pub use laws::law_one_ending;
+pub use notes::write_note;
+pub use program::run;
+pub use status::Status;

@@ -1,0 +1,43 @@
+//! How the program ends.
+
+use page_check::page::Refusal;
+
+/// How a command ends. The number of each is the exit status of the program.
+#[derive(Clone, Copy, Debug, PartialEq, Eq)]
+pub enum Status {
+    /// 0: the whole text was written.
+    Ok,
+    /// 1: the page has more than 16,777,216 bytes, or is refused for this cause.
+    PageRefused(Option<Refusal>),
+    /// 2: the words are no command line.
+    Usage,
+    /// 3: the event file has more than 4,194,304 bytes or is no JSON array (0), or its item of this number,
+    /// counted from 1, is the first that is no event or is one too many.
+    EventsRefused(u32),
+    /// 4: a file could not be read.
+    ReadFault,
+    /// 5: the output could not be written.
+    WriteFault,
+    /// 7: memory ran out.
+    OutOfMemory,
+}
+
+impl Status {
+    ghost use Rattle.std.specs.Prelude.{◌≡◌};
+    ghost use Rattle.command_line.specs.Status.{exit_status_of};
+
+    /// The exit status.
+    pub fn code(self) -> u8
+        ensures { result ≡ exit_status_of self }
+    {
+        match self {
+            Status::Ok => 0,
+            Status::PageRefused(_) => 1,
+            Status::Usage => 2,
+            Status::EventsRefused(_) => 3,
+            Status::ReadFault => 4,
+            Status::WriteFault => 5,
+            Status::OutOfMemory => 7,
+        }
+    }
+}

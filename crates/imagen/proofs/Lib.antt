@@ -1,9 +1,0 @@
-pub mod Found
-pub mod ItemsSoFar
-pub mod Moves
-pub mod Pieces
-pub mod OneMember
-pub mod Refusals
-pub mod SavedDepth
-pub mod SavedItems
-pub mod Works

@@ -1,9 +1,0 @@
-pub mod Checking
-pub mod Command
-pub mod Ending
-pub mod Events
-pub mod Notes
-pub mod Page
-pub mod Replay
-pub mod Saving
-pub mod Status
