@@ -1,16 +1,19 @@
 #!/bin/sh
-# Times 10,000, 100,000 and 1,000,000 elements that are put behind the last one of an array: the best of five runs, the
-# nanoseconds for each element, and their ratio to the shortest array's. It rises only with the time that the machine
-# takes to reach memory, since an element costs the same steps at any length.
+# Times 10,000, 100,000 and 1,000,000 elements that are put behind the last one of an array, and as many that are taken
+# from its end one by one, each by a put of the length: the best of five runs, the nanoseconds for each element, and their
+# ratio to the shortest array's. It rises only with the time that the machine takes to reach memory, since an element costs
+# the same steps at any length.
 . "$(dirname "$0")/frame.sh"
-repository heap_bench js_core object_heap
+repository heap_bench js_core js_values object_heap
 cat >"$work/crates/heap_bench/src/main.rt" <<'END'
-//! Prints for each number of elements that is named the nanoseconds in which an array gets as many, one by one.
+//! Prints for each word the number of elements in it and the nanoseconds in which an array gets as many, one by one, or,
+//! where the word begins with `pop-`, loses them again.
 #![tactic(auto)]
 
-use js_core::ids::ObjId;
 use js_core::units::Units;
-use js_core::value::Value;
+use js_core::whole::Whole;
+use js_values::ids::ObjId;
+use js_values::value::Value;
 use object_heap::heap::Heap;
 use object_heap::object::Class;
 use std::alloc::Global;
@@ -33,34 +36,66 @@ fn names(alloc: Global, count: u64) -> io::Result<Vec<Units>> {
 fn fill(heap: &mut Heap, array: ObjId, names: &[Units]) -> u64 {
     let mut done = 0u64;
     for name in names {
-        if array.0 < heap.count() && heap.put(array, name, Value::Null).is_ok() {
+        if heap.put(array, name, Value::Null).is_ok() {
             done = done.wrapping_add(1);
         }
     }
     done
 }
 
-fn time_array(rt: &HostRuntime, count: u64) -> io::Result<()> {
+// How many elements were taken from the end.
+fn empty(heap: &mut Heap, array: ObjId, length: &Units, count: u64) -> u64 {
+    let mut done = 0u64;
+    for gone in 0..count {
+        let Ok(left) = i64::try_from(count - 1 - gone) else {
+            return done;
+        };
+        let Some(left) = Whole::new(left) else {
+            return done;
+        };
+        if heap.put(array, length, Value::Num(left)).is_ok() {
+            done = done.wrapping_add(1);
+        }
+    }
+    done
+}
+
+fn time_array(rt: &HostRuntime, count: u64, pops: bool) -> io::Result<()> {
     let names = names(rt.alloc(), count)?;
     let mut heap = Heap::new(rt.alloc());
     let Ok(array) = heap.alloc(Class::List, None) else {
         return Ok(());
     };
+    let Ok(length) = Units::from_utf8(rt.alloc(), "length") else {
+        return Ok(());
+    };
     let start = Instant::now(rt)?;
     let done = fill(&mut heap, array, names.as_slice());
+    let spent = start.elapsed(rt)?;
+    if !pops {
+        return println!(rt; "{done} {}", spent.as_nanos());
+    }
+    let start = Instant::now(rt)?;
+    let done = empty(&mut heap, array, &length, count);
     let spent = start.elapsed(rt)?;
     println!(rt; "{done} {}", spent.as_nanos())
 }
 
 fn main(rt: HostRuntime) -> io::Result<()> {
     for word in std::env::args(&rt)?.skip(1) {
-        if let Ok(count) = word.as_str().parse::<u64>() {
-            time_array(&rt, count)?;
+        let (pops, number) = match word.as_str().strip_prefix("pop-") {
+            Some(number) => (true, number),
+            None => (false, word.as_str()),
+        };
+        if let Ok(count) = number.parse::<u64>() {
+            time_array(&rt, count, pops)?;
         }
     }
     Ok(())
 }
 END
 build 1
-heading Elements element
+heading Pushes element
 for count in 10000 100000 1000000; do row "$count"; done
+heading Pops element
+for count in 10000 100000 1000000; do row "pop-$count"; done

@@ -1,0 +1,96 @@
+#!/usr/bin/env python3
+"""Runs the rows of crates/dom_tree/src/tests.rt on Python's minidom, and compares the text that is left. Prints the rows that
+differ and how many there are; the status is 1 where one differs. Minidom does not look for ancestors, so a step that is
+refused for them is left out, as is a node before itself."""
+import os
+import sys
+import xml.dom
+from xml.dom import minidom
+
+SOURCE = os.path.join(os.path.dirname(os.path.abspath(__file__)), "../crates/dom_tree/src/tests.rt")
+VOID = "area base br col embed hr img input link meta param source track wbr".split()
+
+
+def rows():
+    text = open(SOURCE, encoding="utf-8").read()
+    table = text.split('const ROWS: &str = "\\\n')[1].split('";\n')[0]
+    return table.replace('\\"', '"').split("\n")
+
+
+def is_above(node, other):
+    while other is not None:
+        if other is node:
+            return True
+        other = other.parentNode
+    return False
+
+
+def place(verb, parent, child, before):
+    try:
+        if verb == "cut":
+            parent.removeChild(child)
+        elif child is before:
+            return None
+        elif is_above(child, parent):
+            return "hierarchy"
+        else:
+            if before is not None and before.parentNode is not parent:
+                # Minidom takes the child out before it looks for the reference.
+                if child.nodeType not in parent._child_node_types:
+                    return "hierarchy"
+                return "missing"
+            parent.insertBefore(child, before)
+        return "ok"
+    except xml.dom.HierarchyRequestErr:
+        return "hierarchy"
+    except xml.dom.NotFoundErr:
+        return "missing"
+
+
+def step(document, nodes, line):
+    verb, _, rest = line.partition(" ")
+    words = rest.split(" ", 2) + ["", ""]
+    if verb in "etc":
+        if verb == "e" and not rest[0].isalpha():
+            return "name"
+        make = {"e": document.createElement, "t": document.createTextNode, "c": document.createComment}[verb]
+        nodes.append(make(rest.lower() if verb == "e" else rest))
+        return "ok"
+    if verb in ("set", "unset"):
+        if verb == "set" and not words[1][0].isalpha():
+            return "name"
+        if verb == "set":
+            nodes[int(words[0])].setAttribute(words[1].lower(), words[2])
+        elif nodes[int(words[0])].hasAttribute(words[1].lower()):
+            nodes[int(words[0])].removeAttribute(words[1].lower())
+        return "ok"
+    before = None if words[2] in ("-", "") else nodes[int(words[2])]
+    return place(verb, nodes[int(words[0])], nodes[int(words[1])], before)
+
+
+def shown(node):
+    if node.nodeType == node.DOCUMENT_NODE:
+        return "".join(map(shown, node.childNodes))
+    if node.nodeType == node.TEXT_NODE:
+        return node.data.replace("&", "&amp;").replace("<", "&lt;").replace(">", "&gt;")
+    if node.nodeType == node.COMMENT_NODE:
+        return "<!--" + node.data + "-->"
+    escape = lambda v: v.replace("&", "&amp;").replace("<", "&lt;").replace('"', "&quot;")
+    start = "<" + node.tagName + "".join(' %s="%s"' % (k, escape(v)) for k, v in node.attributes.items()) + ">"
+    end = "" if node.tagName in VOID and not node.childNodes else "</%s>" % node.tagName
+    return start + "".join(map(shown, node.childNodes)) + end
+
+
+differing = 0
+for row in rows():
+    steps, wanted = row.split(" => ")
+    ends, left = wanted.split(" | ")
+    document = minidom.Document()
+    nodes = [document]
+    got = [step(document, nodes, line) for line in steps.split("; ")]
+    same = all(g is None or g == w for g, w in zip(got, ends.split(" "))) and len(got) == len(ends.split(" "))
+    if not same or shown(document) != left:
+        differing += 1
+        print(row, "\n  here:", " ".join(map(str, got)), "|", shown(document))
+print(len(rows()), "rows,", differing, "differ")
+sys.exit(differing != 0)
