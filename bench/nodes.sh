@@ -4,15 +4,15 @@
 # five runs, the nanoseconds for each element, and their ratio to the smallest tree's, which rises only with the time that
 # the machine takes to reach memory.
 . "$(dirname "$0")/frame.sh"
-repository nodes_bench js_core dom_tree
+repository nodes_bench js_core js_values dom_tree
 cat >"$work/crates/nodes_bench/src/main.rt" <<'END'
 //! Prints for each number of elements that is named, after `in` or `by`, how many there are, and the nanoseconds in which
 //! they are made inside or beside one another, and read.
 #![tactic(auto)]
 
-use dom_tree::dom::Dom;
-use js_core::ids::NodeId;
+use dom_tree::Dom;
 use js_core::units::Units;
+use js_values::ids::NodeId;
 use std::alloc::Global;
 use std::io;
 use std::time::Instant;

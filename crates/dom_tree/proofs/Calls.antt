@@ -1,5 +1,5 @@
 -- What the calls of `Dom` make of the links, as its contracts see it.
-use Rattle.std.proofs.Common.{◌≡◌, refl, sym, ap, subst, ◌∙◌, ℕ, ◌<◌, ◌≤◌, Bool, true, false, ◌&&◌, List, [], ◌∷◌, ◌++◌, Option, Some, None, length, slice_index_or, slice_set, arith}
+use Rattle.std.proofs.Common.{◌≡◌, refl, sym, ap, subst, ◌∙◌, ℕ, ◌<◌, true, false, ◌&&◌, List, [], ◌∷◌, ◌++◌, Option, Some, None, length, slice_index_or, slice_set, arith}
 use Rattle.std.proofs.lemmas.List.{get_or_default}
 use Rattle.std.specs.Option.{ForSome}
 use Rattle.js_core.specs.Text.{Text}
@@ -8,11 +8,11 @@ use Rattle.dom_tree.specs.declared.content.Content.{Content}
 use Rattle.dom_tree.specs.declared.links.Linked.{Linked}
 use Rattle.dom_tree.specs.Change.{put_before, put_under, taken_from, taken_out, without}
 use Rattle.dom_tree.specs.Content.{has_text, with_attribute, with_text, with_value, without_attribute}
-use Rattle.dom_tree.specs.Fits.{Fits, IsReady, top_with, top_without}
+use Rattle.dom_tree.specs.Fits.{IsReady, top_with, top_without}
 use Rattle.dom_tree.specs.Links.{AreLinked, backward, beside, forward, linked_at, linked_in, linked_out, links_at, no_linked, no_links, nodes_of, place_of}
 use Rattle.dom_tree.specs.Name.{is_name}
 use Rattle.dom_tree.specs.Node.{Nodes, children_at, has, is_document, is_element, kind_at, node_at, parent_at, with_content, with_new}
-use Rattle.dom_tree.specs.Sound.{AreTrees, is_proper, takes_value}
+use Rattle.dom_tree.specs.Sound.{is_proper, takes_value}
 use Rattle.dom_tree.proofs.Kept.{StaysKind, with_content_linked, with_new_linked}
 use Rattle.dom_tree.proofs.Moves.{put_it, took_out}
 use Rattle.dom_tree.proofs.Neighbours.{read_content}

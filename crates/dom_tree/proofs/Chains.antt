@@ -1,6 +1,6 @@
 -- Chains of links, where a node is put in or taken out.
-use Rattle.std.proofs.Common.{◌≡◌, ◌⊎◌, inl, inr, refl, sym, ap, subst, ◌∙◌, ℕ, zero, suc, ◌<◌, ◌≤◌, Bool, true, false, cond, ◌||◌, not, nat_eq, List, [], ◌∷◌, Option, Some, None, length, arith}
-use Rattle.std.proofs.lemmas.Bool.{eqb-true, eqb-false, eq-eqb, ne_eqb, or_parts}
+use Rattle.std.proofs.Common.{◌≡◌, ◌⊎◌, inl, inr, refl, sym, ap, subst, ◌∙◌, ℕ, zero, suc, ◌≤◌, Bool, true, false, cond, ◌||◌, not, nat_eq, List, [], ◌∷◌, Option, Some, None, length, arith}
+use Rattle.std.proofs.lemmas.Bool.{eqb-true, eqb-false, or_parts}
 use Rattle.js_values.specs.declared.ids.NodeId.{NodeId}
 use Rattle.dom_tree.specs.Change.{put_before, without}
 use Rattle.dom_tree.specs.Fits.{in_or_end}

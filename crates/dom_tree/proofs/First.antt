@@ -1,14 +1,12 @@
 -- The document alone.
-use Rattle.std.proofs.Common.{◌≡◌, refl, sym, ap, ◌∙◌, ℕ, zero, suc, ◌<◌, ◌≤◌, Bool, true, false, nat_eq, List, [], ◌∷◌, Option, Some, None, length, arith}
+use Rattle.std.proofs.Common.{◌≡◌, refl, sym, ap, ◌∙◌, ℕ, zero, suc, true, nat_eq, List, [], ◌∷◌, None, arith}
 use Rattle.std.proofs.lemmas.Bool.{ne_eqb}
-use Rattle.js_values.specs.declared.ids.NodeId.{NodeId}
-use Rattle.dom_tree.specs.declared.content.Content.{Content}
 use Rattle.dom_tree.specs.declared.content.Kind.TheVariants.{Document}
 use Rattle.dom_tree.specs.declared.links.Linked.{Linked}
 use Rattle.dom_tree.specs.declared.links.Links.{Links}
-use Rattle.dom_tree.specs.Links.{AreLinked, Row, Shows, backward, beside, forward, linked_at, links_at, no_links, nodes_of}
-use Rattle.dom_tree.specs.Node.{Nodes, children_at, document_alone, has, is_distinct, is_document, is_this, kind_at, may_have_children, node_at, parent_at}
-use Rattle.dom_tree.specs.Sound.{AreTrees, IsSound, Rooted, is_proper, root}
+use Rattle.dom_tree.specs.Links.{AreLinked, Row, Shows, linked_at, links_at, no_links}
+use Rattle.dom_tree.specs.Node.{children_at, document_alone, has, is_distinct, is_document, is_this, kind_at, node_at, parent_at}
+use Rattle.dom_tree.specs.Sound.{IsSound, is_proper, root}
 use Rattle.dom_tree.proofs.Lists.{eq_refl}
 
 abbrev pub first_linked : Linked

@@ -1,14 +1,13 @@
 -- Trees and walks of them, one generation at a time.
-use Rattle.std.proofs.Common.{◌≡◌, ◌⊎◌, inl, inr, refl, sym, ap, subst, ◌∙◌, ℕ, zero, suc, ◌+◌, ◌<◌, ◌≤◌, Bool, true, false, cond, ◌||◌, nat_eq, List, [], ◌∷◌, ◌++◌, Option, Some, None, length, append_assoc, arith}
-use Rattle.std.proofs.lemmas.Bool.{eq-eqb, eqb-true, eqb-false, ne_eqb}
+use Rattle.std.proofs.Common.{◌≡◌, ◌⊎◌, inl, inr, refl, sym, ap, subst, ◌∙◌, ℕ, zero, suc, ◌+◌, ◌<◌, ◌≤◌, Bool, true, false, cond, nat_eq, List, [], ◌∷◌, ◌++◌, Option, Some, None, length, append_assoc, arith}
+use Rattle.std.proofs.lemmas.Bool.{eq-eqb, ne_eqb}
 use Rattle.js_values.specs.declared.ids.NodeId.{NodeId}
 use Rattle.dom_tree.specs.declared.walk.Visit.{Visit}
 use Rattle.dom_tree.specs.declared.walk.Visit.TheVariants.{Enter, Leave}
 use Rattle.dom_tree.specs.Node.{Nodes, children_at, first_of, has, is_distinct, next_of, next_under, node_at, parent_at, rest_after}
-use Rattle.dom_tree.specs.Sound.{AreTrees, Rooted, root, under}
-use Rattle.dom_tree.specs.Trees.{Trees, no_trees, tree, trees_of, trees_over, trees_within}
+use Rattle.dom_tree.specs.Sound.{AreTrees, Rooted, under}
+use Rattle.dom_tree.specs.Trees.{Trees, tree, trees_of, trees_over, trees_within}
 use Rattle.dom_tree.specs.Visits.{IsIn, Under, below, itself, visits, visits_after, visits_after_within, visits_from, visits_on}
-use Rattle.dom_tree.proofs.Chains.{in_apart}
 use Rattle.dom_tree.proofs.Lists.{eq_refl, has_head, has_tail, head_fresh, id_of, not_both, tail_distinct}
 use Rattle.dom_tree.proofs.Trees.{child_in, child_of_parent, depth, depth_below, parent_in, parent_of_child, same_depth}
 

@@ -1,25 +1,23 @@
 -- What holds of the nodes stays so in every call.
-use Rattle.std.proofs.Common.{◌≡◌, ◌⊎◌, inl, inr, refl, sym, ap, subst, ◌∙◌, ℕ, zero, suc, ◌<◌, ◌≤◌, Bool, true, false, cond, ◌&&◌, ◌||◌, not, nat_eq, List, [], ◌∷◌, ◌++◌, Option, Some, None, filter, length, length-append, length-set, slice_index_or, slice_set, arith}
+use Rattle.std.proofs.Common.{◌≡◌, ◌⊎◌, inl, inr, refl, sym, ap, subst, ◌∙◌, ℕ, ◌<◌, ◌≤◌, Bool, true, false, cond, ◌||◌, not, nat_eq, List, [], ◌∷◌, ◌++◌, Option, Some, None, filter, length, length-append, length-set, slice_index_or, slice_set, arith}
 use Rattle.std.proofs.Math.ListN.{get_or-append}
 use Rattle.std.proofs.Math.Seq.{get_or-append_seam}
-use Rattle.std.proofs.lemmas.Bool.{and_parts, cases_lt, cases_order, eqb-true, eqb-false, ne_eqb, or_parts, or_from}
+use Rattle.std.proofs.lemmas.Bool.{cases_lt, cases_order, eqb-true, eqb-false, ne_eqb}
 use Rattle.std.proofs.lemmas.List.{get_or-set_same, get_or-set_other, get_or_past}
-use Rattle.std.specs.List.{list_all, list_any}
+use Rattle.std.specs.List.{list_all}
 use Rattle.std.specs.Option.{option_to_list}
 use Rattle.js_values.specs.declared.ids.NodeId.{NodeId}
 use Rattle.dom_tree.specs.declared.content.Content.{Content}
 use Rattle.dom_tree.specs.declared.content.Kind.{Kind}
 use Rattle.dom_tree.specs.declared.links.Linked.{Linked}
 use Rattle.dom_tree.specs.declared.links.Links.{Links}
-use Rattle.dom_tree.specs.Change.{breaks_hierarchy, is_above, is_misplaced, is_missing, put_before, put_under, taken_from, taken_out, without}
-use Rattle.dom_tree.specs.Links.{AreLinked, Chain, Place, Row, Shows, backward, beside, ends, forward, linked_at, linked_in, linked_out, links_at, no_linked, no_links, nodes_of, place_of}
-use Rattle.dom_tree.specs.Node.{Node, Nodes, children_at, has, is_distinct, is_document, is_element, is_text, is_this, kind_at, may_have_children, no_content, no_node, node_at, parent_at, with_content, with_new}
+use Rattle.dom_tree.specs.Links.{AreLinked, Place, Row, Shows, backward, beside, ends, forward, linked_at, links_at, no_linked, no_links, nodes_of, place_of}
+use Rattle.dom_tree.specs.Node.{Node, Nodes, children_at, has, is_distinct, is_document, is_element, is_text, is_this, kind_at, may_have_children, no_node, node_at, parent_at, with_content, with_new}
 use Rattle.dom_tree.specs.Sound.{AreTrees, IsSound, Rooted, elements_of, is_proper, root, under}
 use Rattle.dom_tree.proofs.Chains.{frame}
-use Rattle.dom_tree.proofs.Linking.{is_linked_in, is_linked_out}
-use Rattle.dom_tree.proofs.Lists.{all_put, all_without, distinct_without, eq_refl, eq_sym, filter_put_alone, filter_put_skip, filter_without, has_head, has_tail, id_of, none_left, not_both, shorter_by_one}
-use Rattle.dom_tree.proofs.Shown.{back_in, forth_in, not_beside, put_shows, range_of, shown, take_shows}
-use Rattle.dom_tree.proofs.Trees.{Moved, at_set, child_in, child_of_parent, moved, parent_in, parent_of_child, put_trees, take_trees}
+use Rattle.dom_tree.proofs.Lists.{has_head, has_tail}
+use Rattle.dom_tree.proofs.Shown.{shown}
+use Rattle.dom_tree.proofs.Trees.{at_set, child_in}
 
 -- tests that agree on the nodes of a list
 pub all_same : (f g : NodeId → Bool) (l : List NodeId) → ((c : NodeId) → has c.0 l ≡ true → f c ≡ g c) → list_all f l ≡ list_all g l

@@ -1,18 +1,12 @@
 -- What writes of links make of the lists of children.
-use Rattle.std.proofs.Common.{◌≡◌, ◌⊎◌, inl, inr, refl, sym, ap, subst, ◌∙◌, ℕ, zero, suc, ◌<◌, ◌≤◌, Bool, true, false, cond, ◌||◌, nat_eq, List, [], ◌∷◌, ◌++◌, Option, Some, None, length, length-set, length-append, map, slice_index_or, slice_set, arith}
-use Rattle.std.proofs.lemmas.Bool.{cases_lt, cases_order, eqb-true, eqb-false}
-use Rattle.std.proofs.lemmas.List.{get_or-map, get_or-set_same, get_or-set_other, get_or_past, same_lists, get_or_default}
+use Rattle.std.proofs.Common.{◌≡◌, refl, sym, ap, ◌∙◌, ℕ, ◌<◌, Bool, true, false, cond, nat_eq, List, Option, Some, None, length, length-set, arith}
+use Rattle.std.proofs.lemmas.Bool.{eqb-true, eqb-false}
+use Rattle.std.proofs.lemmas.List.{get_or-set_same, get_or-set_other}
 use Rattle.js_values.specs.declared.ids.NodeId.{NodeId}
-use Rattle.dom_tree.specs.declared.content.Content.{Content}
 use Rattle.dom_tree.specs.declared.links.Linked.{Linked}
 use Rattle.dom_tree.specs.declared.links.Links.{Links}
-use Rattle.dom_tree.specs.Change.{put_before, without}
-use Rattle.dom_tree.specs.Links.{Chain, Place, Row, Shows, backward, beside, ends, followed, forward, joined, linked_at, linked_in, linked_out, links_at, no_linked, node_of, nodes_of, place_of, with_backward, with_first, with_forward, with_last, with_link_up, with_links, with_next, with_previous, with_up}
-use Rattle.dom_tree.specs.Node.{Node, Nodes, children_at, has, no_node, node_at, parent_at}
-use Rattle.dom_tree.specs.Sound.{AreTrees}
-use Rattle.dom_tree.proofs.Chains.{Puts, Takes, back_is, forth_is, followed_chain, frame, in_apart, put_in, take_out}
-use Rattle.dom_tree.proofs.Lists.{eq_refl, eq_sym, id_of, not_both, same_id}
-use Rattle.dom_tree.proofs.Trees.{Moved, child_in, child_of_parent, few_children, parent_of_child}
+use Rattle.dom_tree.specs.Links.{Place, backward, beside, ends, forward, linked_at, linked_in, linked_out, links_at, no_linked, place_of, with_backward, with_first, with_forward, with_last, with_link_up, with_links, with_next, with_previous, with_up}
+use Rattle.dom_tree.proofs.Lists.{eq_refl, id_of, same_id}
 
 -- the links of one node become others
 module _ (ns : List Linked) (i : ℕ) (new : Links) (i_in : i < length ns) where

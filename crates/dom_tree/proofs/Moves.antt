@@ -1,23 +1,23 @@
 -- What holds of the nodes stays so where a node is put in or taken out.
-use Rattle.std.proofs.Common.{◌≡◌, ◌⊎◌, inl, inr, refl, sym, ap, subst, ◌∙◌, ℕ, zero, suc, ◌+◌, ◌-◌, ◌<◌, ◌≤◌, Bool, true, false, cond, ◌&&◌, ◌||◌, not, nat_eq, List, [], ◌∷◌, Option, Some, None, filter, length, arith}
+use Rattle.std.proofs.Common.{◌≡◌, refl, sym, ap, subst, ◌∙◌, ℕ, zero, suc, ◌+◌, ◌-◌, ◌<◌, ◌≤◌, Bool, true, false, cond, ◌&&◌, ◌||◌, not, nat_eq, List, [], ◌∷◌, Option, Some, None, filter, length, arith}
 use Rattle.std.proofs.lemmas.Bool.{and_right, eqb-true, or_parts}
 use Rattle.std.specs.List.{list_all, list_any}
-use Rattle.std.specs.Option.{ForSome, is_none, option_to_list}
+use Rattle.std.specs.Option.{is_none, option_to_list}
 use Rattle.js_values.specs.declared.ids.NodeId.{NodeId}
 use Rattle.dom_tree.specs.declared.content.Content.{Content}
 use Rattle.dom_tree.specs.declared.content.Kind.{Kind}
 use Rattle.dom_tree.specs.declared.links.Linked.{Linked}
-use Rattle.dom_tree.specs.Change.{breaks_hierarchy, has_other_element, is_above, is_above_within, is_misplaced, is_missing, of_parent, put_before, put_under, taken_from, taken_out, without}
-use Rattle.dom_tree.specs.Links.{AreLinked, Shows, backward, beside, forward, linked_in, linked_out, links_at, nodes_of, place_of}
-use Rattle.dom_tree.specs.Node.{Nodes, children_at, first_of, has, is_document, is_element, is_text, is_this, kind_at, may_have_children, node_at, parent_at}
+use Rattle.dom_tree.specs.Change.{breaks_hierarchy, has_other_element, is_above, is_above_within, is_misplaced, is_missing, of_parent, put_before, taken_from, taken_out, without}
+use Rattle.dom_tree.specs.Links.{AreLinked, Shows, backward, beside, forward, linked_in, linked_out, nodes_of, place_of}
+use Rattle.dom_tree.specs.Node.{Nodes, children_at, first_of, has, is_document, is_element, is_text, is_this, kind_at, may_have_children, parent_at}
 use Rattle.dom_tree.specs.Sound.{AreTrees, IsSound, elements_of, is_proper}
 use Rattle.dom_tree.specs.Fits.{Fits, IsReady, in_or_end, top_with, top_without}
 use Rattle.dom_tree.proofs.Chains.{not_self_back, not_self_forth}
 use Rattle.dom_tree.proofs.Kept.{filter_same, linked, all_same, one_at_most}
-use Rattle.dom_tree.proofs.Linking.{is_in, is_linked_in, is_linked_out}
-use Rattle.dom_tree.proofs.Lists.{all_put, all_without, any_without, eq_refl, eq_sym, has_without_other, id_of, id_of, filter_put_alone, filter_put_skip, filter_without, gone, none_left, not_both, not_in_filter, off, or_false, same_id}
-use Rattle.dom_tree.proofs.Shown.{back_in, forth_in, not_beside, put_shows, place_one, range_for, range_of, take_shows}
-use Rattle.dom_tree.proofs.Trees.{Moved, child_in, child_of_parent, moved, parent_in, parent_of_child, put_trees, take_trees}
+use Rattle.dom_tree.proofs.Linking.{is_linked_in, is_linked_out}
+use Rattle.dom_tree.proofs.Lists.{all_put, all_without, any_without, eq_refl, eq_sym, has_without_other, id_of, id_of, filter_put_alone, filter_put_skip, filter_without, gone, none_left, not_both, not_in_filter, or_false}
+use Rattle.dom_tree.proofs.Shown.{back_in, forth_in, not_beside, put_shows, place_one, range_of, take_shows}
+use Rattle.dom_tree.proofs.Trees.{Moved, child_in, child_of_parent, moved, parent_in, put_trees, take_trees}
 
 module _ (t u : Nodes) (p x : NodeId) (l : List NodeId) (o : Option NodeId) (m : Moved t u p x l o) where
   -- a test of kinds gives the same

@@ -1,14 +1,14 @@
 -- What the links of a node tell of its neighbours.
-use Rattle.std.proofs.Common.{◌≡◌, ◌⊎◌, inl, inr, refl, sym, ap, subst, ◌∙◌, ℕ, zero, suc, ◌<◌, ◌≤◌, Bool, true, false, cond, ◌||◌, nat_eq, List, [], ◌∷◌, Option, Some, None, length, slice_index_or, arith}
+use Rattle.std.proofs.Common.{◌≡◌, ◌⊎◌, inl, inr, refl, sym, ap, subst, ◌∙◌, ℕ, ◌<◌, Bool, true, false, cond, nat_eq, List, [], ◌∷◌, Option, Some, None, length, slice_index_or, arith}
 use Rattle.std.proofs.lemmas.List.{get_or_default}
 use Rattle.std.specs.Option.{ForSome}
 use Rattle.js_values.specs.declared.ids.NodeId.{NodeId}
 use Rattle.dom_tree.specs.declared.links.Linked.{Linked}
-use Rattle.dom_tree.specs.Links.{AreLinked, backward, beside, ends, forward, linked_at, links_at, no_linked, nodes_of, place_of}
+use Rattle.dom_tree.specs.Links.{AreLinked, backward, forward, linked_at, links_at, no_linked, nodes_of, place_of}
 use Rattle.dom_tree.specs.Node.{Nodes, children_at, first_of, has, is_this, last_from, last_of, next_of, next_under, node_at, one_before, parent_at, previous_of, previous_under, rest_after}
 use Rattle.dom_tree.specs.Sound.{AreTrees}
 use Rattle.dom_tree.proofs.Chains.{chain_first, chain_last, chain_next, chain_previous}
-use Rattle.dom_tree.proofs.Lists.{has_head, has_tail, id_of, or_true}
+use Rattle.dom_tree.proofs.Lists.{has_head, has_tail}
 use Rattle.dom_tree.proofs.Trees.{child_in, child_of_parent, parent_in}
 
 first_has : (l : List NodeId) (c : NodeId) → first_of l ≡ Some c → has c.0 l ≡ true

@@ -1,6 +1,6 @@
 -- Names stay folded, and contents proper.
-use Rattle.std.proofs.Common.{◌≡◌, ◌⊎◌, inl, inr, refl, sym, ap, ◌∙◌, ℕ, ◌+◌, ◌<◌, ◌≤◌, Bool, true, false, cond, ◌&&◌, ◌||◌, not, List, [], ◌∷◌, Option, Some, None, map, length, nat_eq, nat_lt, bytes_eq, IsTrue, arith}
-use Rattle.std.proofs.lemmas.Bool.{and_from, and_parts, cases_lt, le-ltb, lt-ltb, or_right}
+use Rattle.std.proofs.Common.{◌≡◌, refl, ℕ, Bool, true, false, cond, ◌&&◌, ◌||◌, not, List, [], ◌∷◌, Option, map, length, nat_eq, bytes_eq, arith}
+use Rattle.std.proofs.lemmas.Bool.{and_from, and_parts, or_right}
 use Rattle.std.proofs.lemmas.Bool.Decides.{nat_tests}
 use Rattle.std.specs.Char.{is_ascii_uppercase, to_ascii_lowercase}
 use Rattle.std.specs.List.{list_all}
@@ -11,7 +11,7 @@ use Rattle.dom_tree.specs.declared.content.Kind.{Kind}
 use Rattle.dom_tree.specs.declared.content.Kind.TheVariants.{Comment, Document, Element}
 use Rattle.dom_tree.specs.declared.content.Kind.TheVariants as kind
 use Rattle.dom_tree.specs.Attributes.{Pairs, with_value_of, without_value_of}
-use Rattle.dom_tree.specs.Content.{has_text, kind_with_text, new_content, with_attribute, with_attributes, with_text, with_value, without_attribute}
+use Rattle.dom_tree.specs.Content.{has_text, kind_with_text, new_content, with_attribute, with_value, without_attribute}
 use Rattle.dom_tree.specs.Name.{folded, is_folded_name, is_name, is_name_part, is_name_start}
 use Rattle.dom_tree.specs.Node.{is_document, is_element, is_text}
 use Rattle.dom_tree.specs.Sound.{is_named, is_proper, takes_value}

@@ -1,20 +1,20 @@
 -- The links tell the nodes, also after a node is put in or taken out.
-use Rattle.std.proofs.Common.{◌≡◌, ◌⊎◌, inl, inr, refl, sym, ap, subst, ◌∙◌, ℕ, zero, suc, ◌<◌, ◌≤◌, Bool, true, false, cond, ◌||◌, nat_eq, List, [], ◌∷◌, ◌++◌, Option, Some, None, length, length-append, map, slice_index_or, arith}
-use Rattle.std.proofs.lemmas.Bool.{cases_lt, eqb-true}
-use Rattle.std.proofs.lemmas.List.{length-map, get_or-map, get_or_past, same_lists, get_or_default}
+use Rattle.std.proofs.Common.{◌≡◌, ◌⊎◌, inl, inr, refl, sym, ap, subst, ◌∙◌, ℕ, ◌<◌, ◌≤◌, Bool, true, false, nat_eq, List, Option, Some, None, length, slice_index_or, arith}
+use Rattle.std.proofs.lemmas.Bool.{eqb-true}
+use Rattle.std.proofs.lemmas.List.{length-map, get_or-map, same_lists, get_or_default}
 use Rattle.std.specs.Option.{ForSome}
 use Rattle.js_values.specs.declared.ids.NodeId.{NodeId}
 use Rattle.dom_tree.specs.declared.content.Content.{Content}
 use Rattle.dom_tree.specs.declared.links.Linked.{Linked}
 use Rattle.dom_tree.specs.Change.{put_before, without}
 use Rattle.dom_tree.specs.Fits.{in_or_end}
-use Rattle.dom_tree.specs.Links.{Chain, Place, Row, Shows, backward, beside, ends, followed, forward, linked_at, links_at, no_linked, node_of, nodes_of, place_of}
+use Rattle.dom_tree.specs.Links.{Row, Shows, backward, beside, ends, followed, forward, linked_at, links_at, no_linked, node_of, nodes_of, place_of}
 use Rattle.dom_tree.specs.Node.{Node, Nodes, children_at, has, is_this, no_node, node_at, parent_at}
 use Rattle.dom_tree.specs.Sound.{AreTrees}
-use Rattle.dom_tree.proofs.Chains.{Puts, Takes, back_is, forth_is, followed_chain, frame, in_apart, put_in, take_out}
+use Rattle.dom_tree.proofs.Chains.{back_is, forth_is, followed_chain, frame, in_apart, put_in, take_out}
 use Rattle.dom_tree.proofs.Linking.{IsLinkedIn, IsLinkedOut, Rewired, is_in}
 use Rattle.dom_tree.proofs.Lists.{eq_refl, eq_sym, id_of, not_both, same_id}
-use Rattle.dom_tree.proofs.Trees.{Moved, child_in, child_of_parent, few_children, parent_of_child}
+use Rattle.dom_tree.proofs.Trees.{Moved, child_in, few_children, parent_of_child}
 
 same_node : (c d : Content) (p q : Option NodeId) (l m : List NodeId) → c ≡ d → p ≡ q → l ≡ m
     → ◌≡◌ {A = Node} (record { content = c; parent = p; children = l }) (record { content = d; parent = q; children = m })

@@ -1,5 +1,5 @@
 -- The texts of trees are what is written on a walk of them.
-use Rattle.std.proofs.Common.{◌≡◌, refl, sym, ap, ◌∙◌, ℕ, zero, suc, ◌<◌, Bool, true, false, cond, List, [], ◌∷◌, ◌++◌, Option, Some, None, length, nat_eq, append_assoc, append-nil}
+use Rattle.std.proofs.Common.{◌≡◌, refl, sym, ap, ◌∙◌, ℕ, zero, suc, ◌<◌, Bool, true, false, cond, List, [], ◌∷◌, ◌++◌, Option, Some, None, length, append_assoc, append-nil}
 use Rattle.std.specs.List.{find, flat_map}
 use Rattle.js_core.specs.Text.{Text}
 use Rattle.js_values.specs.declared.ids.NodeId.{NodeId}
@@ -10,7 +10,7 @@ use Rattle.dom_tree.specs.Node.{Nodes, children_at, node_at}
 use Rattle.dom_tree.specs.Pieces.{dom_piece, own_piece}
 use Rattle.dom_tree.specs.Sound.{AreTrees}
 use Rattle.dom_tree.specs.Trees.{Trees, find_id, has_id, in_order, no_trees, tree, trees_of, trees_over, trees_within}
-use Rattle.dom_tree.specs.Visits.{entered_with_id, visits, visits_after, visits_on}
+use Rattle.dom_tree.specs.Visits.{entered_with_id, visits, visits_on}
 use Rattle.dom_tree.proofs.Generations.{root_step, trees_are}
 use Rattle.dom_tree.proofs.Lists.{eq_refl}
 

@@ -1,24 +1,20 @@
 -- The laws of nodes.
-use Rattle.std.proofs.Common.{◌≡◌, ◌⊎◌, inl, inr, refl, sym, ap, subst, ◌∙◌, ℕ, zero, suc, ◌<◌, ◌≤◌, Bool, true, false, cond, ◌||◌, nat_eq, List, [], ◌∷◌, ◌++◌, Option, Some, None, length, append_assoc, append-nil, codes, if◌then◌else◌, arith}
-use Rattle.std.proofs.lemmas.Bool.{cases_lt, eqb-true, ne_eqb, or_parts}
+use Rattle.std.proofs.Common.{◌≡◌, refl, sym, ap, subst, ◌∙◌, ℕ, zero, suc, ◌<◌, ◌≤◌, Bool, true, false, cond, ◌||◌, nat_eq, List, [], ◌∷◌, ◌++◌, Option, Some, None, length, append-nil, if◌then◌else◌, arith}
+use Rattle.std.proofs.lemmas.Bool.{eqb-true, ne_eqb, or_parts}
 use Rattle.std.specs.List.{flat_map}
-use Rattle.js_core.specs.Text.{Text}
 use Rattle.js_values.specs.declared.ids.NodeId.{NodeId}
-use Rattle.dom_tree.specs.declared.content.Kind.{Kind}
-use Rattle.dom_tree.specs.declared.content.Kind.TheVariants as kind
-use Rattle.dom_tree.specs.declared.fault.DomFault.{DomFault}
 use Rattle.dom_tree.specs.declared.fault.DomFault.TheVariants.{Hierarchy, NotFound}
-use Rattle.dom_tree.specs.Change.{breaks_hierarchy, inserted, insertion_fault, is_above, is_above_within, is_missing, of_parent, put_before, put_under, taken_from, taken_out, without}
+use Rattle.dom_tree.specs.Change.{breaks_hierarchy, inserted, is_above, is_above_within, is_missing, of_parent, put_before, put_under, taken_from, taken_out, without}
 use Rattle.dom_tree.specs.DomText.{closing, closing_of, dom_text, dom_texts, is_empty, joined_texts, opening, opening_of, own_text, text_content, text_unit}
-use Rattle.dom_tree.specs.Fits.{Fits, IsReady, in_or_end}
+use Rattle.dom_tree.specs.Fits.{IsReady, in_or_end}
 use Rattle.dom_tree.specs.Laws.{Inserts, NoOwnAncestor, OthersStay, StandsBefore, TextIsEscaped, TextsOfChildren}
-use Rattle.dom_tree.specs.Node.{Node, Nodes, children_at, first_of, has, is_this, kind_at, may_have_children, next_of, next_under, no_node, node_at, parent_at, rest_after}
+use Rattle.dom_tree.specs.Node.{Nodes, children_at, first_of, has, is_this, kind_at, may_have_children, next_of, next_under, node_at, parent_at, rest_after}
 use Rattle.dom_tree.specs.Sound.{AreTrees, IsSound, Rooted}
-use Rattle.dom_tree.specs.Trees.{Trees, trees_of, trees_over}
+use Rattle.dom_tree.specs.Trees.{trees_of, trees_over}
 use Rattle.dom_tree.proofs.Chains.{this_is}
 use Rattle.dom_tree.proofs.Generations.{parent_depth, trees_are}
 use Rattle.dom_tree.proofs.Kept.{has_first}
-use Rattle.dom_tree.proofs.Lists.{eq_refl, eq_sym, gone, has_put, has_without_same, or_false}
+use Rattle.dom_tree.proofs.Lists.{eq_refl, eq_sym, gone, has_put, has_without_same}
 use Rattle.dom_tree.proofs.Moves.{fits, ready}
 use Rattle.dom_tree.proofs.Trees.{Moved, depth, moved, parent_in, same_depth}
 

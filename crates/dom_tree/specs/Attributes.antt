@@ -1,5 +1,5 @@
 -- Attributes in order of first setting.
-use Rattle.std.specs.Prelude.{◌==◌, cond, List, [], ◌∷◌, Option, Some, None, bytes_eq}
+use Rattle.std.specs.Prelude.{cond, List, [], ◌∷◌, Option, Some, None, bytes_eq}
 use Rattle.js_core.specs.Text.{Text}
 
 -- names with values

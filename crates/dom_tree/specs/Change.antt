@@ -1,10 +1,10 @@
 -- How nodes are put under others and taken out (DOM Level 2 Core, `insertBefore` and `removeChild`).
-use Rattle.std.specs.Prelude.{◌≡◌, ℕ, zero, suc, ◌≤◌, Bool, true, false, ◌&&◌, ◌||◌, not, cond, List, [], ◌∷◌, Option, Some, None, Result, Ok, Err, length, nat_eq, if◌then◌else◌}
+use Rattle.std.specs.Prelude.{◌≡◌, ℕ, zero, suc, Bool, false, ◌&&◌, ◌||◌, not, cond, List, [], ◌∷◌, Option, Some, None, Result, Ok, Err, length, nat_eq, if◌then◌else◌}
 use Rattle.std.specs.List.{list_any}
 use Rattle.js_values.specs.declared.ids.NodeId.{NodeId}
 use Rattle.dom_tree.specs.declared.fault.DomFault.{DomFault}
 use Rattle.dom_tree.specs.declared.fault.DomFault.TheVariants.{Hierarchy, NotFound}
-use Rattle.dom_tree.specs.Node.{Nodes, children_at, has, is_document, is_element, is_text, is_this, kind_at, may_have_children, node_at, parent_at, with_children, with_parent}
+use Rattle.dom_tree.specs.Node.{Nodes, children_at, has, is_document, is_element, is_text, is_this, kind_at, may_have_children, parent_at, with_children, with_parent}
 
 -- the list without the node
 abbrev pub without : ℕ → List NodeId → List NodeId

@@ -1,5 +1,5 @@
 -- What an insertion asks of the nodes, and what becomes of the element of the document.
-use Rattle.std.specs.Prelude.{◌≡◌, ℕ, Bool, true, false, ◌&&◌, not, cond, List, Option, Some, None, length, nat_eq}
+use Rattle.std.specs.Prelude.{◌≡◌, ℕ, Bool, true, false, cond, List, Option, Some, None, length}
 use Rattle.js_values.specs.declared.ids.NodeId.{NodeId}
 use Rattle.dom_tree.specs.Change.{has_other_element, is_above}
 use Rattle.dom_tree.specs.Node.{Nodes, children_at, has, is_document, is_element, is_text, is_this, kind_at, may_have_children, parent_at}

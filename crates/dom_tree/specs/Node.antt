@@ -1,6 +1,5 @@
 -- The nodes of a document as a list by age.
-use Rattle.std.specs.Prelude.{◌≡◌, ℕ, ◌≤◌, Bool, true, false, ◌&&◌, ◌||◌, not, cond, List, [], ◌∷◌, ◌++◌, Option, Some, None, length, slice_index_or, slice_set, nat_eq, if◌then◌else◌}
-use Rattle.js_core.specs.Text.{Text}
+use Rattle.std.specs.Prelude.{ℕ, Bool, true, false, ◌&&◌, ◌||◌, not, cond, List, [], ◌∷◌, ◌++◌, Option, Some, None, slice_index_or, slice_set, nat_eq}
 use Rattle.js_values.specs.declared.ids.NodeId.{NodeId}
 use Rattle.dom_tree.specs.declared.content.Content.{Content}
 use Rattle.dom_tree.specs.declared.content.Kind.{Kind}

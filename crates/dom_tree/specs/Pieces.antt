@@ -1,5 +1,5 @@
 -- What is written of a node where it is entered, and where it is left.
-use Rattle.std.specs.Prelude.{List, []}
+use Rattle.std.specs.Prelude.{[]}
 use Rattle.js_core.specs.Text.{Text}
 use Rattle.dom_tree.specs.declared.walk.Visit.{Visit}
 use Rattle.dom_tree.specs.declared.walk.Visit.TheVariants.{Enter, Leave}

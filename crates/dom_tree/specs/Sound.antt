@@ -1,7 +1,6 @@
 -- What holds of the nodes of a document at all times.
-use Rattle.std.specs.Prelude.{◌≡◌, ℕ, ◌<◌, ◌≤◌, Bool, true, false, ◌&&◌, ◌||◌, not, List, [], ◌∷◌, Option, Some, None, length, nat_eq, bytes_eq, codes, filter, is_none}
+use Rattle.std.specs.Prelude.{◌≡◌, ℕ, ◌≤◌, Bool, true, false, ◌&&◌, ◌||◌, not, List, [], Some, None, length, nat_eq, bytes_eq, codes, filter, is_none}
 use Rattle.std.specs.List.{list_all}
-use Rattle.js_core.specs.Text.{Text}
 use Rattle.js_values.specs.declared.ids.NodeId.{NodeId}
 use Rattle.dom_tree.specs.declared.content.Content.{Content}
 use Rattle.dom_tree.specs.declared.content.Kind.{Kind}

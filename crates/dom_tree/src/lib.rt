@@ -1,16 +1,24 @@
 //! Nodes of a document (DOM Level 2 Core): trees of elements, texts and comments, with the document as the first node.
 #![tactic(auto)]
 
-pub mod attributes;
-pub mod content;
-pub mod dom;
-pub mod fault;
-pub mod insert;
-pub mod laws;
-pub mod links;
-pub mod make;
-pub mod names;
+mod attributes;
+mod content;
+mod dom;
+mod fault;
+mod insert;
+mod laws;
+mod links;
+mod make;
+mod names;
 #[cfg(test)]
 mod tests;
-pub mod text;
-pub mod walk;
+mod text;
+mod walk;
+
+pub use attributes::Attributes;
+pub use content::{Content, Kind};
+pub use dom::Dom;
+pub use fault::DomFault;
+pub use laws::{law_insertion, law_texts, law_trees};
+pub use names::is_name;
+pub use text::is_void;

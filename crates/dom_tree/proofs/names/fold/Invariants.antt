@@ -1,6 +1,5 @@
 use Rattle.std.proofs.Common.{◌≡◌, map, take}
 use Rattle.std.specs.Char.{to_ascii_lowercase}
-use Rattle.js_core.specs.Text.{Text}
 use Rattle.dom_tree.proofs.names.fold.Given as goal
 
 abbrev pub invariant-loop-unit : goal.invariant-loop-unit

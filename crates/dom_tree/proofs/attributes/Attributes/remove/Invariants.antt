@@ -1,5 +1,5 @@
 use Rattle.std.proofs.Common.{◌≡◌}
-use Rattle.dom_tree.specs.Attributes.{with_value_of, without_value_of}
+use Rattle.dom_tree.specs.Attributes.{without_value_of}
 use Rattle.dom_tree.specs.Name.{folded}
 use Rattle.dom_tree.proofs.Named.{IsPast}
 use Rattle.dom_tree.proofs.attributes.Attributes.remove.Given as goal

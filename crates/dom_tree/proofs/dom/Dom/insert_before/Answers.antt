@@ -1,4 +1,4 @@
-use Rattle.std.proofs.Common.{◌≡◌, ◌∙◌, sym, length, refl}
+use Rattle.std.proofs.Common.{◌∙◌, sym, length, refl}
 use Rattle.dom_tree.specs.Change.{taken_out}
 use Rattle.dom_tree.specs.Fits.{Fits, IsReady}
 use Rattle.dom_tree.proofs.Moves.{fits, ready}

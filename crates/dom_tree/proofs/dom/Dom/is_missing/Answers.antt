@@ -1,7 +1,6 @@
 use Rattle.std.proofs.Common.{◌≡◌, ◌∙◌, ap, not, sym}
 use Rattle.dom_tree.specs.Change.{is_missing}
 use Rattle.dom_tree.specs.Node.{children_at, has}
-use Rattle.dom_tree.proofs.Moves as moves
 use Rattle.dom_tree.proofs.dom.Dom.is_missing.Goals as goal
 
 pub returns-in-Some : goal.returns-in-Some

@@ -1,5 +1,5 @@
 use Rattle.std.proofs.Common.{◌∙◌, sym}
-use Rattle.dom_tree.proofs.Generations.{end_visits, next_inside, next_visits, up_inside, up_visits}
+use Rattle.dom_tree.proofs.Generations.{next_inside, next_visits, up_inside, up_visits}
 use Rattle.dom_tree.proofs.Kept.{has_first}
 use Rattle.dom_tree.proofs.dom.Dom.visit_after_leaving.Goals as goal
 
