@@ -1,0 +1,19 @@
+//! The tokens of a page's text.
+#![tactic(auto)]
+
+mod attributes;
+mod characters;
+mod fault;
+mod laws;
+mod opening;
+mod references;
+mod tags;
+#[cfg(test)]
+mod tests;
+mod token;
+mod tokens;
+
+pub use fault::TokenFault;
+pub use laws::law_one_reading;
+pub use token::{AttributeList, PageToken, RawText, Tag};
+pub use tokens::tokens_of;
