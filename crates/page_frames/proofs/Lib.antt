@@ -1,0 +1,6 @@
+pub mod Callers
+pub mod Forms
+pub mod Loops
+pub mod Stacks
+pub mod Starts
+pub mod Weights

@@ -1,0 +1,16 @@
+pub mod CodedWhere
+pub mod Laws
+pub mod Parts
+pub mod Placed
+pub mod Rest
+pub mod RestCalls
+pub mod RestExpressions
+pub mod RestLiterals
+pub mod RestLoops
+pub mod RestProperties
+pub mod RestStatements
+pub mod Stack
+pub mod Start
+pub mod Step
+pub mod Weight
+pub mod Where

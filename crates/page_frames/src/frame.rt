@@ -1,0 +1,140 @@
+//! What waits for a part of a script, and what begins one.
+
+use crate::spot::Spot;
+use js_core::units::Units;
+use js_values::ids::{EnvId, ObjId};
+use js_values::value::Value;
+use object_heap::values::Values;
+use page_meaning::signal::Signal;
+use std::marker::Model;
+
+/// An expression waits for the value of the part whose number is `turn`, with what it has got.
+#[derive(Drop)]
+pub struct ExprFrame {
+    pub spot: Spot,
+    pub turn: u64,
+    pub got: Values,
+}
+
+/// What a name meant when it was resolved (ECMA-262 5.1 section 10.2.2.1).
+#[derive(Clone, Copy)]
+pub enum Reference {
+    Environment(EnvId),
+    Global,
+    Nowhere,
+}
+
+/// An assignment to a name, or a name that a `var` declares, waits for its right side; it holds what the name meant, and, where there is an
+/// operator, its value.
+#[derive(Drop)]
+pub struct NameFrame {
+    pub spot: Spot,
+    pub reference: Reference,
+    pub old: Option<Value>,
+}
+
+/// The target of a for-in waits for its base, or with the base for its key; it takes the value then.
+#[derive(Drop)]
+pub struct TargetFrame {
+    pub spot: Spot,
+    pub value: Value,
+    pub base: Option<Value>,
+}
+
+/// A statement waits for the end of the part whose number is `turn`. A `finally` keeps the end that it may give back.
+#[derive(Drop)]
+pub struct StmtFrame {
+    pub spot: Spot,
+    pub turn: u64,
+    pub kept: Option<Signal>,
+}
+
+/// Names with the objects that have them; no object for a unit of a text. Contracts see it as the list.
+#[derive(Drop)]
+pub struct Listed {
+    names: Vec<(Option<ObjId>, Units)>,
+}
+
+impl Model for Listed {
+    ghost use Rattle.page_meaning.specs.Loops.{Listed as Names};
+    ghost use Rattle.page_frames.specs.CodedWhere.{coded_listed};
+
+    ghost Value = { Names };
+
+    ghost coded = { coded_listed };
+
+    ghost view = { λ l. l.names.items };
+}
+
+ghost use Rattle.std.specs.Prelude.{◌≡◌};
+
+impl Listed {
+    /// These names.
+    pub fn of(names: Vec<(Option<ObjId>, Units)>) -> Listed
+        ensures { result ≡ names.items }
+    {
+        Listed { names }
+    }
+
+    /// The names, without memory.
+    pub fn as_slice(&self) -> &[(Option<ObjId>, Units)]
+        ensures { result.now ≡ self.now }
+    {
+        self.names.as_slice()
+    }
+}
+
+/// A for-in waits at the name of this index: for its target to take the name, or for its body.
+#[derive(Drop)]
+pub struct EachFrame {
+    pub spot: Spot,
+    pub names: Listed,
+    pub index: u64,
+    pub assigning: bool,
+}
+
+/// A `switch` of this value waits for the test of the case of this index, or for its statements.
+#[derive(Drop)]
+pub struct CaseFrame {
+    pub spot: Spot,
+    pub value: Value,
+    pub index: u64,
+    pub testing: bool,
+}
+
+/// A call, or a construction, which has no `this`.
+#[derive(Drop)]
+pub struct CallFrame {
+    pub construct: bool,
+    pub callee: Value,
+    pub this: Value,
+    pub args: Values,
+}
+
+/// A call waits for the end of its body, or for another call. The fresh object of a construction takes the place of what the body gives,
+/// unless that is an object.
+#[derive(Drop)]
+pub struct CalledFrame {
+    pub body: bool,
+    pub fresh: Option<Value>,
+}
+
+/// What waits for the end of another thing.
+#[derive(Drop)]
+pub enum Frame {
+    Expr(ExprFrame),
+    Name(NameFrame),
+    Target(TargetFrame),
+    Stmt(StmtFrame),
+    Each(EachFrame),
+    Case(CaseFrame),
+    Called(CalledFrame),
+}
+
+/// What begins: a node, a node that takes a value as the target of a for-in, or a call.
+#[derive(Drop)]
+pub enum Begin {
+    Node(Spot),
+    Target(Spot, Value),
+    Call(CallFrame),
+}

@@ -1,0 +1,15 @@
+//! Frames of the machine: what waits for a part of a script or begins one, how much there is yet to do, and what a step says.
+#![tactic(auto)]
+
+mod frame;
+mod laws;
+mod meter;
+mod spot;
+
+pub use frame::{
+    Begin, CallFrame, CalledFrame, CaseFrame, EachFrame, ExprFrame, Frame, Listed, NameFrame,
+    Reference, StmtFrame, TargetFrame,
+};
+pub use laws::{law_loops, law_stacks, law_starts, law_weights};
+pub use meter::{Meter, Next};
+pub use spot::Spot;

@@ -1,0 +1,26 @@
+//! What is left to a task, and what a step leads to.
+
+use crate::frame::{Begin, Frame};
+use page_meaning::signal::Signal;
+
+/// The steps that are left, and the functions that may yet be active.
+#[derive(Clone, Copy)]
+pub struct Meter {
+    pub steps: u64,
+    pub depth: u32,
+}
+
+/// What a step leads to.
+#[derive(Drop)]
+pub enum Next {
+    /// It ends so.
+    Give(Signal),
+    /// The frame goes on with this end at once.
+    Go(Frame, Signal),
+    /// This runs in its place.
+    Enter(Begin),
+    /// This runs, and the frame waits for its end.
+    Then(Frame, Begin),
+    /// A step was to be taken, and none was left.
+    Stopped,
+}
