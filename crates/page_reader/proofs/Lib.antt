@@ -1,0 +1,4 @@
+pub mod Named
+pub mod Inserting
+pub mod Steps
+pub mod Whole

@@ -1,0 +1,4 @@
+pub mod Elements
+pub mod Forest
+pub mod Pages
+pub mod Reading

@@ -1,0 +1,101 @@
+//! Whole texts and the pages that they are.
+
+use crate::tree::page_of_tokens;
+use js_core::units::Units;
+use js_values::ids::NodeId;
+use page_tokens::{RawText, tokens_of};
+use std::alloc::Global;
+use std::process::Abort;
+use std::test::Fail;
+
+/// The text of the document and the scripts' texts, each behind `;`, or `-` where the text is no page.
+fn shown(alloc: Global, text: &str) -> Result<Vec<u16>, Fail> {
+    let units = Units::from_utf8(alloc, text)?;
+    let mut out = Vec::new(alloc);
+    match tokens_of(alloc, units.as_slice()) {
+        Err(_) => out.push(u16::from(b'?'))?,
+        Ok(tokens) => match page_of_tokens(alloc, tokens.as_slice()) {
+            Err(_) => out.push(u16::from(b'-'))?,
+            Ok((dom, scripts)) => {
+                dom.dom_text(NodeId(0), &mut out)?;
+                push_scripts(&mut out, scripts.as_slice())?;
+            }
+        },
+    }
+    Ok(out)
+}
+
+fn push_scripts(out: &mut Vec<u16>, scripts: &[RawText]) -> Result<(), Fail> {
+    for script in scripts {
+        out.push(u16::from(b';'))?;
+        out.extend_from_slice(script.text.as_slice())?;
+    }
+    Ok(())
+}
+
+fn shows(rt: &(impl Abort + AllocGlobal), cases: &[(&str, &str)]) -> Result<(), Fail> {
+    for (text, expected) in cases {
+        let found = shown(rt.alloc(), *text)?;
+        let wanted = Units::from_utf8(rt.alloc(), *expected)?;
+        assert_eq!(rt; found.as_slice(), wanted.as_slice(), "{text}");
+    }
+    Ok(())
+}
+
+#[test]
+fn reads_pages(rt: HostRuntime) -> Result<(), Fail> {
+    let cases = [
+        ("<html></html>", "<html></html>"),
+        (
+            " <!doctype html>\n<!--a--><HTML><body> x </body>\n</HTML> <!--b-->\n",
+            "<html><body> x </body></html>",
+        ),
+        (
+            "<html><p id=a ID=b><b>1</b>2<!--c--></p></html>",
+            "<html><p id=\"a\"><b>1</b>2<!--c--></p></html>",
+        ),
+        ("<html><br><img/>t</html>", "<html><br><img>t</html>"),
+        ("<html>&#32; &#9;</html>", "<html></html>"),
+        ("<html><p>&#32;</p></html>", "<html><p> </p></html>"),
+        (
+            "<html><script>a<b</script><style>b{}</style></html>",
+            "<html><script></script><style>b{}</style></html>;a<b",
+        ),
+        (
+            "<html><script type='Text/JavaScript'></script></html>",
+            "<html><script type=\"Text/JavaScript\"></script></html>;",
+        ),
+        (
+            "<html><style></style></html>",
+            "<html><style></style></html>",
+        ),
+    ];
+    shows(&rt, &cases)
+}
+
+#[test]
+fn refuses_what_is_no_page(rt: HostRuntime) -> Result<(), Fail> {
+    let cases = [
+        ("", "-"),
+        ("<p></p>", "-"),
+        ("<html>", "-"),
+        ("<html/>", "-"),
+        ("<html></html><p></p>", "-"),
+        ("<html></html><!doctype html>", "-"),
+        ("<!doctype a><!doctype b><html></html>", "-"),
+        ("x<html></html>", "-"),
+        ("&#32;<html></html>", "-"),
+        ("<html><b></i></html>", "-"),
+        ("<html></br></html>", "-"),
+        ("<html><br></br></html>", "-"),
+        ("<html><b/></html>", "-"),
+        ("<html><!doctype a></html>", "-"),
+        ("<html><iframe></iframe></html>", "-"),
+        ("<html><b onclick=a></b></html>", "-"),
+        ("<html><b ONx></b></html>", "-"),
+        ("<html><script src=a></script></html>", "-"),
+        ("<html><script type=module></script></html>", "-"),
+        ("<html><script/></html>", "-"),
+    ];
+    shows(&rt, &cases)
+}
