@@ -46,6 +46,6 @@ row() {
     best=$(for _ in 1 2 3 4 5; do "$work/crates/$program/out/$program" "$1"; done | sort -n -k 2 | head -n 1)
     each=$(echo "$best" | awk '{ printf "%.2f", $2 / $1 }')
     first=${first:-$each}
-    echo "$best" | awk -v e="$each" -v f="$first" '{ printf "| %d | %d | %s | %.2f |", $1, $2, e, e / f }'
+    echo "$best" | awk -v e="$each" -v f="$first" '{ printf "| %d | %.0f | %s | %.2f |", $1, $2, e, e / f }'
     echo "${2:+ $2 |}"
 }

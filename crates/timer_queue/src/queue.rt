@@ -1,6 +1,6 @@
 //! The queue of live timers.
 
-ghost use Rattle.std.specs.Prelude.{◌≡◌, ◌<◌, ◌^◌, [], length, option_map, unwrap_or, vec_capacity, IfOk, OnOk, OnErr, true};
+ghost use Rattle.std.specs.Prelude.{◌≡◌, ◌<◌, ◌^◌, [], length, option_map, unwrap_or, vec_capacity, IfOk, OnOk, OnErr, Some, true};
 ghost use Rattle.timer_queue.specs.Laws.{HasDistinctIds};
 ghost use Rattle.timer_queue.specs.Timers as spec;
 
@@ -40,18 +40,18 @@ fn earliest(timers: &[Live]) -> Option<Live>
     let mut found = None;
     while place > 0 {
         place -= 1;
-        found = Some(earlier(timers[place], found));
+        keep_earlier(&timers[place], &mut found);
     }
     found
 }
 
-// The timer, or the other one, which stands behind it, if that is due before it.
-fn earlier(timer: Live, other: Option<Live>) -> Live
-    ensures { result ≡ spec.earlier timer other }
+// Keeps the timer, or what was found behind it, if that is due before it.
+fn keep_earlier(timer: &Live, found: &mut Option<Live>)
+    ensures { found.new ≡ Some (spec.earlier timer.now found.old) }
 {
-    match other {
-        Some(other) if other.due < timer.due => other,
-        _ => timer,
+    match found {
+        Some(other) if other.due < timer.due => {}
+        _ => *found = Some(*timer),
     }
 }
 
