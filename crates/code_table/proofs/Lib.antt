@@ -1,3 +1,4 @@
+pub mod Finished
 pub mod Forms
 pub mod Joins
 pub mod Told

@@ -191,6 +191,14 @@ entries_fall : (m : ℕ) (es : List Entry) → RowsFall m (map row_of es) → mo
 entries_fall m [] h = omega arith
 entries_fall m (e ∷ es) h = let g = entries_fall m es h.1 in omega (arith, g, h.0)
 
+-- the largest function of these rows
+abbrev pub deepest : List Row → ℕ
+deepest rows = most (λ r. deep-Kind r.kind) rows
+
+rows_within : (m : ℕ) (rs : List Row) → RowsFall m rs → deepest rs ≤ m
+rows_within m [] h = omega arith
+rows_within m (r ∷ rs) h = let g = rows_within m rs h.1 in omega (arith, g, h.0)
+
 unnamed_size : (c : tree.Code) → code_size (unnamed c) ≡ code_size c
 unnamed_size (code x formals body) = refl
 
@@ -209,6 +217,10 @@ declared_fall m (d ∷ ds) h = let g = declared_fall m ds h.1 in omega (arith, g
 
 rows_of_code : (c : tree.Code) → RowsFall (code_size c) (rows_of c)
 rows_of_code (code x formals body) = rows_fall (stmts_size body + 1) [] (part (block_node body) (stmts_parts body)) tt (block_fits (stmts_size body + 1) body no_parts (stmts_fit (stmts_size body + 1) body (omega arith)) tt)
+
+-- no function inside a function is as large
+pub rows_deepest : (c : tree.Code) → deepest (rows_of c) ≤ code_size c
+rows_deepest c = rows_within (code_size c) (rows_of c) (rows_of_code c)
 
 functions_of_code : (c : tree.Code) → AllSmall (code_size c) (functions_of (body_of c))
 functions_of_code (code x formals body) = functions_small (stmts_size body + 1) body (omega arith)

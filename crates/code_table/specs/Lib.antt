@@ -3,5 +3,6 @@ pub mod Declarations
 pub mod Falls
 pub mod Kind
 pub mod Node
+pub mod Numbered
 pub mod Rows
 pub mod Table

@@ -2,11 +2,13 @@
 //! its parts.
 #![tactic(auto)]
 
-mod build;
 mod code;
+mod expressions;
+mod functions;
 mod kind;
 mod rows;
 mod shallow;
+mod statements;
 mod variables;
 
 pub use code::{Declared, FunctionCode};

@@ -2,12 +2,15 @@
 
 ghost use Rattle.std.specs.Prelude.{◌≡◌, ◌≤◌, ◌++◌, ◌∷◌, [], IfOk, OnOk, length, map, option_copied, slice_get};
 ghost use Rattle.code_table.specs.Rows.{no_number};
-ghost use Rattle.code_table.specs.Table.{number_in, row_of};
+ghost use Rattle.code_table.specs.Numbered.{known, numbered_row};
+ghost use Rattle.code_table.specs.Table.{number_in};
 
 use crate::kind::Kind;
 use js_core::memory::OutOfMemory;
+use js_core::syntax::Code;
 use std::alloc::Global;
 use std::marker::Model;
+use std::rc::Rc;
 
 /// A node: its kind, and the numbers of its parts.
 #[cycle(code)]
@@ -17,10 +20,24 @@ pub struct Entry {
     pub parts: Vec<u32>,
 }
 
+/// The kind of a node that is numbered, or a function whose table is not made yet.
+#[derive(Drop)]
+pub enum NodeKind {
+    Known(Kind),
+    Function(Rc<Code>),
+}
+
+/// A node that is numbered, with the numbers of its parts.
+#[derive(Drop)]
+pub struct Numbered {
+    pub kind: NodeKind,
+    pub parts: Vec<u32>,
+}
+
 /// The rows of the nodes that are numbered. There are less than 2^32.
 #[derive(Drop)]
 pub struct Rows {
-    entries: Vec<Entry>,
+    nodes: Vec<Numbered>,
 }
 
 impl Model for Rows {
@@ -33,11 +50,11 @@ impl Model for Rows {
 
     ghost coded = { coded_rows };
 
-    ghost use Rattle.code_table.specs.Table.{row_of};
+    ghost use Rattle.code_table.specs.Numbered.{numbered_row};
 
-    ghost view = { λ r. map row_of r.entries.items };
+    ghost view = { λ r. map numbered_row r.nodes.items };
 
-    ghost invariant = { λ r. length r.entries.items ≤ no_number };
+    ghost invariant = { λ r. length r.nodes.items ≤ no_number };
 }
 
 impl Rows {
@@ -46,29 +63,44 @@ impl Rows {
         ensures { result ≡ [] }
     {
         Rows {
-            entries: Vec::new(alloc),
+            nodes: Vec::new(alloc),
         }
     }
 
     /// Numbers a node, whose parts have these numbers. More than 2^32 - 1 nodes are want of memory.
-    pub fn push(&mut self, kind: Kind, parts: Vec<u32>) -> Result<u32, OutOfMemory>
-        ensures row { OnOk result (self.new ≡ self.old ++ record { kind = kind; parts = parts.items } ∷ []) }
+    pub fn push(&mut self, kind: NodeKind, parts: Vec<u32>) -> Result<u32, OutOfMemory>
+        ensures row { OnOk result (self.new ≡ self.old ++ record { kind = known kind; parts = parts.items } ∷ []) }
         ensures number { IfOk result (λ number. number ≡ length self.old) }
     {
-        let number = self.entries.len();
+        let number = self.nodes.len();
         if number >= u32::MAX as usize {
             return Err(OutOfMemory);
         }
-        self.entries.push(Entry { kind, parts })?;
+        self.nodes.push(Numbered { kind, parts })?;
         Ok(number as u32)
     }
 
+    /// Numbers a node, and appends its number to those of the parts of another one.
+    pub fn push_part(
+        &mut self,
+        kind: NodeKind,
+        inside: Vec<u32>,
+        parts: &mut Vec<u32>,
+    ) -> Result<(), OutOfMemory>
+        ensures row { OnOk result (self.new ≡ self.old ++ record { kind = known kind; parts = inside.items } ∷ []) }
+        ensures part { OnOk result (parts.new.items ≡ parts.old.items ++ length self.old ∷ []) }
+    {
+        let number = self.push(kind, inside)?;
+        parts.push(number)?;
+        Ok(())
+    }
+
     /// The nodes, in their order.
-    pub fn into_entries(self) -> Vec<Entry>
-        ensures rows { map row_of result.items ≡ self }
+    pub fn into_nodes(self) -> Vec<Numbered>
+        ensures rows { map numbered_row result.items ≡ self }
         ensures few { length result.items ≤ no_number }
     {
-        self.entries
+        self.nodes
     }
 }
 

@@ -5,8 +5,10 @@ ghost use Rattle.js_core.specs.Tree.{fields_of};
 ghost use Rattle.js_core.specs.Views.{catch_of};
 ghost use Rattle.code_table.specs.Kind as spec;
 ghost use Rattle.code_table.specs.Node as node;
+ghost use Rattle.code_table.specs.Numbered.{known};
 
 use crate::kind::{Kind, Names};
+use crate::rows::NodeKind;
 use js_core::memory::OutOfMemory;
 use js_core::operators::{BinaryOp, UnaryOp};
 use js_core::syntax::{Catch, Expr, ExprNode, Stmt, StmtNode};
@@ -121,6 +123,36 @@ pub fn literal_kind(alloc: Global, fs: &[(Units, Expr)]) -> Result<Kind, OutOfMe
         rest = after;
     }
     Ok(Kind::Literal(Names::of(names)))
+}
+
+/// The kind of an expression, but that a function has no table yet.
+pub fn expr_kind(alloc: Global, e: &Expr) -> Result<NodeKind, OutOfMemory>
+    ensures { IfOk result (λ kind. known kind ≡ spec.expr_kind e.now) }
+{
+    let kind = match &e.node {
+        ExprNode::Func(code) => return Ok(NodeKind::Function(code.clone()?)),
+        ExprNode::Name(x) => Kind::Name(x.clone()?),
+        ExprNode::Num(n) => Kind::Num(*n),
+        ExprNode::Text(t) => Kind::Text(t.clone()?),
+        ExprNode::Bool(b) => Kind::Bool(*b),
+        ExprNode::Null => Kind::Null,
+        ExprNode::This => Kind::This,
+        ExprNode::List(_) => Kind::List,
+        ExprNode::Literal(fs) => literal_kind(alloc, fs.as_slice())?,
+        ExprNode::Member(_, x) => Kind::Member(x.clone()?),
+        ExprNode::Index(_, _) => Kind::Index,
+        ExprNode::Call(f, _) => call_kind(f)?,
+        ExprNode::New(_, _) => Kind::New,
+        ExprNode::Unary(op, a) => unary_kind(*op, a)?,
+        ExprNode::Update { up, prefix, target } => update_kind(*up, *prefix, target)?,
+        ExprNode::Binary(op, _, _) => Kind::Binary(*op),
+        ExprNode::And(_, _) => Kind::And,
+        ExprNode::Or(_, _) => Kind::Or,
+        ExprNode::Cond(_, _, _) => Kind::Cond,
+        ExprNode::Assign(op, target, _) => assign_kind(*op, target)?,
+        ExprNode::Comma(_) => Kind::Comma,
+    };
+    Ok(NodeKind::Known(kind))
 }
 
 /// The kind of a statement.
