@@ -1,5 +1,5 @@
 -- Texts that have no script.
-use Rattle.std.specs.Prelude.{◌≡◌, ⊥, ℕ, List}
+use Rattle.std.specs.Prelude.{◌≡◌, ℕ, List}
 use Rattle.std.proofs.Common.{subst}
 use Rattle.js_core.specs.Tree as tree
 use Rattle.js_core.specs.declared.token.Token.{Token}

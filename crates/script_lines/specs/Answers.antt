@@ -1,5 +1,5 @@
 -- The answers to texts.
-use Rattle.std.specs.Prelude.{◌≡◌, ⊥, ℕ, List}
+use Rattle.std.specs.Prelude.{◌≡◌, ℕ, List}
 use Rattle.js_core.specs.Tree as tree
 use Rattle.js_core.specs.declared.token.Token.{Token}
 use Rattle.js_grammar.specs.Scripts.{ScriptOf, height_limit}
