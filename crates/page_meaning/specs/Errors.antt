@@ -8,16 +8,12 @@ use Rattle.object_heap.specs.declared.object.Class.TheVariants.{Fault}
 use Rattle.object_heap.specs.declared.property.Prop.{Prop}
 use Rattle.object_heap.specs.Heap.{IsFit}
 use Rattle.object_heap.specs.Object.{Object, whole_object}
-use Rattle.object_heap.specs.Property.{Props}
+use Rattle.object_heap.specs.Property.{Props, hidden}
 use Rattle.page_meaning.specs.declared.signal.Signal.TheVariants.{Thrown}
 use Rattle.page_meaning.specs.Act.{Act, ActOf, ret, bind, give}
 use Rattle.object_heap.proofs.Callers.{ordinary_fit, one_name, two_names}
 use Rattle.page_meaning.specs.Places.{error_prototype}
 use Rattle.page_meaning.specs.Primitives.{make}
-
--- a property that for-in passes over
-abbrev pub hidden : Value → Prop
-hidden v = record { value = v; writable = true; enumerable = false; configurable = true }
 
 abbrev pub code_props : Option ℕ → Props
 code_props None = []

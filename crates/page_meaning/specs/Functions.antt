@@ -18,25 +18,17 @@ use Rattle.object_heap.specs.Heap.{IsFit}
 use Rattle.object_heap.specs.Laws.{Step, makes}
 use Rattle.object_heap.specs.Object as heap
 use Rattle.object_heap.specs.Object.{whole_object}
-use Rattle.object_heap.specs.Property.{own_property}
+use Rattle.object_heap.specs.Property.{fixed, hidden, lasting, own_property}
 use Rattle.page_meaning.specs.declared.signal.Signal.{Signal}
 use Rattle.page_meaning.specs.declared.signal.Signal.TheVariants.{Value as Val, Thrown, Return}
 use Rattle.page_meaning.specs.Act.{Act, ActOf, ret, bind, give, done, nothing, also, asking, choose}
-use Rattle.page_meaning.specs.Errors.{hidden, raise, unless}
+use Rattle.page_meaning.specs.Errors.{raise, unless}
 use Rattle.page_meaning.specs.Names.{Here}
 use Rattle.page_meaning.specs.Places.{at_place, window, object_prototype, function_prototype}
 use Rattle.page_meaning.specs.Primitives.{bind_name, define_at, does, make_environment, next_place}
 use Rattle.page_meaning.specs.Properties.{put_in}
 use Rattle.page_meaning.specs.Store.{Store}
 use Rattle.object_heap.proofs.Callers.{ordinary_fit, one_name, two_names}
-
--- a property that stays as it is
-abbrev pub fixed : Value → Prop
-fixed v = record { value = v; writable = false; enumerable = false; configurable = false }
-
--- one that may be written and nothing else
-abbrev pub lasting : Value → Prop
-lasting v = record { value = v; writable = true; enumerable = false; configurable = false }
 
 -- a function object, whose `prototype` is at the place
 abbrev pub function_object : tree.Code → Option EnvId → ℕ → heap.Object

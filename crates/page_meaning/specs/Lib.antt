@@ -1,13 +1,16 @@
 pub mod Act
 pub mod Calls
 pub mod Convert
+pub mod Descriptors
 pub mod Errors
 pub mod Expressions
 pub mod Functions
 pub mod Kept
 pub mod Laws
+pub mod Lines
 pub mod Loops
 pub mod Names
+pub mod ObjectRows
 pub mod Operators
 pub mod Pages
 pub mod Places
@@ -18,6 +21,8 @@ pub mod Rows
 pub mod Statements
 pub mod Store
 pub mod Tasks
+pub mod ValueRows
 pub mod Worked
 pub mod WorkedExpressions
+pub mod WorkedObjects
 pub mod WorkedStatements

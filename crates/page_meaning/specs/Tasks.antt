@@ -15,7 +15,7 @@ use Rattle.page_meaning.specs.Functions.{call_end, declare_globals, global_varia
 use Rattle.page_meaning.specs.Names.{Here, read_name}
 use Rattle.page_meaning.specs.Places.{window}
 use Rattle.page_meaning.specs.Properties.{class_at, get_at}
-use Rattle.page_meaning.specs.Rows.{log_text}
+use Rattle.page_meaning.specs.Lines.{log_text}
 use Rattle.page_meaning.specs.Statements.{exec_all}
 use Rattle.page_meaning.specs.Store.{Store, with_line}
 

@@ -51,4 +51,6 @@ declarations =
     (((function (code (Some (codes "f")) [] (stmts_of ((return (one_expr (num (Some (pos 1))))) ∷ [])))) ∷ (var (then_declarator (codes "f") no_expr no_declarators)) ∷ (expr (call (member (name (codes "console")) (codes "log")) (exprs_of ((call (name (codes "f")) (exprs_of [])) ∷ [])))) ∷ (var (then_declarator (codes "g") (one_expr (num (Some (pos 5)))) no_declarators)) ∷ (function (code (Some (codes "g")) [] no_stmts)) ∷ (expr (call (member (name (codes "console")) (codes "log")) (exprs_of ((name (codes "g")) ∷ [])))) ∷ []), (logged (codes "1") ∷ logged (codes "5") ∷ [])) ∷
     -- var o={},x=1;function f(){x=x+1;return x;}o.a=f();console.log(o.a,window.x,delete o.a);console.log("x" in window);
     (((var (then_declarator (codes "o") (one_expr (literal no_fields)) (then_declarator (codes "x") (one_expr (num (Some (pos 1)))) no_declarators))) ∷ (function (code (Some (codes "f")) [] (stmts_of ((expr (assign None (name (codes "x")) (binary op.Add (name (codes "x")) (num (Some (pos 1)))))) ∷ (return (one_expr (name (codes "x")))) ∷ [])))) ∷ (expr (assign None (member (name (codes "o")) (codes "a")) (call (name (codes "f")) (exprs_of [])))) ∷ (expr (call (member (name (codes "console")) (codes "log")) (exprs_of ((member (name (codes "o")) (codes "a")) ∷ (member (name (codes "window")) (codes "x")) ∷ (unary un.Delete (member (name (codes "o")) (codes "a"))) ∷ [])))) ∷ (expr (call (member (name (codes "console")) (codes "log")) (exprs_of ((binary op.Within (text (codes "x")) (name (codes "window"))) ∷ [])))) ∷ []), (logged (codes "2 2 true") ∷ logged (codes "true") ∷ [])) ∷
+    -- var String=5;
+    (((var (then_declarator (codes "String") (one_expr (num (Some (pos 5)))) no_declarators)) ∷ []), (not_caught (codes "TypeError: cannot set") ∷ [])) ∷
     []

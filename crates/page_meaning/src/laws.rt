@@ -3,6 +3,7 @@
 ghost use Rattle.page_meaning.specs.Laws.{KeepsKinds, LinesGrow, LoadsSound, StaysSound, TasksKeep};
 ghost use Rattle.page_meaning.specs.Worked.{PutOut};
 ghost use Rattle.page_meaning.specs.WorkedExpressions as expressions;
+ghost use Rattle.page_meaning.specs.WorkedObjects as made;
 ghost use Rattle.page_meaning.specs.WorkedStatements as statements;
 
 /// Whatever a task does, steps fall, lines stay, and the heap changes by its own calls alone.
@@ -41,4 +42,11 @@ pub fn law_worked_statements()
     ensures exceptions { PutOut statements.exceptions }
     ensures switches { PutOut statements.switches }
     ensures declarations { PutOut statements.declarations }
+{}
+
+/// The worked scripts on `Object`, arrays and errors that are made put out the lines that the rules give them.
+#[tactic(auto, using(crate::proofs::Worked::made_objects_put_out, crate::proofs::Worked::constructors_put_out))]
+pub fn law_worked_objects()
+    ensures objects { PutOut made.objects }
+    ensures constructors { PutOut made.constructors }
 {}

@@ -1,0 +1,4 @@
+pub mod Among
+pub mod Entered
+pub mod Found
+pub mod Stay
