@@ -6,7 +6,7 @@ use Rattle.indexmap.specs.IndexSet.{insert_all, insert_key}
 use Rattle.js_values.specs.declared.ids.EnvId.{EnvId}
 use Rattle.scope_analysis.specs.Names.{is_among}
 use Rattle.scope_analysis.specs.Scopes.{once_each, place_among}
-use Rattle.scope_chains.specs.Levels.{Level, OwnName, bound_at, names_at}
+use Rattle.scope_chains.specs.Levels.{OwnName, names_at}
 
 pub or_none : (b : Bool) → b ≡ (b || false)
 or_none true = refl

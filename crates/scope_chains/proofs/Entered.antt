@@ -1,5 +1,5 @@
 -- Functions and catch clauses that are entered have the environments of their scopes.
-use Rattle.std.proofs.Common.{◌≡◌, refl, sym, ap, ◌∙◌, ℕ, ◌<◌, Bool, true, false, ◌&&◌, ◌||◌, List, [], ◌∷◌, ◌++◌, Option, Some, None, bytes_eq, is_some, length, arith, IsTrue, if◌then◌else◌}
+use Rattle.std.proofs.Common.{◌≡◌, refl, sym, ap, ◌∙◌, ℕ, ◌<◌, Bool, true, false, ◌||◌, List, [], ◌∷◌, ◌++◌, Option, Some, None, bytes_eq, is_some, length, arith}
 use Rattle.std.specs.Option.{ForSome}
 use Rattle.std.proofs.lemmas.List.{length-append}
 use Rattle.std.proofs.lemmas.Slice.Eq.{bytes_eq-Decides}
@@ -10,7 +10,7 @@ use Rattle.js_values.specs.declared.ids.EnvId.{EnvId}
 use Rattle.js_values.specs.declared.value.Value.{Value}
 use Rattle.js_values.specs.declared.value.Value.TheVariants.{Undefined}
 use Rattle.code_table.specs.Declarations as held
-use Rattle.object_heap.specs.Environment.{Bound, Environment, environment_at, inside, new_environment, value_of}
+use Rattle.object_heap.specs.Environment.{Bound, Environment, inside, new_environment, value_of}
 use Rattle.object_heap.specs.Heap.{Contents}
 use Rattle.object_heap.specs.Laws.{opens}
 use Rattle.object_heap.proofs.Callers.{environment_last, inside_same}
@@ -19,7 +19,7 @@ use Rattle.scope_analysis.specs.Names as names
 use Rattle.scope_analysis.specs.Names.{declared_names, is_among}
 use Rattle.scope_chains.specs.Laws.{ClausesAreLevels, FunctionsAreLevels, OwnNamesAreBound, opened_in}
 use Rattle.scope_chains.specs.Levels.{AreLevels, Binds, BindsOwn, Level, OwnName, innermost, round_it}
-use Rattle.scope_chains.proofs.Among.{among_append, among_same, or_between, or_none, or_round, or_within}
+use Rattle.scope_chains.proofs.Among.{among_append, or_between, or_none, or_round}
 use Rattle.scope_chains.proofs.Stay.{step_levels, step_own}
 
 -- ---- the names that a body declares, in two parts

@@ -1,5 +1,5 @@
 -- A name is found in the environment of the innermost scope that declares it.
-use Rattle.std.proofs.Common.{◌≡◌, refl, sym, ap, ◌∙◌, ℕ, Bool, true, false, ◌||◌, List, [], ◌∷◌, ◌++◌, Option, Some, None, bytes_eq, is_some, map}
+use Rattle.std.proofs.Common.{◌≡◌, refl, sym, ap, ◌∙◌, ℕ, Bool, true, false, List, [], ◌∷◌, ◌++◌, Option, Some, None, bytes_eq, is_some, map}
 use Rattle.std.specs.Option.{option_map}
 use Rattle.js_values.specs.declared.ids.EnvId.{EnvId}
 use Rattle.js_values.specs.declared.value.Value.{Value}
@@ -9,7 +9,7 @@ use Rattle.object_heap.proofs.Callers.{lookup_on}
 use Rattle.scope_analysis.specs.Names.{is_among}
 use Rattle.scope_analysis.specs.Scopes.{Place, find, here_or_outwards, place_among}
 use Rattle.scope_chains.specs.Laws.{NamesAreFound}
-use Rattle.scope_chains.specs.Levels.{AreLevels, Binds, BindsOwn, Level, OwnName, environment_of, innermost, names_at, round_it}
+use Rattle.scope_chains.specs.Levels.{Binds, BindsOwn, Level, OwnName, environment_of, innermost, names_at, round_it}
 use Rattle.scope_chains.proofs.Among.{is_own, level_names, place_none, place_some}
 
 abbrev Looked : Type 0

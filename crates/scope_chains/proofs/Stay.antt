@@ -1,14 +1,13 @@
 -- Environments that are there keep their names and stand where they stood.
-use Rattle.std.proofs.Common.{◌≡◌, refl, sym, ap, subst, ◌∙◌, ℕ, ◌<◌, ◌≤◌, Bool, true, false, cond, List, [], ◌∷◌, ◌++◌, Option, Some, None, bytes_eq, is_some, length, arith, inl, inr, ◌⊎◌, ◌≢◌, eqb}
+use Rattle.std.proofs.Common.{◌≡◌, refl, sym, ap, subst, ◌∙◌, ℕ, ◌≤◌, Bool, true, false, List, [], ◌∷◌, Option, Some, None, bytes_eq, is_some, length, arith, inl, inr, ◌⊎◌, ◌≢◌, eqb}
 use Rattle.std.proofs.lemmas.Bool.Decides.{eqb_tells}
 use Rattle.std.specs.Map.{lookup, set_value}
 use Rattle.js_values.specs.declared.ids.EnvId.{EnvId}
 use Rattle.js_values.specs.declared.value.Value.{Value}
-use Rattle.object_heap.specs.Environment.{Bound, Environment, environment_at, value_of, with_bound, with_value_of}
+use Rattle.object_heap.specs.Environment.{Bound, Environment, environment_at, value_of, with_value_of}
 use Rattle.object_heap.specs.Heap.{Contents, set}
-use Rattle.object_heap.specs.Laws.{Step, puts, defines, deletes, prevents, adds, closes, gives_parts, makes, opens, binds, after_step, after_steps, environment_of}
-use Rattle.object_heap.proofs.Callers.{environment_set_other, environment_set_same, fewer_steps, only_there}
-use Rattle.scope_analysis.specs.Names.{is_among}
+use Rattle.object_heap.specs.Laws.{Step, puts, defines, deletes, prevents, adds, closes, gives_parts, makes, opens, binds, after_step, environment_of}
+use Rattle.object_heap.proofs.Callers.{environment_set_same, fewer_steps, only_there}
 use Rattle.scope_chains.specs.Laws.{LevelsStay}
 use Rattle.scope_chains.specs.Levels.{AreLevels, Binds, BindsOwn, Level, OwnName, innermost}
 

@@ -1,5 +1,5 @@
 -- The scopes round a place of a script, each with its environment while the page runs (ECMA-262 5.1 sections 10.2, 10.4.3, 12.14 and 13).
-use Rattle.std.specs.Prelude.{◌≡◌, ℕ, ◌<◌, List, [], ◌∷◌, ◌++◌, Option, Some, None, bytes_eq, is_some, length, slice_get, option_map, if◌then◌else◌}
+use Rattle.std.specs.Prelude.{◌≡◌, ℕ, ◌<◌, List, [], ◌∷◌, ◌++◌, Option, Some, None, is_some, length, slice_get, option_map, if◌then◌else◌}
 use Rattle.js_values.specs.declared.ids.EnvId.{EnvId}
 use Rattle.object_heap.specs.Environment.{Environment, environment_at, value_of}
 use Rattle.scope_analysis.specs.Names.{is_among, unless_among}
