@@ -9,10 +9,10 @@ use Rattle.page_check.specs.declared.page.Refusal.{Refusal}
 use Rattle.page_check.specs.declared.page.Refusal.TheVariants.{NotBuilt}
 use Rattle.js_core.specs.Tree as tree
 use Rattle.js_values.specs.declared.event.Event.{Event}
+use Rattle.event_file.specs.Events.{calls_of}
 use Rattle.command_line.specs.declared.status.Status.{Status}
 use Rattle.command_line.specs.declared.status.Status.TheVariants as status
 use Rattle.command_line.specs.Command.{Command, check, session}
-use Rattle.command_line.specs.Events.{events_of}
 use Rattle.command_line.specs.Page.{page_limit, event_file_limit, Page, Accepts, IsBuilt, IsNotBuilt}
 use Rattle.command_line.specs.Replay.{IsEventFile}
 use Rattle.command_line.specs.Stages.{Seen, Of, Held, ReadFailed, IsNoEventFile, Stage, words, page_file, acceptance, building, event_file, writing, Stops, Passes, EndsAt, Ends, IsQuiet, CausesExclude, IsReadOrFailed, names_of, work_of, work_behind, stages_of, SomeCause}
@@ -212,12 +212,12 @@ module _ (seen : Seen) (none_neither : NoneNeither) where
       refused : (i : ℕ) → IsNoEventFile held.0 i → ⊥
       refused i h = never (status.EventsRefused i) (λ e. cc) (inl (of_held _ held.0 (λ f. IsNoEventFile f i) held.1 h))
 
-      by_events : (found : Result (List Event) ℕ) → events_of held.0 ≡ found → length held.0 ≤ event_file_limit → ⊥
+      by_events : (found : Result (List Event) ℕ) → calls_of held.0 ≡ found → length held.0 ≤ event_file_limit → ⊥
       by_events (Ok es) e few = k (next (event_file n) gs never (of_held _ held.0 (λ f. (events : List Event) × IsEventFile f events) held.1 (es, record { fits = few; holds = e })))
       by_events (Err i) e few = refused i (inr (few, e))
 
       by_case : (length held.0 ≤ event_file_limit) ⊎ (event_file_limit < length held.0) → ⊥
-      by_case (inl few) = by_events (events_of held.0) refl few
+      by_case (inl few) = by_events (calls_of held.0) refl few
       by_case (inr many) = refused 0 (inl (many, refl))
 
   at_writing : No (writing ∷ []) → ⊥

@@ -1,10 +1,7 @@
 pub mod Causes
 pub mod Endings
-pub mod Found
-pub mod ItemsSoFar
 pub mod Moves
 pub mod Pieces
-pub mod OneMember
 pub mod Refusals
 pub mod SavedDepth
 pub mod SavedItems

@@ -2,14 +2,14 @@
 use Rattle.std.specs.Prelude.{◌≡◌, ℕ, ◌≤◌, List, length, Ok}
 use Rattle.js_values.specs.Line.{lines_text}
 use Rattle.js_values.specs.declared.event.Event.{Event}
+use Rattle.event_file.specs.Events.{calls_of}
 use Rattle.command_line.specs.Page.{event_file_limit, Page, IsPage}
 use Rattle.command_line.specs.Behaviour.{lines_of_run}
-use Rattle.command_line.specs.Events.{events_of}
 
--- the file is not too long, and holds these events
+-- the file is not too long, and holds these events, each of them a call: other items are none yet
 pub record IsEventFile (file : List ℕ) (events : List Event) : Type 0 where
   pub fits : length file ≤ event_file_limit
-  pub holds : events_of file ≡ Ok events
+  pub holds : calls_of file ≡ Ok events
 
 -- the text of the lines of loading the page, and then of those of the events of the file
 pub record Replays (bytes file text : List ℕ) : Type 0 where

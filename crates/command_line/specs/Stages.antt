@@ -8,10 +8,10 @@ use Rattle.page_check.specs.Accept.{IsRefused}
 use Rattle.page_check.specs.declared.page.Refusal.{Refusal}
 use Rattle.page_check.specs.declared.page.Refusal.TheVariants.{NotBuilt}
 use Rattle.js_values.specs.declared.event.Event.{Event}
+use Rattle.event_file.specs.Events.{calls_of}
 use Rattle.command_line.specs.declared.status.Status.{Status}
 use Rattle.command_line.specs.declared.status.Status.TheVariants.{Ok, PageRefused, Usage, EventsRefused, ReadFault, WriteFault, OutOfMemory}
 use Rattle.command_line.specs.Page.{page_limit, event_file_limit, Page, Accepts, IsBuilt, IsNotBuilt}
-use Rattle.command_line.specs.Events.{events_of}
 use Rattle.command_line.specs.Command.{Command, check, session, files_of}
 use Rattle.command_line.specs.Replay.{IsEventFile}
 
@@ -45,9 +45,9 @@ pub record ReadFailed (name : List ℕ) (seen : Seen) : Type 0 where
   pub rose : Rose seen.files_before.faults seen.files_now.faults
   pub named : seen.files_now.failed ≡ Some name
 
--- the file is too long, or it is not and holds no list of events
+-- the file is too long, or it is not and holds no list of calls
 abbrev pub IsNoEventFile : List ℕ → ℕ → Type 0
-IsNoEventFile file i = ((event_file_limit < length file) × (i ≡ 0)) ⊎ ((length file ≤ event_file_limit) × (events_of file ≡ Err i))
+IsNoEventFile file i = ((event_file_limit < length file) × (i ≡ 0)) ⊎ ((length file ≤ event_file_limit) × (calls_of file ≡ Err i))
 
 -- What a command does in turn.
 pub data Stage : Type 0 where

@@ -3,7 +3,6 @@
 
 mod check;
 mod command;
-mod events;
 mod laws;
 mod notes;
 mod program;
@@ -14,7 +13,6 @@ mod status;
 mod work;
 
 pub use command::{Command, Work};
-pub use events::EventFault;
 pub use laws::law_one_ending;
 pub use notes::write_note;
 pub use program::run;

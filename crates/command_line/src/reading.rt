@@ -9,8 +9,8 @@ ghost use Rattle.command_line.specs.Reading.{StopsAtPage, StopsAtEvents, CountsR
 ghost use Rattle.command_line.specs.Replay.{IsEventFile};
 ghost use Rattle.command_line.specs.Stages.{Of};
 
-use crate::events::{EventFault, events};
 use crate::status::Status;
+use event_file::{EventFault, calls};
 use first_scripts::first::is_first;
 use js_core::limits::{EVENT_FILE_LIMIT, PAGE_LIMIT};
 use js_core::memory::OutOfMemory;
@@ -79,7 +79,7 @@ pub fn read_script<F: Files>(alloc: Global, files: &mut F, name: &str) -> Result
     }
 }
 
-/// Reads an event file.
+/// Reads an event file of calls: an item of another kind is no event, since first pages have nothing for it to act on.
 pub fn read_events<F: Files>(alloc: Global, files: &mut F, name: &str) -> Result<Vec<Event>, Status>
     ensures ok { IfOk result (λ list. Of ((F.seen files.old).content name.now)
         (λ file. IsEventFile file list.items)) }
@@ -94,7 +94,7 @@ pub fn read_events<F: Files>(alloc: Global, files: &mut F, name: &str) -> Result
         Err(ReadFault::TooLong) => return Err(Status::EventsRefused(0)),
         Err(ReadFault::OutOfMemory) => return Err(Status::OutOfMemory),
     };
-    match events(alloc, &bytes) {
+    match calls(alloc, &bytes) {
         Ok(list) => Ok(list),
         Err(EventFault::NotEvents(number)) => Err(Status::EventsRefused(number)),
         Err(EventFault::OutOfMemory) => Err(Status::OutOfMemory),
