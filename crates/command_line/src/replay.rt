@@ -7,7 +7,7 @@ ghost use Rattle.js_machine.specs.Run.{run_of, lines_of_run};
 
 use js_core::memory::OutOfMemory;
 use js_core::syntax::Script;
-use js_machine::first::{First, load_first};
+use js_machine::{First, load_first};
 use js_values::event::Event;
 use js_values::line::Line;
 use std::alloc::Global;

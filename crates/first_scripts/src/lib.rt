@@ -3,7 +3,7 @@
 
 pub mod first;
 mod letters;
-pub mod name_form;
+mod name_form;
 mod name_table;
 mod name_use;
 mod shapes;

@@ -1,13 +1,18 @@
 //! What a page does: the meaning of scripts and host events, and the machine that runs them.
 #![tactic(auto)]
 
-pub mod cell;
-pub mod codes;
-pub mod deed;
-pub mod entry;
-pub mod expressions;
-pub mod first;
-pub mod globals;
-pub mod machine;
-pub mod numbers;
-pub mod saving;
+mod cell;
+mod codes;
+mod deed;
+mod entry;
+mod expressions;
+mod first;
+mod globals;
+mod machine;
+mod numbers;
+mod saving;
+
+pub use cell::Cell;
+pub use codes::Codes;
+pub use first::{First, law_lines_grow, load_first};
+pub use saving::a_saved_script_goes_on;
