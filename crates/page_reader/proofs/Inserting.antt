@@ -1,5 +1,5 @@
 -- A node without children is put under one without a fault.
-use Rattle.std.proofs.Common.{◌≡◌, ◌∙◌, ℕ, zero, suc, ◌+◌, ◌<◌, ◌||◌, ◌&&◌, Bool, true, false, not, cond, List, [], ◌∷◌, ◌++◌, length, refl, sym, ap, subst, Option, Some, None, is_some, Result, Ok, Err, nat_eq, arith, set, length-append, take, get_or, Bor}
+use Rattle.std.proofs.Common.{◌≡◌, ◌∙◌, ℕ, zero, suc, ◌+◌, ◌<◌, ◌||◌, ◌&&◌, Bool, true, false, not, cond, [], ◌∷◌, ◌++◌, length, refl, sym, ap, subst, Option, Some, None, is_some, Result, Ok, Err, nat_eq, arith, set, length-append, take, get_or, Bor}
 use Rattle.std.proofs.lemmas.List.{take_more}
 use Rattle.std.proofs.Math.ListN.{get_or-append}
 use Rattle.std.specs.Option.{option_copied}
@@ -16,12 +16,12 @@ use Rattle.dom_tree.specs.declared.fault.DomFault.TheVariants.{Hierarchy}
 use Rattle.dom_tree.specs.Attributes.{Pairs, value_of}
 use Rattle.dom_tree.specs.Change.{Answers, breaks_hierarchy, inserted, insertion_fault, is_above, is_above_within, is_misplaced, of_parent}
 use Rattle.dom_tree.specs.Content.{new_content, with_attribute}
-use Rattle.dom_tree.specs.Laws.{Inserts, OthersStay}
+use Rattle.dom_tree.specs.Laws.{OthersStay}
 use Rattle.dom_tree.specs.Name.{folded}
 use Rattle.dom_tree.specs.Node.{Node, Nodes, children_at, document_alone, has, is_document, is_element, is_text, is_this, kind_at, may_have_children, no_node, node_at, parent_at, with_content, with_new}
 use Rattle.dom_tree.specs.Sound.{AreTrees, IsSound}
 use Rattle.page_tokens.specs.declared.token.Tag.{Tag}
-use Rattle.page_reader.specs.Forest.{appended, element_content, next_id, with_all, with_first}
+use Rattle.page_reader.specs.Forest.{appended, element_content, with_all, with_first}
 use Rattle.page_reader.specs.Reading.{KeepsElements}
 
 -- Nodes of a longer list

@@ -1,4 +1,9 @@
 pub mod Named
+pub mod FromBytes
 pub mod Inserting
+pub mod OnePage
+pub mod OneReading
+pub mod Passing
+pub mod Sizes
 pub mod Steps
 pub mod Whole

@@ -1,5 +1,5 @@
 -- Attributes, as far as they were read.
-use Rattle.std.proofs.Common.{◌≡◌, refl, sym, ap, ◌∙◌, ℕ, suc, ◌+◌, ◌<◌, true, false, List, [], ◌∷◌, ◌++◌, Some, length, slice_index_or, take, drop, bytes_eq, add-one}
+use Rattle.std.proofs.Common.{◌≡◌, refl, sym, ap, ◌∙◌, ℕ, suc, ◌+◌, ◌<◌, true, false, ◌∷◌, Some, length, slice_index_or, drop, bytes_eq, add-one}
 use Rattle.std.proofs.Math.Seq.{drop-cons}
 use Rattle.js_core.specs.Text.{Text}
 use Rattle.dom_tree.specs.Attributes.{Pairs, value_of}

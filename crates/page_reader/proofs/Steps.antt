@@ -1,6 +1,5 @@
 -- What a token does to what is pending.
 use Rattle.std.proofs.Common.{◌≡◌, ◌∙◌, Bool, true, false, List, [], ◌∷◌, ◌++◌, reverse, refl, sym, ap, subst, Option, Some, None, append_assoc, bytes_eq, length, arith}
-use Rattle.std.specs.List.{list_all}
 use Rattle.std.specs.Option.{ForSome}
 use Rattle.std.proofs.lemmas.List.{reverse-append}
 use Rattle.std.proofs.lemmas.Slice.Eq.{bytes_eq-Decides}
@@ -14,7 +13,7 @@ use Rattle.page_tokens.specs.declared.token.Tag.{Tag}
 use Rattle.page_reader.specs.declared.tree.Frame.{Frame}
 use Rattle.page_reader.specs.Forest.{Forest, appended, element_content, grown, joined, next_id}
 use Rattle.page_reader.specs.Forest.Forest.{no_trees, element, text, comment}
-use Rattle.page_reader.specs.Pages.{Content, Part, is_outside, part_of}
+use Rattle.page_reader.specs.Pages.{Content, Part, part_of}
 use Rattle.page_reader.specs.Pages.Content.{ended, alone, nested}
 use Rattle.page_reader.specs.Pages.Part.{whole, opens, misplaced}
 use Rattle.page_reader.specs.Reading.{AreOpen, Follows, KeepsElements, Pending, Placed, left, opened_on}
@@ -35,18 +34,18 @@ moved : (st : List Frame) (ts : List PageToken) (t t' u : Nodes) (sc sc' s : Lis
 moved st ts t t' u sc sc' s e f p = subst (λ x. Pending st ts t' x u s) f (subst (λ x. Pending st ts x sc u s) e p)
 
 -- the part of an end tag
-no_part : (name other : Text) → part_of name (EndTag other) ≡ misplaced
+pub no_part : (name other : Text) → part_of name (EndTag other) ≡ misplaced
 unfolding part_of
 no_part name other = refl
 
 -- How content begins
 
-data Head (name : Text) (t : PageToken) (ts behind : List PageToken) : Forest → List RawText → Type 0 where
+pub data Head (name : Text) (t : PageToken) (ts behind : List PageToken) : Forest → List RawText → Type 0 where
   at_end : t ≡ EndTag name → ts ≡ behind → Head name t ts behind no_trees []
   at_whole : (trees f : Forest) (s s' : List RawText) → part_of name t ≡ whole trees s → Content name ts behind f s' → Head name t ts behind (joined trees f) (s ++ s')
   at_start : (tag : Tag) (rest : List PageToken) (inner f : Forest) (s s' : List RawText) → part_of name t ≡ opens tag → Content tag.name ts rest inner s → Content name rest behind f s' → Head name t ts behind (element tag inner f) (s ++ s')
 
-head : (name : Text) (t : PageToken) (ts all behind : List PageToken) (f : Forest) (s : List RawText) → all ≡ t ∷ ts → Content name all behind f s → Head name t ts behind f s
+pub head : (name : Text) (t : PageToken) (ts all behind : List PageToken) (f : Forest) (s : List RawText) → all ≡ t ∷ ts → Content name all behind f s → Head name t ts behind f s
 head name t ts all behind f s e (ended n b) = let same : EndTag n ≡ t = cc in let rest : b ≡ ts = cc in at_end (sym same) (sym rest)
 head name t ts all behind f s e (alone n t' ts' b trees g r r' p c) =
     let same : t' ≡ t = cc in let rest : ts' ≡ ts = cc in

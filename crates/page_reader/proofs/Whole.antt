@@ -1,7 +1,6 @@
 -- What is pending behind the start tag of `html`.
-use Rattle.std.proofs.Common.{◌≡◌, ◌∙◌, Bool, true, false, ◌&&◌, cond, List, [], ◌∷◌, ◌++◌, length, refl, sym, ap, subst, Option, Some, None, arith}
+use Rattle.std.proofs.Common.{◌≡◌, ◌∙◌, Bool, true, false, ◌&&◌, cond, List, [], ◌∷◌, ◌++◌, length, refl, sym, ap, subst, Some, None, arith}
 use Rattle.std.specs.List.{list_all}
-use Rattle.js_core.specs.Text.{Text}
 use Rattle.js_values.specs.declared.ids.NodeId.{NodeId}
 use Rattle.dom_tree.specs.Node.{Nodes, document_alone}
 use Rattle.page_tokens.specs.declared.token.PageToken.{PageToken}
@@ -11,12 +10,12 @@ use Rattle.page_tokens.specs.declared.token.RawText.{RawText}
 use Rattle.page_tokens.specs.declared.token.Tag.{Tag}
 use Rattle.page_reader.specs.declared.tree.Frame.{Frame}
 use Rattle.page_reader.specs.Elements.{is_allowed}
-use Rattle.page_reader.specs.Forest.{Forest, appended, element_content, grown, next_id}
+use Rattle.page_reader.specs.Forest.{appended, element_content, grown, next_id}
 use Rattle.page_reader.specs.Pages.{Content, IsPage, PageOf, behind_prolog, is_html, is_outside}
 use Rattle.page_reader.specs.Pages.PageOf.{page}
 use Rattle.page_reader.specs.Reading.{Follows, Pending, html_tag}
 use Rattle.page_reader.specs.Reading.Pending.{outside, inside}
-use Rattle.page_reader.proofs.Steps.{Inner, inner}
+use Rattle.page_reader.proofs.Steps.{inner}
 
 abbrev pub root : NodeId
 root = record { 0 = 0 }

@@ -1,5 +1,5 @@
 -- Which tags a page may have.
-use Rattle.std.specs.Prelude.{ℕ, Bool, true, false, not, ◌||◌, ◌&&◌, ◌==◌, List, [], ◌∷◌, Option, Some, None, bytes_eq, codes, is_none}
+use Rattle.std.specs.Prelude.{Bool, true, false, not, ◌||◌, ◌&&◌, ◌==◌, List, [], ◌∷◌, Option, Some, None, bytes_eq, codes, is_none}
 use Rattle.std.specs.List.{list_all, list_any}
 use Rattle.js_core.specs.Text.{Text}
 use Rattle.dom_tree.specs.Attributes.{Pairs, value_of}

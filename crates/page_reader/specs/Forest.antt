@@ -1,5 +1,5 @@
 -- The trees of a page, and the nodes that they become.
-use Rattle.std.specs.Prelude.{ℕ, List, [], ◌∷◌, ◌++◌, Option, Some, None, length, is_some, if◌then◌else◌}
+use Rattle.std.specs.Prelude.{[], ◌∷◌, None, length, is_some, if◌then◌else◌}
 use Rattle.js_core.specs.Text.{Text}
 use Rattle.js_values.specs.declared.ids.NodeId.{NodeId}
 use Rattle.dom_tree.specs.declared.content.Content.{Content}

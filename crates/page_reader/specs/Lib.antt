@@ -1,4 +1,6 @@
+pub mod Bytes
 pub mod Elements
 pub mod Forest
 pub mod Pages
 pub mod Reading
+pub mod Text

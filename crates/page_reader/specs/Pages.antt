@@ -1,8 +1,7 @@
 -- The grammar of pages over their tokens.
-use Rattle.std.specs.Prelude.{◌≡◌, ℕ, Bool, true, false, ◌&&◌, List, [], ◌∷◌, ◌++◌, bytes_eq, codes, if◌then◌else◌}
+use Rattle.std.specs.Prelude.{◌≡◌, Bool, true, false, ◌&&◌, List, [], ◌∷◌, ◌++◌, bytes_eq, codes, if◌then◌else◌}
 use Rattle.std.specs.List.{list_all}
 use Rattle.js_core.specs.Text.{Text}
-use Rattle.js_values.specs.declared.ids.NodeId.{NodeId}
 use Rattle.dom_tree.specs.DomText.{is_void}
 use Rattle.dom_tree.specs.Node.{Nodes, document_alone}
 use Rattle.page_tokens.specs.declared.token.PageToken.{PageToken}

@@ -11,7 +11,7 @@ use Rattle.page_reader.specs.declared.tree.Frame.{Frame}
 use Rattle.page_reader.specs.Elements.{is_allowed}
 use Rattle.page_reader.specs.Forest.{Forest, appended, element_content, grown, next_id}
 use Rattle.page_reader.specs.Pages.{Content, Part, is_html, is_outside}
-use Rattle.page_reader.specs.Pages.Part.{whole, opens, misplaced}
+use Rattle.page_reader.specs.Pages.Part.{whole, opens}
 
 -- what a token made of the nodes and the scripts, and the element that it opened
 abbrev pub Placed : Part → NodeId → Nodes → List RawText → Nodes → List RawText → Option Frame → Type 0

@@ -5,10 +5,51 @@ ghost use Rattle.std.specs.Prelude.{◌≡◌};
 use js_core::memory::OutOfMemory;
 use std::alloc::{AllocError, AllocFailed};
 
-/// Why something is no page.
+/// Why tokens are no page.
+#[derive(Clone, Copy, Debug, PartialEq, Eq)]
+pub enum TreeFault {
+    /// They have no reading.
+    NotPage,
+    /// Memory ran out.
+    OutOfMemory,
+}
+
+impl From<OutOfMemory> for TreeFault {
+    ghost use Rattle.page_reader.specs.declared.fault.TreeFault.TheVariants.{OutOfMemory as WantOfMemory};
+
+    ghost from_gives = { λ _ e. e ≡ WantOfMemory };
+
+    fn from(_: OutOfMemory) -> TreeFault {
+        TreeFault::OutOfMemory
+    }
+}
+
+impl From<AllocError> for TreeFault {
+    ghost use Rattle.page_reader.specs.declared.fault.TreeFault.TheVariants.{OutOfMemory as WantOfMemory};
+
+    ghost from_gives = { λ _ e. e ≡ WantOfMemory };
+
+    fn from(_: AllocError) -> TreeFault {
+        TreeFault::OutOfMemory
+    }
+}
+
+impl<T: Drop> From<AllocFailed<T>> for TreeFault {
+    ghost use Rattle.page_reader.specs.declared.fault.TreeFault.TheVariants.{OutOfMemory as WantOfMemory};
+
+    ghost from_gives = { λ _ e. e ≡ WantOfMemory };
+
+    fn from(_: AllocFailed<T>) -> TreeFault {
+        TreeFault::OutOfMemory
+    }
+}
+
+/// Why bytes are no page.
 #[derive(Clone, Copy, Debug, PartialEq, Eq)]
 pub enum PageFault {
-    /// It has no reading.
+    /// They are no UTF-8.
+    NotUtf8,
+    /// They are UTF-8 that is no page.
     NotPage,
     /// Memory ran out.
     OutOfMemory,
@@ -20,26 +61,6 @@ impl From<OutOfMemory> for PageFault {
     ghost from_gives = { λ _ e. e ≡ WantOfMemory };
 
     fn from(_: OutOfMemory) -> PageFault {
-        PageFault::OutOfMemory
-    }
-}
-
-impl From<AllocError> for PageFault {
-    ghost use Rattle.page_reader.specs.declared.fault.PageFault.TheVariants.{OutOfMemory as WantOfMemory};
-
-    ghost from_gives = { λ _ e. e ≡ WantOfMemory };
-
-    fn from(_: AllocError) -> PageFault {
-        PageFault::OutOfMemory
-    }
-}
-
-impl<T: Drop> From<AllocFailed<T>> for PageFault {
-    ghost use Rattle.page_reader.specs.declared.fault.PageFault.TheVariants.{OutOfMemory as WantOfMemory};
-
-    ghost from_gives = { λ _ e. e ≡ WantOfMemory };
-
-    fn from(_: AllocFailed<T>) -> PageFault {
         PageFault::OutOfMemory
     }
 }

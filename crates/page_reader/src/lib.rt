@@ -3,10 +3,18 @@
 
 mod elements;
 mod fault;
+mod laws;
 mod nodes;
+mod page;
+mod places;
+mod reader;
 #[cfg(test)]
 mod tests;
+mod text;
 mod tree;
 
-pub use fault::PageFault;
+pub use fault::{PageFault, TreeFault};
+pub use laws::{law_one_page, law_one_reading};
+pub use page::{Page, ScriptText};
+pub use reader::read_page;
 pub use tree::page_of_tokens;

@@ -1,5 +1,8 @@
 //! Whole texts and the pages that they are.
 
+use crate::fault::PageFault;
+use crate::page::ScriptText;
+use crate::reader::read_page;
 use crate::tree::page_of_tokens;
 use js_core::units::Units;
 use js_values::ids::NodeId;
@@ -98,4 +101,67 @@ fn refuses_what_is_no_page(rt: HostRuntime) -> Result<(), Fail> {
         ("<html><script/></html>", "-"),
     ];
     shows(&rt, &cases)
+}
+
+/// The text of the document and the scripts' texts, each behind `;` and before its bytes in the file, behind `@`; `-` where the
+/// bytes are no page, `?` where they are no UTF-8.
+fn shown_bytes(alloc: Global, bytes: &[u8]) -> Result<Vec<u16>, Fail> {
+    let mut out = Vec::new(alloc);
+    match read_page(alloc, bytes) {
+        Err(PageFault::NotUtf8) => out.push(u16::from(b'?'))?,
+        Err(_) => out.push(u16::from(b'-'))?,
+        Ok(page) => {
+            page.dom.dom_text(NodeId(0), &mut out)?;
+            push_places(&mut out, bytes, page.scripts.as_slice())?;
+        }
+    }
+    Ok(out)
+}
+
+fn push_places(out: &mut Vec<u16>, bytes: &[u8], scripts: &[ScriptText]) -> Result<(), Fail> {
+    for script in scripts {
+        out.push(u16::from(b';'))?;
+        out.extend_from_slice(script.text.as_slice())?;
+        out.push(u16::from(b'@'))?;
+        let bytes = bytes
+            .get(script.start as usize..script.end as usize)
+            .unwrap_or(b"none");
+        for byte in bytes {
+            out.push(u16::from(*byte))?;
+        }
+    }
+    Ok(())
+}
+
+fn reads(rt: &(impl Abort + AllocGlobal), cases: &[(&[u8], &str)]) -> Result<(), Fail> {
+    for (bytes, expected) in cases {
+        let found = shown_bytes(rt.alloc(), *bytes)?;
+        let wanted = Units::from_utf8(rt.alloc(), *expected)?;
+        assert_eq!(rt; found.as_slice(), wanted.as_slice(), "{expected}");
+    }
+    Ok(())
+}
+
+#[test]
+fn reads_bytes(rt: HostRuntime) -> Result<(), Fail> {
+    let cases: [(&[u8], &str); 8] = [
+        (b"<html></html>\r\n", "<html></html>"),
+        (b"\xef\xbb\xbf<html></html>", "<html></html>"),
+        (b"\xef\xbb\xbf\xef\xbb\xbf<html></html>", "-"),
+        (b"<html>\0</html>", "-"),
+        (b"<html>\xff</html>", "?"),
+        (
+            b"<html><p>a\r\nb\rc\r\r\n</p></html>",
+            "<html><p>a\nb\nc\n\n</p></html>",
+        ),
+        (
+            b"<html><p>\xc3\xa9\xe2\x82\xac\xf0\x9f\x98\x80</p>\r\n<script>\r\na\r</script></html>",
+            "<html><p>\u{e9}\u{20ac}\u{1f600}</p><script></script></html>;\na\n@\r\na\r",
+        ),
+        (
+            b"\xef\xbb\xbf\r\n<html><script></script>\r<script>\n</script></html>",
+            "<html><script></script><script></script></html>;@;\n@\n",
+        ),
+    ];
+    reads(&rt, &cases)
 }

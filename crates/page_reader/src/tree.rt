@@ -15,7 +15,7 @@ ghost use Rattle.page_reader.specs.Reading.{AreOpen, Follows, KeepsElements, Pen
 ghost use Rattle.page_tokens.specs.Characters.{is_space as space_spec};
 
 use crate::elements::{is_allowed, is_script};
-use crate::fault::PageFault;
+use crate::fault::TreeFault;
 use crate::nodes::{append_comment, append_element, append_root, append_text};
 use dom_tree::{Dom, is_void};
 use js_core::memory::OutOfMemory;
@@ -34,16 +34,16 @@ pub struct Frame {
 
 /// The nodes of the page that the tokens are, and its scripts in their order. `NotPage` where the tokens are no page. The open
 /// elements are kept in a list, so that nesting costs no depth.
-pub fn page_of_tokens(alloc: Global, tokens: &[PageToken]) -> Result<(Dom, Vec<RawText>), PageFault>
+pub fn page_of_tokens(alloc: Global, tokens: &[PageToken]) -> Result<(Dom, Vec<RawText>), TreeFault>
     ensures read { IfOk result (λ page. PageOf tokens.now page.0 page.1.items) }
-    ensures refused { IsErrOf result PageFault.NotPage
+    ensures refused { IsErrOf result TreeFault.NotPage
         → (nodes : Nodes) (scripts : List PureRawText) → PageOf tokens.now nodes scripts → ⊥ }
 {
     let Some((token, rest)) = behind_prolog(tokens).split_first() else {
-        return Err(PageFault::NotPage);
+        return Err(TreeFault::NotPage);
     };
     let Some(tag) = html_tag(token) else {
-        return Err(PageFault::NotPage);
+        return Err(TreeFault::NotPage);
     };
     let mut dom = Dom::new(alloc)?;
     let mut scripts = Vec::new(alloc);
@@ -53,7 +53,7 @@ pub fn page_of_tokens(alloc: Global, tokens: &[PageToken]) -> Result<(Dom, Vec<R
     if are_outside(behind) {
         Ok((dom, scripts))
     } else {
-        Err(PageFault::NotPage)
+        Err(TreeFault::NotPage)
     }
 }
 
@@ -113,11 +113,11 @@ fn content<'a>(
     scripts: &mut Vec<RawText>,
     html: Frame,
     tokens: &'a [PageToken],
-) -> Result<&'a [PageToken], PageFault>
+) -> Result<&'a [PageToken], TreeFault>
     requires { is_element (kind_at dom.old html.node.0) ≡ true }
     ensures read { IfOk result (λ rest. Follows
         (html ∷ []) tokens.now dom.old scripts.old.items [] rest.now dom.new scripts.new.items) }
-    ensures refused { IsErrOf result PageFault.NotPage → (nodes : Nodes) (all : List PureRawText)
+    ensures refused { IsErrOf result TreeFault.NotPage → (nodes : Nodes) (all : List PureRawText)
         → Pending (html ∷ []) tokens.now dom.old scripts.old.items nodes all → ⊥ }
 {
     let mut top = html;
@@ -129,7 +129,7 @@ fn content<'a>(
         }
         rest = behind;
     }
-    Err(PageFault::NotPage)
+    Err(TreeFault::NotPage)
 }
 
 /// Reads a token in the open elements, and answers whether it ended the last of them.
@@ -140,14 +140,14 @@ fn step(
     top: &mut Frame,
     below: &mut Vec<Frame>,
     token: &PageToken,
-) -> Result<bool, PageFault>
+) -> Result<bool, TreeFault>
     requires { AreOpen dom.old (top.old ∷ reverse below.old.items) }
     ensures read { IfOk result (λ ended. (ts : List PureToken)
         → Follows (top.old ∷ reverse below.old.items) (token.now ∷ ts) dom.old scripts.old.items
         (reading.left ended top.new below.new.items) ts dom.new scripts.new.items) }
     ensures open { IfOk result (λ ended. AreOpen dom.new
         (reading.left ended top.new below.new.items)) }
-    ensures refused { IsErrOf result PageFault.NotPage
+    ensures refused { IsErrOf result TreeFault.NotPage
         → (ts : List PureToken) (nodes : Nodes) (all : List PureRawText)
         → Pending (top.old ∷ reverse below.old.items)
         (token.now ∷ ts) dom.old scripts.old.items nodes all → ⊥ }
@@ -155,7 +155,7 @@ fn step(
     if let PageToken::EndTag(name) = token {
         return match close(top, below, name) {
             Some(ended) => Ok(ended),
-            None => Err(PageFault::NotPage),
+            None => Err(TreeFault::NotPage),
         };
     }
     let opened = place(alloc, dom, scripts, top, token)?;
@@ -206,7 +206,7 @@ fn place(
     scripts: &mut Vec<RawText>,
     parent: &Frame,
     token: &PageToken,
-) -> Result<Option<Frame>, PageFault>
+) -> Result<Option<Frame>, TreeFault>
     requires { is_element (kind_at dom.old parent.now.node.0) ≡ true }
     ensures placed { IfOk result (λ frame. Placed
         (part_of parent.now.name token.now) parent.now.node dom.old scripts.old.items dom.new
@@ -214,7 +214,7 @@ fn place(
     ensures open { IfOk result (λ frame. ForSome frame
         (λ f. is_element (kind_at dom.new f.node.0) ≡ true)) }
     ensures kept { OnOk result (KeepsElements dom.old dom.new) }
-    ensures refused { IsErrOf result PageFault.NotPage
+    ensures refused { IsErrOf result TreeFault.NotPage
         → part_of parent.now.name token.now ≡ spec.Part.misplaced }
 {
     match token {
@@ -231,7 +231,7 @@ fn place(
             place_raw(alloc, dom, scripts, parent, tag, raw)?;
             Ok(None)
         }
-        _ => Err(PageFault::NotPage),
+        _ => Err(TreeFault::NotPage),
     }
 }
 

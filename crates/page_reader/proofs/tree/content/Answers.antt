@@ -1,5 +1,5 @@
-use Rattle.std.proofs.Common.{rules, arith}
-use Rattle.page_reader.proofs.Steps.{ends_html, follows_same, open_in_html, refused_at_end, refused_by, stays_in_html}
+use Rattle.std.proofs.Common.{rules}
+use Rattle.page_reader.proofs.Steps.{ends_html, open_in_html, refused_at_end, refused_by, stays_in_html}
 use Rattle.page_reader.proofs.tree.content.Goals as goal
 
 pub returns-then-branch-clause-read : goal.returns-then-branch-clause-read

@@ -1,5 +1,5 @@
-use Rattle.std.proofs.Common.{◌∙◌, refl, rules, sym}
-use Rattle.page_reader.proofs.Whole.{Begun, no_html, no_token, page_read, page_refused, page_unfinished}
+use Rattle.std.proofs.Common.{◌∙◌, rules, sym}
+use Rattle.page_reader.proofs.Whole.{Begun, page_read, page_refused, page_unfinished}
 use Rattle.page_reader.proofs.tree.page_of_tokens.Goals as goal
 
 pub returns-then-are_outside-clause-read : goal.returns-then-are_outside-clause-read

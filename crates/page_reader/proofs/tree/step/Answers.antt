@@ -1,5 +1,4 @@
-use Rattle.std.proofs.Common.{rules, subst, sym}
-use Rattle.page_reader.specs.Reading.{AreOpen}
+use Rattle.std.proofs.Common.{rules}
 use Rattle.page_reader.proofs.Steps.{closes, no_closes, no_place, places, stays_open}
 use Rattle.page_reader.proofs.tree.step.Goals as goal
 

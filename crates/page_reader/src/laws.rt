@@ -1,0 +1,28 @@
+//! What holds of all tokens and their pages.
+
+ghost use Rattle.std.specs.Prelude.{◌≡◌, ℕ, List};
+ghost use Rattle.dom_tree.specs.Node.{Nodes};
+ghost use Rattle.page_tokens.specs.declared.token.PageToken.{PageToken as PureToken};
+ghost use Rattle.page_tokens.specs.declared.token.RawText.{RawText as PureRawText};
+ghost use Rattle.page_reader.specs.declared.page.ScriptText.{ScriptText as PureScript};
+ghost use Rattle.page_reader.specs.Bytes.{IsPageOf, IsTextPage};
+ghost use Rattle.page_reader.specs.Pages.{PageOf};
+
+/// No tokens are two pages.
+pub fn law_one_page()
+    ensures { (tokens : List PureToken) (left right : Nodes) (first second : List PureRawText)
+        → PageOf tokens left first → PageOf tokens right second
+        → (left ≡ right) × (first ≡ second) }
+{}
+
+/// No text and no bytes have two readings.
+pub fn law_one_reading()
+    ensures texts { (text : List ℕ) (left right : Nodes) (first second : List PureRawText)
+        → IsTextPage text left first → IsTextPage text right second
+        → (left ≡ right) × (first ≡ second) }
+    ensures bytes { (bytes : List ℕ) (left right : Nodes) (first second : List PureScript)
+        → IsPageOf bytes left first → IsPageOf bytes right second
+        → (left ≡ right) × (first ≡ second) }
+{
+    page_tokens::law_one_reading();
+}
