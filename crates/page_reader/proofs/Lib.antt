@@ -1,6 +1,8 @@
 pub mod Named
 pub mod FromBytes
+pub mod Fronts
 pub mod Inserting
+pub mod Longer
 pub mod OnePage
 pub mod OneReading
 pub mod Passing

@@ -1,6 +1,7 @@
 pub mod Bytes
 pub mod Elements
 pub mod Forest
+pub mod Laws
 pub mod Pages
 pub mod Reading
 pub mod Text

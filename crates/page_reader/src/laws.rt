@@ -1,11 +1,12 @@
 //! What holds of all tokens and their pages.
 
-ghost use Rattle.std.specs.Prelude.{◌≡◌, ℕ, List};
+ghost use Rattle.std.specs.Prelude.{◌≡◌, ◌++◌, ℕ, List};
 ghost use Rattle.dom_tree.specs.Node.{Nodes};
 ghost use Rattle.page_tokens.specs.declared.token.PageToken.{PageToken as PureToken};
 ghost use Rattle.page_tokens.specs.declared.token.RawText.{RawText as PureRawText};
 ghost use Rattle.page_reader.specs.declared.page.ScriptText.{ScriptText as PureScript};
 ghost use Rattle.page_reader.specs.Bytes.{IsPageOf, IsTextPage};
+ghost use Rattle.page_reader.specs.Laws.{GoesOn};
 ghost use Rattle.page_reader.specs.Pages.{PageOf};
 
 /// No tokens are two pages.
@@ -26,3 +27,11 @@ pub fn law_one_reading()
 {
     page_tokens::law_one_reading();
 }
+
+/// Where a page goes on as another page, both have the same nodes and scripts, and what stands behind the first is white space and
+/// comments. So a page that is cut off before the end tag of `html` ends is no page.
+pub fn law_fronts()
+    ensures { (text more : List ℕ) (left right : Nodes) (first second : List PureRawText)
+        → IsTextPage text left first → IsTextPage (text ++ more) right second
+        → GoesOn more left right first second }
+{}

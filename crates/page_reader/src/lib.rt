@@ -14,7 +14,7 @@ mod text;
 mod tree;
 
 pub use fault::{PageFault, TreeFault};
-pub use laws::{law_one_page, law_one_reading};
+pub use laws::{law_fronts, law_one_page, law_one_reading};
 pub use page::{Page, ScriptText};
 pub use reader::read_page;
 pub use tree::page_of_tokens;

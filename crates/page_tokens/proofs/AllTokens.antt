@@ -7,12 +7,12 @@ use Rattle.page_tokens.proofs.Decoding.{append_none, is_empty}
 use Rattle.page_tokens.proofs.OneToken.{token_once, nothing_at_end}
 
 -- behind a token stand the others
-record Rest (size : ℕ) (behind : List ℕ) (token : PageToken) (all : List PageToken) : Type 0 where
-  others : List PageToken
-  tokens : TokensOf size behind others
-  is : all ≡ token ∷ others
+pub record Rest (size : ℕ) (behind : List ℕ) (token : PageToken) (all : List PageToken) : Type 0 where
+  pub others : List PageToken
+  pub tokens : TokensOf size behind others
+  pub is : all ≡ token ∷ others
 
-behind_token : (size : ℕ) (text behind : List ℕ) (token : PageToken) (all : List PageToken) → TokenAt size text behind token → TokensOf size text all → Rest size behind token all
+pub behind_token : (size : ℕ) (text behind : List ℕ) (token : PageToken) (all : List PageToken) → TokenAt size text behind token → TokensOf size text all → Rest size behind token all
 behind_token size text behind token all at none = absurd (nothing_at_end size behind token at)
 behind_token size text behind token all at (more t r w ts a rest) =
     let one = token_once size t r behind w token a at in

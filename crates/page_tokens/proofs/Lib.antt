@@ -1,6 +1,13 @@
 pub mod AllTokens
+pub mod AttributesStay
+pub mod Callers
 pub mod Decoding
 pub mod Digits
 pub mod Listing
 pub mod OneToken
 pub mod Pairs
+pub mod RawStay
+pub mod Runs
+pub mod Shapes
+pub mod Staying
+pub mod TagsStay

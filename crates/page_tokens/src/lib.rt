@@ -14,6 +14,6 @@ mod token;
 mod tokens;
 
 pub use fault::TokenFault;
-pub use laws::law_one_reading;
+pub use laws::{law_one_reading, law_tokens_stay};
 pub use token::{AttributeList, PageToken, RawText, Tag};
 pub use tokens::tokens_of;
