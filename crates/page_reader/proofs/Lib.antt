@@ -1,4 +1,5 @@
 pub mod Named
+pub mod Cutting
 pub mod FromBytes
 pub mod Fronts
 pub mod Inserting
@@ -6,6 +7,9 @@ pub mod Longer
 pub mod OnePage
 pub mod OneReading
 pub mod Passing
+pub mod Renewing
+pub mod Swapped
 pub mod Sizes
 pub mod Steps
+pub mod Swapping
 pub mod Whole

@@ -17,7 +17,7 @@ is_zero n e = grind (arith, nat_tests)
 is_some : (n : ℕ) → (n == 0) ≡ false → 0 < n
 is_some n e = grind (arith, nat_tests)
 
-not_zero : (n : ℕ) → 0 < n → (n == 0) ≡ false
+pub not_zero : (n : ℕ) → 0 < n → (n == 0) ≡ false
 not_zero n h = grind (arith, nat_tests)
 
 pub behind_more : (us : List ℕ) (n m : ℕ) → n ≤ m → units_behind (units_behind us n) (m - n) ≡ units_behind us m

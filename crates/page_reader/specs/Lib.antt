@@ -4,4 +4,5 @@ pub mod Forest
 pub mod Laws
 pub mod Pages
 pub mod Reading
+pub mod Replacing
 pub mod Text

@@ -1,6 +1,6 @@
 //! What holds of all tokens and their pages.
 
-ghost use Rattle.std.specs.Prelude.{◌≡◌, ◌++◌, ℕ, List};
+ghost use Rattle.std.specs.Prelude.{◌≡◌, ◌++◌, ℕ, List, drop, map};
 ghost use Rattle.dom_tree.specs.Node.{Nodes};
 ghost use Rattle.page_tokens.specs.declared.token.PageToken.{PageToken as PureToken};
 ghost use Rattle.page_tokens.specs.declared.token.RawText.{RawText as PureRawText};
@@ -8,6 +8,9 @@ ghost use Rattle.page_reader.specs.declared.page.ScriptText.{ScriptText as PureS
 ghost use Rattle.page_reader.specs.Bytes.{IsPageOf, IsTextPage};
 ghost use Rattle.page_reader.specs.Laws.{GoesOn};
 ghost use Rattle.page_reader.specs.Pages.{PageOf};
+ghost use Rattle.page_reader.specs.Replacing.{AreScriptBytes, IsReadAs, form_mark, replaced};
+ghost use Rattle.page_reader.specs.Text.{mark_size};
+ghost use Rattle.js_core.specs.Text.{utf16_of};
 
 /// No tokens are two pages.
 pub fn law_one_page()
@@ -34,4 +37,16 @@ pub fn law_fronts()
     ensures { (text more : List ℕ) (left right : Nodes) (first second : List PureRawText)
         → IsTextPage text left first → IsTextPage (text ++ more) right second
         → GoesOn more left right first second }
+{}
+
+/// Where the texts of scripts are replaced by as many bytes that may be a script's text, the new bytes are read as the same nodes with
+/// these texts, also behind the mark of a form page where a byte order mark is left out.
+pub fn law_replaced_scripts()
+    ensures read { (bytes : List ℕ) (nodes : Nodes) (scripts : List PureScript)
+        (texts : List (List ℕ)) → IsPageOf bytes nodes scripts → AreScriptBytes scripts texts
+        → IsReadAs (replaced bytes scripts texts) nodes (map utf16_of texts) }
+    ensures marked { (bytes : List ℕ) (nodes : Nodes) (scripts : List PureScript)
+        (texts : List (List ℕ)) → IsPageOf bytes nodes scripts → AreScriptBytes scripts texts
+        → IsReadAs (form_mark ++ drop (mark_size (utf16_of bytes)) (replaced bytes scripts texts))
+        nodes (map utf16_of texts) }
 {}

@@ -8,13 +8,15 @@ mod nodes;
 mod page;
 mod places;
 mod reader;
+mod replacing;
 #[cfg(test)]
 mod tests;
 mod text;
 mod tree;
 
 pub use fault::{PageFault, TreeFault};
-pub use laws::{law_fronts, law_one_page, law_one_reading};
+pub use laws::{law_fronts, law_one_page, law_one_reading, law_replaced_scripts};
 pub use page::{Page, ScriptText};
 pub use reader::read_page;
+pub use replacing::replace_scripts;
 pub use tree::page_of_tokens;

@@ -3,6 +3,7 @@
 use crate::fault::PageFault;
 use crate::page::ScriptText;
 use crate::reader::read_page;
+use crate::replacing::replace_scripts;
 use crate::tree::page_of_tokens;
 use js_core::units::Units;
 use js_values::ids::NodeId;
@@ -164,4 +165,41 @@ fn reads_bytes(rt: HostRuntime) -> Result<(), Fail> {
         ),
     ];
     reads(&rt, &cases)
+}
+
+fn replaces(
+    rt: &(impl Abort + AllocGlobal),
+    bytes: &[u8],
+    texts: &[&str],
+    expected: &[u8],
+) -> Result<(), Fail> {
+    let mut new = Vec::new(rt.alloc());
+    for text in texts {
+        let mut bytes = Vec::new(rt.alloc());
+        bytes.extend_from_slice(text.as_bytes())?;
+        new.push(bytes)?;
+    }
+    let mut out = Vec::new(rt.alloc());
+    match read_page(rt.alloc(), bytes) {
+        Ok(page) => replace_scripts(bytes, &page, new.as_slice(), &mut out)?,
+        Err(_) => out.push(b'-')?,
+    }
+    assert_eq!(rt; out.as_slice(), expected);
+    Ok(())
+}
+
+#[test]
+fn replaces_texts_of_scripts(rt: HostRuntime) -> Result<(), Fail> {
+    replaces(
+        &rt,
+        b"<html></html>\r\n",
+        [].as_slice(),
+        b"<html></html>\r\n",
+    )?;
+    replaces(
+        &rt,
+        b"\xef\xbb\xbf<html>\r\n<script>\r\na</script>\xc3\xa9<SCRIPT ></script \r></html>",
+        ["b", "\u{20ac}\n"].as_slice(),
+        b"\xef\xbb\xbf<html>\r\n<script>b</script>\xc3\xa9<SCRIPT >\xe2\x82\xac\n</script \r></html>",
+    )
 }

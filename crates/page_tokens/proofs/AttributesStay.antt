@@ -1,14 +1,12 @@
 -- Attributes where another text stands behind their tag.
-use Rattle.std.proofs.Common.{◌≡◌, ◌∙◌, ℕ, ◌==◌, ◌||◌, ◌&&◌, Bool, true, false, not, cond, List, [], ◌∷◌, ◌++◌, length, refl, sym, ap, subst, Option, Some, None, append_assoc, arith}
-use Rattle.std.proofs.lemmas.Bool.Decides.{nat_tests}
+use Rattle.std.proofs.Common.{◌≡◌, ◌∙◌, ℕ, ◌==◌, ◌||◌, ◌&&◌, Bool, true, false, not, cond, List, [], ◌∷◌, ◌++◌, refl, sym, ap, Option, Some, None, append_assoc}
 use Rattle.std.specs.List.{list_all}
-use Rattle.dom_tree.specs.Name.{folded, is_name_part, is_name_start}
+use Rattle.dom_tree.specs.Name.{is_name_part, is_name_start}
 use Rattle.page_tokens.specs.Attributes.{Attributes, Written, attribute_of, closed, named, valued, value_of, with_value}
 use Rattle.page_tokens.specs.Attributes.Attributes.{none, more}
 use Rattle.page_tokens.specs.Characters.{begins_with, behind, is_other, is_quote, is_space, is_value_part, run_of}
-use Rattle.page_tokens.specs.References.{Decodes}
 use Rattle.page_tokens.proofs.Pairs.{some_pair, some_triple}
-use Rattle.page_tokens.proofs.Runs.{HasOther, IsSplit, behind_other, begins_same, has_other, run_again, run_split, same_unit, some_but, unit_is}
+use Rattle.page_tokens.proofs.Runs.{IsSplit, behind_other, begins_same, has_other, run_again, run_split, same_unit, some_but, unit_is}
 
 -- Classes
 
@@ -323,10 +321,11 @@ pub record AttributesAt (us e rest : List ℕ) (all : List (List ℕ × List ℕ
   pub front : List ℕ
   pub whole : us ≡ front ++ rest
   pub solid : list_all is_space front ≡ false
+  pub tail : (g : List ℕ) × (front ≡ g ++ e)
   pub again : (other : List ℕ) → Attributes (front ++ other) (e ++ other) all
 
 pub attributes_at : (us end e rest : List ℕ) (all : List (List ℕ × List ℕ)) → Attributes us end all → end ≡ e ++ rest → list_all is_space e ≡ false → ((other : List ℕ) → attribute_of (e ++ other) ≡ None) → AttributesAt us e rest all
-attributes_at us end e rest all (none t f) w solid last = record { front = e; whole = w; solid = solid; again = λ other. none (e ++ other) (last other) }
+attributes_at us end e rest all (none t f) w solid last = record { front = e; whole = w; solid = solid; tail = ([], refl); again = λ other. none (e ++ other) (last other) }
 attributes_at us end e rest all (more t b r n raw v os f d a) w solid last =
     let inner = attributes_at b r e rest os a w solid last in
     let at = attribute_at t n raw inner.front rest (f ∙ ap (λ z. Some (n, raw, z)) inner.whole) inner.solid in
@@ -334,5 +333,6 @@ attributes_at us end e rest all (more t b r n raw v os f d a) w solid last =
       front = at.front ++ inner.front;
       whole = at.whole ∙ sym (append_assoc at.front inner.front rest);
       solid = some_but is_space at.front inner.front inner.solid;
+      tail = (at.front ++ inner.tail.0, ap (λ z. at.front ++ z) inner.tail.1 ∙ sym (append_assoc at.front inner.tail.0 e));
       again = λ other. more ((at.front ++ inner.front) ++ other) (inner.front ++ other) (e ++ other) n raw v os (ap attribute_of (append_assoc at.front inner.front other) ∙ at.again inner.front rest other refl inner.solid) d (inner.again other);
     }

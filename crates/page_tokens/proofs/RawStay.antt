@@ -1,11 +1,9 @@
 -- Comments and raw text where another text stands behind them.
-use Rattle.std.proofs.Common.{◌≡◌, ◌∙◌, ℕ, suc, ◌+◌, ◌≤◌, ◌<◌, ◌==◌, ◌&&◌, Bool, true, false, cond, List, [], ◌∷◌, ◌++◌, take, drop, length, refl, sym, ap, subst, Option, Some, None, append_assoc, length-append, length-drop, arith, codes}
-use Rattle.std.proofs.lemmas.Bool.Decides.{nat_tests}
+use Rattle.std.proofs.Common.{◌≡◌, ◌∙◌, ℕ, suc, ◌+◌, ◌≤◌, ◌<◌, ◌==◌, ◌&&◌, Bool, true, false, List, [], ◌∷◌, ◌++◌, take, drop, length, refl, sym, ap, subst, Option, Some, None, append_assoc, length-append, length-drop, arith, codes}
 use Rattle.std.proofs.lemmas.List.{drop-append-le, length-take-le, take-append-drop}
 use Rattle.std.proofs.Math.ListN.{drop_of_length-le}
 use Rattle.std.proofs.Math.Seq.{drop-append_seam}
 use Rattle.std.specs.Char.{to_ascii_lowercase}
-use Rattle.std.specs.List.{list_all}
 use Rattle.page_tokens.specs.Characters.{before, begins_with, from, is_front, is_front_in_any_case, is_space, place_of}
 use Rattle.page_tokens.specs.Tags.{behind_close, behind_comment, closes_comment, comment_of, ends_name, ends_raw_text, paired, raw_text_of}
 use Rattle.page_tokens.proofs.Pairs.{some_pair}

@@ -1,11 +1,10 @@
 -- What stands behind a token does not change it.
-use Rattle.std.proofs.Common.{◌≡◌, ◌∙◌, ℕ, ◌+◌, ◌-◌, ◌≤◌, ◌==◌, ◌||◌, Bool, true, false, not, cond, List, [], ◌∷◌, ◌++◌, drop, length, refl, sym, ap, subst, Option, Some, None, append_assoc, length-append, arith}
+use Rattle.std.proofs.Common.{◌≡◌, ◌∙◌, ℕ, ◌+◌, ◌-◌, ◌≤◌, ◌==◌, ◌||◌, Bool, true, false, not, List, [], ◌∷◌, ◌++◌, drop, length, refl, sym, ap, subst, Option, Some, None, append_assoc, length-append, arith}
 use Rattle.std.specs.List.{list_all}
 use Rattle.dom_tree.specs.Name.{folded, is_name_part}
 use Rattle.page_tokens.specs.declared.opening.Opening.TheVariants as opening
 use Rattle.page_tokens.specs.declared.token.PageToken.{PageToken}
-use Rattle.page_tokens.specs.declared.token.PageToken.TheVariants.{Comment, Doctype, EndTag, Raw, Space, StartTag, Text}
-use Rattle.page_tokens.specs.declared.token.RawText.{RawText}
+use Rattle.page_tokens.specs.declared.token.PageToken.TheVariants.{Doctype, Raw, Space, Text}
 use Rattle.page_tokens.specs.declared.token.Tag.{Tag}
 use Rattle.page_tokens.specs.Attributes.{Attributes}
 use Rattle.page_tokens.specs.Characters.{begins_with, behind, is_letter, is_other, is_space, run_of}
@@ -16,8 +15,8 @@ use Rattle.page_tokens.specs.Tokens.{StartTagAt, TokenAt, begins_raw_text, place
 use Rattle.page_tokens.specs.Tokens.TokenAt.{space, text, doctype, comment, end_tag, start_tag, raw}
 use Rattle.page_tokens.proofs.AttributesStay.{attributes_at, run_starts}
 use Rattle.page_tokens.proofs.Pairs.{some_pair}
-use Rattle.page_tokens.proofs.RawStay.{EndsRaw, Nowhere, ends_comment, ends_raw}
-use Rattle.page_tokens.proofs.Runs.{IsSplit, begins_same, run_again, run_split, same_unit}
+use Rattle.page_tokens.proofs.RawStay.{Nowhere, ends_comment, ends_raw}
+use Rattle.page_tokens.proofs.Runs.{IsSplit, begins_same, run_again, run_split}
 use Rattle.page_tokens.proofs.Shapes.{characters_shape, comment_shape, doctype_shape, end_shape, opens_characters, opens_comment, opens_end, opens_start, start_shape}
 use Rattle.page_tokens.proofs.TagsStay.{EndsClose, ends_tag, ends_close, ends_doctype}
 
@@ -116,6 +115,7 @@ ends_end_tag us name rest e = by_letter (begins_with is_letter us) refl
 pub record TagStays (us rest : List ℕ) (tag : Tag) : Type 0 where
   pub front : List ℕ
   pub whole : us ≡ front ++ rest
+  pub ended : (g : List ℕ) × (front ≡ g ++ 62 ∷ [])
   pub again : (more : List ℕ) → StartTagAt (front ++ more) more tag
 
 opens_run : (n more : List ℕ) → begins_with is_letter n ≡ true → opening_of (60 ∷ (n ++ more)) ≡ opening.StartTag
@@ -131,11 +131,12 @@ tag_stays us rest tag s =
     let t = ends_tag tag.closed s.end rest s.closes in
     let list = attributes_at (behind is_name_part inner) s.end t.front rest tag.attributes s.attributes t.whole t.solid t.last in
     let letter = run_starts is_name_part is_letter inner letter_is_part (ap (begins_with is_letter) is_inner ∙ a.letter) in
-    by_parts (run_of is_name_part inner) list.front t.front n.all (sym (ap (begins_with is_name_part) list.whole) ∙ n.ends) list.solid letter s.named (a.is ∙ ap (λ x. 60 ∷ x) (sym is_inner ∙ n.whole ∙ ap (λ x. run_of is_name_part inner ++ x) list.whole)) list.again t.again
+    by_parts (run_of is_name_part inner) list.front t.front n.all (sym (ap (begins_with is_name_part) list.whole) ∙ n.ends) list.solid letter s.named (a.is ∙ ap (λ x. 60 ∷ x) (sym is_inner ∙ n.whole ∙ ap (λ x. run_of is_name_part inner ++ x) list.whole)) list.again t.again (list.tail.0 ++ t.ended.0, list.tail.1 ∙ ap (λ x. list.tail.0 ++ x) t.ended.1 ∙ sym (append_assoc list.tail.0 t.ended.0 (62 ∷ [])))
   where
-    by_parts : (name attributes end : List ℕ) → list_all is_name_part name ≡ true → begins_with is_name_part (attributes ++ rest) ≡ false → list_all is_space attributes ≡ false → begins_with is_letter name ≡ true → tag.name ≡ folded name → us ≡ 60 ∷ (name ++ (attributes ++ rest)) → ((more : List ℕ) → Attributes (attributes ++ more) (end ++ more) tag.attributes) → ((more : List ℕ) → tag_end (end ++ more) ≡ Some (tag.closed, more)) → TagStays us rest tag
-    by_parts name attributes end all ends solid letter named whole listed closes = record {
+    by_parts : (name attributes end : List ℕ) → list_all is_name_part name ≡ true → begins_with is_name_part (attributes ++ rest) ≡ false → list_all is_space attributes ≡ false → begins_with is_letter name ≡ true → tag.name ≡ folded name → us ≡ 60 ∷ (name ++ (attributes ++ rest)) → ((more : List ℕ) → Attributes (attributes ++ more) (end ++ more) tag.attributes) → ((more : List ℕ) → tag_end (end ++ more) ≡ Some (tag.closed, more)) → (g : List ℕ) × (attributes ≡ g ++ 62 ∷ []) → TagStays us rest tag
+    by_parts name attributes end all ends solid letter named whole listed closes g = record {
       front = 60 ∷ (name ++ attributes);
+      ended = (60 ∷ (name ++ g.0), ap (λ x. 60 ∷ (name ++ x)) g.1 ∙ ap (λ x. 60 ∷ x) (sym (append_assoc name g.0 (62 ∷ []))));
       whole = whole ∙ ap (λ x. 60 ∷ x) (sym (append_assoc name attributes rest));
       again = λ more.
           let r = run_again is_name_part name (attributes ++ more) all (begins_same is_space is_name_part attributes more rest solid ∙ ends) in
@@ -159,6 +160,7 @@ pub record RawStays (us rest : List ℕ) (tag : Tag) (content inner : List ℕ) 
   pub opens : List ℕ
   pub mark : List ℕ
   pub whole : us ≡ opens ++ content
+  pub ended : (g : List ℕ) × (opens ≡ g ++ 62 ∷ [])
   pub content_is : content ≡ inner ++ (mark ++ rest)
   pub long : 3 + length tag.name ≤ length mark
   pub nowhere : (more : List ℕ) → Nowhere (ends_raw_text tag.name) inner (mark ++ more)
@@ -173,6 +175,7 @@ raw_stays us content inner rest tag s b e =
       opens = t.front;
       mark = r.mark;
       whole = t.whole;
+      ended = t.ended;
       content_is = r.whole;
       long = r.long;
       nowhere = r.nowhere;

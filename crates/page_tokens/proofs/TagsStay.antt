@@ -1,7 +1,7 @@
 -- The ends of tags, comments and doctypes where another text stands behind them.
-use Rattle.std.proofs.Common.{◌≡◌, ◌∙◌, ℕ, ◌==◌, ◌||◌, Bool, true, false, not, cond, List, [], ◌∷◌, ◌++◌, take, drop, length, refl, sym, ap, subst, Option, Some, None, append_assoc, arith}
+use Rattle.std.proofs.Common.{◌≡◌, ◌∙◌, ℕ, ◌==◌, Bool, true, false, not, cond, List, [], ◌∷◌, ◌++◌, refl, sym, ap, Option, Some, None, append_assoc}
 use Rattle.std.specs.List.{list_all}
-use Rattle.dom_tree.specs.Name.{is_name_part, is_name_start}
+use Rattle.dom_tree.specs.Name.{is_name_start}
 use Rattle.page_tokens.specs.Attributes.{attribute_of, named}
 use Rattle.page_tokens.specs.Characters.{begins_with, behind, is_other, is_space, run_of}
 use Rattle.page_tokens.specs.Tags.{behind_close, behind_doctype, close, doctype_of, slash_close, tag_close, tag_end}
@@ -46,6 +46,7 @@ pub record EndsTag (closed : Bool) (us rest : List ℕ) : Type 0 where
   pub front : List ℕ
   pub whole : us ≡ front ++ rest
   pub solid : list_all is_space front ≡ false
+  pub ended : (g : List ℕ) × (front ≡ g ++ 62 ∷ [])
   pub again : (more : List ℕ) → tag_end (front ++ more) ≡ Some (closed, more)
   pub last : (more : List ℕ) → attribute_of (front ++ more) ≡ None
 
@@ -68,6 +69,7 @@ ends_tag closed us rest e =
           front = run ++ 62 ∷ [];
           whole = s.whole ∙ sym (append_assoc run (62 ∷ []) rest);
           solid = all_but is_space run 62 [] refl;
+          ended = (run, refl);
           again = λ more. tag_end_is ((run ++ 62 ∷ []) ++ more) ∙ ap tag_close (stands more) ∙ ap (λ x. Some (x, more)) (sym f);
           last = λ more. no_attribute ((run ++ 62 ∷ []) ++ more) (62 ∷ more) (stands more) refl;
         }
@@ -77,6 +79,7 @@ ends_tag closed us rest e =
           front = run ++ 47 ∷ 62 ∷ [];
           whole = s.whole ∙ sym (append_assoc run (47 ∷ 62 ∷ []) rest);
           solid = all_but is_space run 47 (62 ∷ []) refl;
+          ended = (run ++ 47 ∷ [], sym (append_assoc run (47 ∷ []) (62 ∷ [])));
           again = λ more. tag_end_is ((run ++ 47 ∷ 62 ∷ []) ++ more) ∙ ap tag_close (stands more) ∙ ap (λ x. Some (x, more)) (sym f);
           last = λ more. no_attribute ((run ++ 47 ∷ 62 ∷ []) ++ more) (47 ∷ 62 ∷ more) (stands more) refl;
         }

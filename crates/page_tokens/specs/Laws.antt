@@ -2,6 +2,7 @@
 use Rattle.std.specs.Prelude.{◌≡◌, ℕ, ◌+◌, Bool, true, false, ◌||◌, ◌==◌, List, [], ◌∷◌, ◌++◌, length}
 use Rattle.page_tokens.specs.declared.token.PageToken.{PageToken}
 use Rattle.page_tokens.specs.declared.token.PageToken.TheVariants.{Space, Text}
+use Rattle.page_tokens.specs.Characters.{is_front_in_any_case}
 use Rattle.page_tokens.specs.Tokens.{TokenAt}
 
 -- the token is no text, which goes on to the first `<`
@@ -22,3 +23,8 @@ pub record StaysAt (size : ℕ) (text rest : List ℕ) (token : PageToken) : Typ
   pub is_front : text ≡ front ++ rest
   pub ends : (ends_itself token || opens_markup rest) ≡ true
   pub stays : (other : ℕ) (more : List ℕ) → (ends_itself token || opens_markup more) ≡ true → other + length text ≡ size + length (front ++ more) → TokenAt other (front ++ more) more token
+
+-- the end tag of an element with this name begins somewhere in the text, in whatever case
+abbrev pub has_end_tag : List ℕ → List ℕ → Bool
+has_end_tag name [] = false
+has_end_tag name (u ∷ us) = is_front_in_any_case (60 ∷ 47 ∷ name) (u ∷ us) || has_end_tag name us
