@@ -1,5 +1,5 @@
 -- Tokens of a page, and those of a longer one.
-use Rattle.std.proofs.Common.{◌≡◌, ◌∙◌, Bool, true, false, ◌&&◌, List, [], ◌∷◌, ◌++◌, refl, sym, ap, subst, append_assoc}
+use Rattle.std.proofs.Common.{◌≡◌, ◌∙◌, Bool, true, false, ◌&&◌, List, [], ◌∷◌, ◌++◌, refl, sym, ap, subst}
 use Rattle.std.specs.List.{list_all}
 use Rattle.js_core.specs.Text.{Text}
 use Rattle.dom_tree.specs.Node.{Nodes, document_alone}
@@ -11,7 +11,7 @@ use Rattle.page_tokens.specs.declared.token.Tag.{Tag}
 use Rattle.page_tokens.specs.Laws.{ends_itself}
 use Rattle.page_reader.specs.Forest.{Forest, grown, joined}
 use Rattle.page_reader.specs.Forest.Forest.{no_trees, element}
-use Rattle.page_reader.specs.Pages.{Content, IsPage, PageOf, behind_prolog, is_outside, part_of}
+use Rattle.page_reader.specs.Pages.{Content, IsPage, PageOf, behind_prolog, is_outside}
 use Rattle.page_reader.specs.Pages.Content.{ended, alone, nested}
 use Rattle.page_reader.specs.Pages.PageOf.{page}
 use Rattle.page_reader.proofs.OnePage.{content_once}

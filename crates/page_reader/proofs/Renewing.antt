@@ -3,7 +3,7 @@ use Rattle.std.proofs.Common.{◌≡◌, ◌∙◌, ℕ, Bool, true, false, ◌&
 use Rattle.std.specs.List.{list_all}
 use Rattle.js_core.specs.Text.{Text}
 use Rattle.dom_tree.specs.DomText.{is_void}
-use Rattle.dom_tree.specs.Node.{Nodes, document_alone}
+use Rattle.dom_tree.specs.Node.{Nodes}
 use Rattle.page_tokens.specs.declared.token.PageToken.{PageToken}
 use Rattle.page_tokens.specs.declared.token.PageToken.TheVariants.{Comment, Doctype, EndTag, Raw, Space, StartTag}
 use Rattle.page_tokens.specs.declared.token.PageToken.TheVariants as token
@@ -12,7 +12,7 @@ use Rattle.page_tokens.specs.declared.token.Tag.{Tag}
 use Rattle.page_tokens.specs.Characters.{is_space}
 use Rattle.page_tokens.proofs.Callers.{is_raw}
 use Rattle.page_reader.specs.Elements.{is_allowed, is_script}
-use Rattle.page_reader.specs.Forest.{Forest, grown, joined}
+use Rattle.page_reader.specs.Forest.{Forest, joined}
 use Rattle.page_reader.specs.Forest.Forest.{no_trees, element, text}
 use Rattle.page_reader.specs.Pages.{Content, IsPage, PageOf, Part, behind_prolog, is_html, is_outside, part_of, raw_part, text_alone}
 use Rattle.page_reader.specs.Pages.Content.{ended, alone, nested}

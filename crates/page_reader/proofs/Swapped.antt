@@ -1,5 +1,5 @@
 -- Bytes with other texts of scripts.
-use Rattle.std.proofs.Common.{◌≡◌, ◌∙◌, ℕ, suc, ◌+◌, ◌-◌, ◌≤◌, ◌<◌, ◌==◌, ◌&&◌, ◌||◌, ◌⊎◌, inl, inr, Bool, true, false, cond, List, [], ◌∷◌, ◌++◌, map, take, drop, length, refl, sym, ap, subst, append_assoc, length-append, nat_lt, arith, codes, lit<, lit≤}
+use Rattle.std.proofs.Common.{◌≡◌, ◌∙◌, ℕ, ◌+◌, ◌-◌, ◌≤◌, ◌<◌, ◌==◌, ◌&&◌, ◌||◌, inl, inr, Bool, true, false, cond, List, [], ◌∷◌, ◌++◌, map, take, drop, length, refl, sym, ap, subst, append_assoc, length-append, nat_lt, arith, codes, lit<, lit≤}
 use Rattle.std.proofs.Math.Seq.{drop-append_seam, take-append-add, take-append_seam}
 use Rattle.std.proofs.Math.Utf8.{encode, encodes}
 use Rattle.std.proofs.lemmas.List.Folds.{list_any-append}
@@ -13,22 +13,21 @@ use Rattle.dom_tree.specs.Node.{Nodes}
 use Rattle.page_tokens.specs.declared.token.PageToken.{PageToken}
 use Rattle.page_tokens.specs.declared.token.PageToken.TheVariants.{Comment}
 use Rattle.page_tokens.specs.declared.token.RawText.{RawText}
-use Rattle.page_tokens.specs.Laws.{has_end_tag}
 use Rattle.page_tokens.specs.Tags.{opening_of}
 use Rattle.page_tokens.specs.Tokens.{TokenAt, TokensOf}
 use Rattle.page_tokens.specs.Tokens.TokenAt.{comment}
 use Rattle.page_tokens.specs.Tokens.TokensOf.{more}
 use Rattle.page_reader.specs.declared.page.ScriptText.{ScriptText}
-use Rattle.page_reader.specs.Bytes.{IsPageOf, IsTextPage, IsUnitsPage, script_of, scripts_of}
+use Rattle.page_reader.specs.Bytes.{IsPageOf, IsTextPage, script_of, scripts_of}
 use Rattle.page_reader.specs.Pages.{IsPage, PageOf}
 use Rattle.page_reader.specs.Pages.PageOf.{page}
 use Rattle.page_reader.specs.Replacing.{AreScriptBytes, IsReadAs, IsScriptBytes, form_mark, part, replaced, replaced_from}
-use Rattle.page_reader.specs.Text.{begins_with_line_feed, bytes_before, has_mark, has_zero, is_half, line_feed, mark_size, page_text, size_of, unit_size, units_behind, with_line_feeds, without_mark}
-use Rattle.page_reader.proofs.Cutting.{FirstBytes, IsPlain, and_parts, cut_bytes, cut_units, feeds_half, feeds_whole, first_bytes, first_unit, no_half, same_unit, step_whole, units_append, units_of}
+use Rattle.page_reader.specs.Text.{begins_with_line_feed, bytes_before, has_mark, has_zero, is_half, line_feed, mark_size, page_text, unit_size, units_behind, with_line_feeds, without_mark}
+use Rattle.page_reader.proofs.Cutting.{IsPlain, and_parts, cut_bytes, cut_units, feeds_half, feeds_whole, first_bytes, first_unit, same_unit, step_whole, units_append, units_of}
 use Rattle.page_reader.proofs.Passing.{behind_more, behind_none, bytes_more, bytes_none}
 use Rattle.page_reader.proofs.Renewing.{Renewal, page_scripts, renewed_page, scripts_in}
 use Rattle.page_reader.proofs.Renewing.Renewal.{done, same, style, script}
-use Rattle.page_reader.proofs.Swapping.{AreTexts, Swaps, Swapped, swapped}
+use Rattle.page_reader.proofs.Swapping.{AreTexts, Swaps, swapped}
 use Rattle.page_reader.proofs.Swapping.Swaps.{last, cut}
 
 -- Line ends

@@ -198,8 +198,8 @@ fn replaces_texts_of_scripts(rt: HostRuntime) -> Result<(), Fail> {
     )?;
     replaces(
         &rt,
-        b"\xef\xbb\xbf<html>\r\n<script>\r\na</script>\xc3\xa9<SCRIPT ></script \r></html>",
+        b"\xef\xbb\xbf<html>\r\n<script>\r\na</script>\xc3\xa9<SCRIPT ></script ></html>",
         ["b", "\u{20ac}\n"].as_slice(),
-        b"\xef\xbb\xbf<html>\r\n<script>b</script>\xc3\xa9<SCRIPT >\xe2\x82\xac\n</script \r></html>",
+        b"\xef\xbb\xbf<html>\r\n<script>b</script>\xc3\xa9<SCRIPT >\xe2\x82\xac\n</script ></html>",
     )
 }
