@@ -5,11 +5,11 @@ use Rattle.code_table.specs.Node.{Node}
 use Rattle.code_table.specs.declared.kind.Kind.{Kind}
 use Rattle.code_table.specs.declared.kind.Kind.TheVariants as kind
 use Rattle.js_values.specs.declared.value.Value.{Value}
+use Rattle.page_meaning.specs.declared.reference.Reference.{Reference}
 use Rattle.page_meaning.specs.declared.signal.Signal.{Signal}
 use Rattle.page_meaning.specs.declared.signal.Signal.TheVariants.{Thrown, Return}
 use Rattle.page_meaning.specs.Act.{Act, Calls, ret, give, done, on_value, also}
 use Rattle.page_meaning.specs.Expressions.{assigned}
-use Rattle.page_meaning.specs.Names as names
 use Rattle.page_meaning.specs.Names.{Here, write}
 use Rattle.page_meaning.specs.Operators.{operate, operate_one}
 use Rattle.page_meaning.specs.Properties.{get_member}
@@ -17,8 +17,6 @@ use Rattle.page_frames.specs.declared.frame.Begin.{Begin}
 use Rattle.page_frames.specs.declared.frame.Begin.TheVariants as begin
 use Rattle.page_frames.specs.declared.frame.Frame.{Frame}
 use Rattle.page_frames.specs.declared.frame.Frame.TheVariants as frame
-use Rattle.page_frames.specs.declared.frame.Reference.{Reference}
-use Rattle.page_frames.specs.declared.frame.Reference.TheVariants.{Environment, Global, Nowhere}
 use Rattle.page_frames.specs.Parts.{mean_node, mean_target}
 use Rattle.page_frames.specs.RestCalls.{rest_call, rest_call_member, rest_call_index, mean_call, ended}
 use Rattle.page_frames.specs.RestExpressions.{rest_binary, rest_and, rest_or, rest_conditional, rest_comma}
@@ -53,12 +51,7 @@ rest_value calls here at kind.Comma turn got v = rest_comma calls here at turn v
 rest_value calls here at q turn got v = give v
 
 -- a name, from the value of its right side
-abbrev pub reference_of : Reference → names.Reference
-reference_of (Environment e) = names.in_environment e
-reference_of Global = names.global
-reference_of Nowhere = names.nowhere
-
-abbrev pub rest_name : Calls → Kind → names.Reference → Option Value → Value → Act
+abbrev pub rest_name : Calls → Kind → Reference → Option Value → Value → Act
 rest_name calls (kind.AssignName None x) r old v = assigned (write x r) v
 rest_name calls (kind.AssignName (Some op) x) r (Some old) w = also (operate calls op old w) (assigned (write x r))
 rest_name calls (kind.Declarator x) r old v = write x r v
@@ -89,7 +82,7 @@ rest_signal calls here at q turn kept s = ret s
 -- what a frame has yet to do, with the calls that can be made once it goes on
 abbrev pub rest_of : Calls → Frame → Signal → Act
 rest_of calls (frame.Expr f) s = on_value (rest_value calls (here_of f.spot) (spot_node f.spot) (kind_of (spot_node f.spot)) f.turn f.got) s
-rest_of calls (frame.Name f) s = on_value (rest_name calls (kind_of (spot_node f.spot)) (reference_of f.reference) f.old) s
+rest_of calls (frame.Name f) s = on_value (rest_name calls (kind_of (spot_node f.spot)) f.reference f.old) s
 rest_of calls (frame.Target f) s = on_value (rest_target calls (here_of f.spot) (spot_node f.spot) (kind_of (spot_node f.spot)) f.value f.base) s
 rest_of calls (frame.Stmt f) s = rest_signal calls (here_of f.spot) (spot_node f.spot) (kind_of (spot_node f.spot)) f.turn f.kept s
 rest_of calls (frame.Each f) s = rest_each calls (here_of f.spot) (spot_node f.spot) f.names f.index f.assigning s

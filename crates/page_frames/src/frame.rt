@@ -2,9 +2,10 @@
 
 use crate::spot::Spot;
 use js_core::units::Units;
-use js_values::ids::{EnvId, ObjId};
+use js_values::ids::ObjId;
 use js_values::value::Value;
 use object_heap::values::Values;
+use page_meaning::reference::Reference;
 use page_meaning::signal::Signal;
 use std::marker::Model;
 
@@ -14,14 +15,6 @@ pub struct ExprFrame {
     pub spot: Spot,
     pub turn: u64,
     pub got: Values,
-}
-
-/// What a name meant when it was resolved (ECMA-262 5.1 section 10.2.2.1).
-#[derive(Clone, Copy)]
-pub enum Reference {
-    Environment(EnvId),
-    Global,
-    Nowhere,
 }
 
 /// An assignment to a name, or a name that a `var` declares, waits for its right side; it holds what the name meant, and, where there is an

@@ -5,6 +5,8 @@ use Rattle.js_values.specs.declared.throw.Throw.TheVariants.{NotDefined}
 use Rattle.js_values.specs.declared.value.Value.{Value}
 use Rattle.js_values.specs.declared.value.Value.TheVariants.{Undefined}
 use Rattle.object_heap.specs.Chain.{get}
+use Rattle.page_meaning.specs.declared.reference.Reference.{Reference}
+use Rattle.page_meaning.specs.declared.reference.Reference.TheVariants.{Environment, Global, Nowhere}
 use Rattle.page_meaning.specs.Act.{Act, ActOf, bind, ret, give, also, asking}
 use Rattle.page_meaning.specs.Errors.{raise}
 use Rattle.page_meaning.specs.Operators.{give_type}
@@ -20,18 +22,12 @@ pub record Here : Type 0 where
 abbrev pub in_scope : Here → EnvId → Here
 in_scope here e = record { env = Some e; this = here.this }
 
--- an environment has the name, or the global object had it, or nothing had it
-pub data Reference : Type 0 where
-  in_environment : EnvId → Reference
-  global : Reference
-  nowhere : Reference
-
 abbrev pub global_or_not : Bool → Reference
-global_or_not true = global
-global_or_not false = nowhere
+global_or_not true = Global
+global_or_not false = Nowhere
 
 abbrev pub resolved : List ℕ → Option (EnvId × Value) → ActOf Reference
-resolved x (Some p) = ret (in_environment p.0)
+resolved x (Some p) = ret (Environment p.0)
 resolved x None = tells (λ s. global_or_not (has_property s window x))
 
 abbrev pub resolve : Here → List ℕ → ActOf Reference
@@ -47,18 +43,18 @@ found_or_raise x (Some v) = give v
 
 -- the value (8.7.1, 10.2.1.1.4, 10.2.1.2.4)
 abbrev pub read : List ℕ → Reference → Act
-read x (in_environment e) = bind (find_name (Some e) x) (λ o. give (held o))
-read x global = asking (λ s. get s.heap.objects window.0 x) (found_or_raise x)
-read x nowhere = raise (NotDefined x)
+read x (Environment e) = bind (find_name (Some e) x) (λ o. give (held o))
+read x Global = asking (λ s. get s.heap.objects window.0 x) (found_or_raise x)
+read x Nowhere = raise (NotDefined x)
 
 abbrev pub read_name : Here → List ℕ → Act
 read_name here x = bind (resolve here x) (read x)
 
 -- the name takes the value (8.7.2, 10.2.1.1.3, 10.2.1.2.3). A global is put, also where the property has gone meanwhile
 abbrev pub write : List ℕ → Reference → Value → Act
-write x (in_environment e) v = bind (bind_name e x v) (λ _. give v)
-write x global v = put_in window x v
-write x nowhere v = raise (NotDefined x)
+write x (Environment e) v = bind (bind_name e x v) (λ _. give v)
+write x Global v = put_in window x v
+write x Nowhere v = raise (NotDefined x)
 
 -- a name is resolved and takes the value at once
 abbrev pub assign_name : Here → List ℕ → Value → Act
@@ -66,7 +62,7 @@ assign_name here x v = bind (resolve here x) (λ r. write x r v)
 
 -- `typeof` of a name, which may not be resolved (11.4.3)
 abbrev pub type_of_reference : List ℕ → Reference → Act
-type_of_reference x nowhere = give_type Undefined
+type_of_reference x Nowhere = give_type Undefined
 type_of_reference x r = also (read x r) give_type
 
 abbrev pub type_of_name : Here → List ℕ → Act
