@@ -1,0 +1,16 @@
+pub mod Bindings
+pub mod Bound
+pub mod Callers
+pub mod Chains
+pub mod Does
+pub mod Entering
+pub mod Joined
+pub mod LineTexts
+pub mod NewFunctions
+pub mod OtherKinds
+pub mod Passing
+pub mod Rests
+pub mod TopNames
+pub mod Values
+pub mod Visits
+pub mod Youngest

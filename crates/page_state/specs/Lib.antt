@@ -1,0 +1,11 @@
+pub mod BuiltIns
+pub mod CodedStore
+pub mod Does
+pub mod Entry
+pub mod Functions
+pub mod Globals
+pub mod LineTexts
+pub mod Listing
+pub mod Operating
+pub mod Refusals
+pub mod Updates

@@ -1,0 +1,24 @@
+//! Why a part of a script gave no value.
+
+use js_core::memory::OutOfMemory;
+use js_values::value::Value;
+
+/// Why a part of a script gave no value.
+#[derive(Drop)]
+pub enum Fault {
+    /// It threw this value.
+    Thrown(Value),
+    /// Memory ran out.
+    OutOfMemory,
+}
+
+impl From<OutOfMemory> for Fault {
+    ghost use Rattle.std.specs.Prelude.{◌≡◌};
+    ghost use Rattle.page_state.specs.declared.fault.Fault.TheVariants as fault;
+
+    ghost from_gives = { λ _ e. e ≡ fault.OutOfMemory };
+
+    fn from(_error: OutOfMemory) -> Fault {
+        Fault::OutOfMemory
+    }
+}

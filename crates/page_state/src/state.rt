@@ -1,0 +1,202 @@
+//! A page while it runs.
+
+ghost use Rattle.std.specs.Prelude.{◌≡◌, ◌<◌, IfOk, IfSome, OnOk, false, length, slice_get};
+ghost use Rattle.std.specs.Map.{keys_of};
+ghost use Rattle.std.specs.Map.Iter.{deref_pair};
+ghost use Rattle.std.specs.Option.{option_copied, option_map};
+ghost use Rattle.object_heap.specs.Chain.{get, object_at};
+ghost use Rattle.object_heap.specs.Heap.{made};
+ghost use Rattle.object_heap.specs.Object.{is_list, whole_object};
+ghost use Rattle.object_heap.specs.Property.{own_property};
+ghost use Rattle.page_meaning.specs.Primitives.{
+  bind_name as spec_bind,
+  define_at as spec_define,
+  delete_at as spec_delete,
+  find_name as spec_find,
+  make_environment as spec_environment,
+  prevent_at as spec_prevent,
+  put_at as spec_put,
+  put_line as spec_line,
+};
+ghost use Rattle.page_meaning.specs.Properties.{class_at};
+ghost use Rattle.page_meaning.specs.Store.{with_heap};
+ghost use Rattle.page_state.specs.Does.{Does};
+ghost use Rattle.page_state.specs.Refusals.{Refuses};
+
+use js_core::memory::OutOfMemory;
+use js_core::units::Units;
+use js_values::ids::{EnvId, ObjId};
+use js_values::line::{Line, LineKind};
+use js_values::throw::Throw;
+use js_values::value::Value;
+use object_heap::fault::HeapFault;
+use object_heap::heap::Heap;
+use object_heap::object::Class;
+use object_heap::properties::Properties;
+use object_heap::property::{Change, Prop};
+use std::alloc::Global;
+use std::marker::Model;
+
+/// A page while it runs: its heap, and the lines that it put out.
+#[derive(Drop)]
+pub struct State {
+    pub(crate) heap: Heap,
+    pub(crate) lines: Vec<Line>,
+}
+
+impl Model for State {
+    ghost use Rattle.page_meaning.specs.Store.{Store};
+    ghost use Rattle.page_state.specs.CodedStore.{coded_store};
+
+    ghost Value = { Store };
+
+    ghost coded = { coded_store };
+
+    ghost view = { λ s. record { heap = s.heap; lines = s.lines.items } };
+}
+
+impl State {
+    /// Where its memory comes from.
+    pub fn alloc(&self) -> Global {
+        *self.lines.allocator()
+    }
+
+    /// The class of an object.
+    pub fn class(&self, at: ObjId) -> &Class
+        ensures { result.now ≡ class_at self.now at }
+    {
+        self.heap.class(at)
+    }
+
+    /// The value of a property of an object, its own or inherited, or `None` exactly where there is none (section 8.12.3).
+    pub fn get(&self, at: ObjId, name: &Units) -> Option<&Value>
+        ensures { option_copied result ≡ get self.now.heap.objects at.0 name.now }
+    {
+        self.heap.get(at, name)
+    }
+
+    /// The prototype of an object, which is older.
+    pub fn proto(&self, at: ObjId) -> Option<ObjId>
+        ensures proto { result ≡ (object_at self.now.heap.objects at.0).proto }
+        ensures older { IfSome result (λ p. p.0 < at.0) }
+    {
+        self.heap.proto(at)
+    }
+
+    /// Whether an object may get new properties.
+    pub fn is_extensible(&self, at: ObjId) -> bool
+        ensures { result ≡ (object_at self.now.heap.objects at.0).extensible }
+    {
+        self.heap.is_extensible(at)
+    }
+
+    /// An own property of an object, or `None` exactly where there is none (section 8.12.1).
+    pub fn own(&self, at: ObjId, name: &Units) -> Option<&Prop>
+        ensures { option_copied result ≡ own_property (object_at self.now.heap.objects at.0).props name.now }
+    {
+        self.heap.own(at, name)
+    }
+
+    /// The own property of this index in the order of creation, with its name, or `None` exactly past the last.
+    pub fn own_at(&self, at: ObjId, index: u64) -> Option<(&Units, &Prop)>
+        ensures { option_map deref_pair result ≡ slice_get (object_at self.now.heap.objects at.0).props index }
+    {
+        self.heap.own_at(at, index)
+    }
+
+    /// The names of the own properties of an object in the order of creation.
+    pub fn own_keys(&self, at: ObjId) -> Result<Vec<Units>, OutOfMemory>
+        ensures { IfOk result (λ names. names.items ≡ keys_of (object_at self.now.heap.objects at.0).props) }
+    {
+        self.heap.own_keys(at)
+    }
+
+    /// A new object that is no array, with these properties.
+    pub fn make(
+        &mut self,
+        class: Class,
+        proto: Option<ObjId>,
+        props: Properties,
+    ) -> Result<ObjId, OutOfMemory>
+        requires { is_list class ≡ false }
+        ensures id { IfOk result (λ at. at.0 ≡ length self.old.heap.objects) }
+        ensures made { OnOk result (self.new ≡ with_heap self.old (made self.old.heap (whole_object class proto props))) }
+    {
+        self.heap.alloc_whole(class, proto, props)
+    }
+
+    /// Puts a value to a property, and tells what is thrown, if something is (section 8.12.5).
+    pub fn put_at(
+        &mut self,
+        at: ObjId,
+        name: &Units,
+        value: Value,
+    ) -> Result<Option<Throw>, OutOfMemory>
+        ensures { IfOk result (λ t. Does (λ _. spec_put at name.now value) self.old t self.new) }
+    {
+        refusal(self.heap.put(at, name, value))
+    }
+
+    /// Defines a property, and tells what is thrown, if something is (section 8.12.9).
+    pub fn define_at(
+        &mut self,
+        at: ObjId,
+        name: &Units,
+        change: &Change,
+    ) -> Result<Option<Throw>, OutOfMemory>
+        ensures { IfOk result (λ t. Does (λ _. spec_define at name.now change.now) self.old t self.new) }
+    {
+        refusal(self.heap.define_own(at, name, change))
+    }
+
+    /// Deletes a property, and tells what is thrown, if something is (section 8.12.7).
+    pub fn delete_at(&mut self, at: ObjId, name: &Units) -> Result<Option<Throw>, OutOfMemory>
+        ensures { IfOk result (λ t. Does (λ _. spec_delete at name.now) self.old t self.new) }
+    {
+        refusal(self.heap.delete(at, name))
+    }
+
+    /// Lets an object get no new properties, and tells what is thrown, if something is (section 15.2.3.10).
+    pub fn prevent_at(&mut self, at: ObjId) -> Result<Option<Throw>, OutOfMemory>
+        ensures { IfOk result (λ t. Does (λ _. spec_prevent at) self.old t self.new) }
+    {
+        refusal(self.heap.prevent_extensions(at))
+    }
+
+    /// A new environment in which these names are bound (section 10.2.2.2).
+    pub fn make_environment(
+        &mut self,
+        outer: Option<EnvId>,
+        names: Vec<(Units, Value)>,
+    ) -> Result<EnvId, OutOfMemory>
+        ensures { IfOk result (λ e. Does (λ _. spec_environment outer names.items) self.old e self.new) }
+    {
+        self.heap.new_env(outer, names)
+    }
+
+    /// The name of an environment takes the value (section 10.2.1.1.3).
+    pub fn bind_name(&mut self, at: EnvId, name: &Units, value: Value)
+        ensures { Does (λ _. spec_bind at name.now value) self.old tt self.new }
+    {
+        self.heap.set(at, name, value);
+    }
+
+    /// One more line.
+    pub fn put_line(&mut self, kind: LineKind, text: Units) -> Result<(), OutOfMemory>
+        ensures { IfOk result (λ _. Does (λ _. spec_line kind (λ _. text)) self.old tt self.new) }
+    {
+        self.lines.push(Line { kind, text })?;
+        Ok(())
+    }
+}
+
+// What the heap refused.
+fn refusal(answer: Result<(), HeapFault>) -> Result<Option<Throw>, OutOfMemory>
+    ensures { Refuses answer result }
+{
+    match answer {
+        Ok(()) => Ok(None),
+        Err(HeapFault::Throw(what)) => Ok(Some(what)),
+        Err(HeapFault::OutOfMemory) => Err(OutOfMemory),
+    }
+}
