@@ -1,0 +1,32 @@
+//! Ends of what is done at once, and steps that are taken.
+
+ghost use Rattle.std.specs.Prelude.{◌≡◌, ◌≢◌, IfOk, suc};
+ghost use Rattle.page_meaning.specs.Act.{Act, Calls};
+ghost use Rattle.page_meaning.specs.Store.{Store};
+ghost use Rattle.page_state.specs.Does.{Does, Gives, itself};
+
+use js_core::memory::OutOfMemory;
+use js_values::value::Value;
+use page_frames::Meter;
+use page_meaning::signal::Signal;
+use page_state::Fault;
+
+/// The end that an answer is: its value, or its exception.
+pub fn signal_of(answer: Result<Value, Fault>) -> Result<Signal, OutOfMemory>
+    ensures { (act : Calls → Act) (s t : Store) → Gives itself act s t answer → IfOk result (λ g. Does act s g t) }
+{
+    match answer {
+        Ok(value) => Ok(Signal::Value(value)),
+        Err(Fault::Thrown(value)) => Ok(Signal::Thrown(value)),
+        Err(Fault::OutOfMemory) => Err(OutOfMemory),
+    }
+}
+
+/// Takes a step, where one is left.
+pub fn take_step(meter: &mut Meter)
+    requires { meter.old.steps ≢ 0 }
+    ensures steps { meter.old.steps ≡ suc meter.new.steps }
+    ensures depth { meter.new.depth ≡ meter.old.depth }
+{
+    meter.steps -= 1;
+}

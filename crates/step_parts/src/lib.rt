@@ -1,0 +1,10 @@
+//! What the steps of the machine have in common: how a part of a node runs, and how what is done at once becomes an end.
+#![tactic(auto)]
+
+mod ends;
+mod operands;
+mod parts;
+
+pub use ends::{signal_of, take_step};
+pub use operands::plain;
+pub use parts::{enter_part, run_part, run_statement};

@@ -1,0 +1,79 @@
+//! How the parts of a node run. What can be read at once is no frame.
+
+ghost use Rattle.std.specs.Prelude.{◌≡◌, IfOk};
+ghost use Rattle.code_table.specs.Kind.{kind_of};
+ghost use Rattle.page_frames.specs.Step.{Goes};
+ghost use Rattle.page_frames.specs.Where.{spot_node};
+ghost use Rattle.step_parts.specs.Running.{Awaits, Enters};
+
+use crate::operands::plain;
+use js_core::memory::OutOfMemory;
+use object_heap::values::Values;
+use page_frames::{Begin, ExprFrame, Frame, Meter, Next, Spot, StmtFrame};
+use page_meaning::signal::Signal;
+use page_state::State;
+
+/// The kth part runs, and then the expression goes on with what it has got.
+pub fn run_part(
+    state: &State,
+    spot: Spot,
+    turn: u64,
+    got: Values,
+    k: u64,
+    meter: &Meter,
+) -> Result<Next, OutOfMemory>
+    ensures { IfOk result (λ next. Goes spot (kind_of (spot_node spot)) turn got k state.now meter.now next) }
+{
+    let number = spot.part(k);
+    match plain(state, &spot, number)? {
+        Some(value) => Ok(Next::Go(
+            Frame::Expr(ExprFrame { spot, turn, got }),
+            Signal::Value(value),
+        )),
+        None => {
+            let part = spot.at(number)?;
+            Ok(Next::Then(
+                Frame::Expr(ExprFrame { spot, turn, got }),
+                Begin::Node(part),
+            ))
+        }
+    }
+}
+
+/// The kth part runs, and then the statement goes on from its end.
+pub fn run_statement(
+    state: &State,
+    spot: Spot,
+    turn: u64,
+    kept: Option<Signal>,
+    k: u64,
+    meter: &Meter,
+) -> Result<Next, OutOfMemory>
+    ensures { IfOk result (λ next. Awaits spot turn kept k state.now meter.now next) }
+{
+    let number = spot.part(k);
+    match plain(state, &spot, number)? {
+        Some(value) => Ok(Next::Go(
+            Frame::Stmt(StmtFrame { spot, turn, kept }),
+            Signal::Value(value),
+        )),
+        None => {
+            let part = spot.at(number)?;
+            Ok(Next::Then(
+                Frame::Stmt(StmtFrame { spot, turn, kept }),
+                Begin::Node(part),
+            ))
+        }
+    }
+}
+
+/// The kth part runs in the place of what waits for it.
+pub fn enter_part(state: &State, spot: &Spot, k: u64, meter: &Meter) -> Result<Next, OutOfMemory>
+    ensures { IfOk result (λ next. Enters spot.now k state.now meter.now next) }
+{
+    let number = spot.part(k);
+    match plain(state, spot, number)? {
+        Some(value) => Ok(Next::Give(Signal::Value(value))),
+        None => Ok(Next::Enter(Begin::Node(spot.at(number)?))),
+    }
+}
