@@ -1,0 +1,12 @@
+use Rattle.page_meaning.specs.Act.{also, done}
+use Rattle.page_meaning.specs.Calls.{calls_at}
+use Rattle.page_frames.specs.Where.{here_of, spot_node}
+use Rattle.page_frames.specs.RestLoops.{do_loop}
+use Rattle.step_stmt.proofs.Looping.{do_goes, do_pays}
+use Rattle.step_stmt.proofs.loops.do_tested.Goals as goal
+
+pub turn_when-requires : goal.turn_when-requires
+turn_when-requires c = do_pays c.args.spot c.requires c.is_small.ensures
+
+pub returns : goal.returns
+returns c = c.turn_when.ensures (also done (λ _. do_loop (calls_at c.args.meter.now.depth) (here_of c.args.spot) (spot_node c.args.spot))) (do_goes c.args.spot c.args.meter.now.depth c.requires)

@@ -1,0 +1,11 @@
+use Rattle.page_meaning.specs.Calls.{calls_at}
+use Rattle.page_frames.specs.Where.{here_of, spot_node}
+use Rattle.page_frames.specs.RestLoops.{for_again}
+use Rattle.step_stmt.proofs.Looping.{for_goes, for_pays}
+use Rattle.step_stmt.proofs.loops.for_tested.Goals as goal
+
+pub turn_when-requires : goal.turn_when-requires
+turn_when-requires c = for_pays c.args.spot c.requires c.is_small.ensures
+
+pub returns : goal.returns
+returns c = c.turn_when.ensures (for_again (calls_at c.args.meter.now.depth) (here_of c.args.spot) (spot_node c.args.spot)) (for_goes c.args.spot c.args.meter.now.depth c.requires)
