@@ -1,0 +1,5 @@
+pub mod Lengths
+pub mod Owned
+pub mod Told
+pub mod Unbuilt
+pub mod ValueKinds

@@ -1,0 +1,7 @@
+use Rattle.js_values.specs.declared.line.LineKind.TheVariants.{Log}
+use Rattle.page_meaning.specs.Lines.{log_texts}
+use Rattle.builtin_object.proofs.Told.{line_put}
+use Rattle.builtin_object.proofs.lines.log.Goals as goal
+
+pub returns : goal.returns
+returns c = line_put Log (log_texts c.args.values.now) c.in_ok-text.text c.args.state.now c.put_line.new.self c.in_ok-text.ensures c.in_ok-put_line.ensures

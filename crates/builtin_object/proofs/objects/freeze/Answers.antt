@@ -1,0 +1,9 @@
+use Rattle.page_meaning.specs.ObjectRows as object
+use Rattle.builtin_object.proofs.ValueKinds as kinds
+use Rattle.builtin_object.proofs.objects.freeze.Goals as goal
+
+pub returns-in-Object : goal.returns-in-Object
+returns-in-Object c = rw c.in-Object.is (rw c.freezing.ensures at c.change_all.ensures)
+
+pub returns-in_default : goal.returns-in_default
+returns-in_default c = kinds.no_object c.args.value.now (λ _. object.change_all object.freezing) c.args.state.now c.raise.new.self c.raise.result c.in_default.not-Object c.raise.ensures

@@ -1,0 +1,11 @@
+use Rattle.js_values.specs.declared.value.Value.TheVariants.{Bool as Truth, Text as Words}
+use Rattle.page_meaning.specs.Convert.{text_in, to_text}
+use Rattle.page_meaning.specs.ObjectRows as object
+use Rattle.page_state.proofs.Callers.{also_gives, failed}
+use Rattle.builtin_object.proofs.prototype.has_own_property.Goals as goal
+
+pub returns-in_err-name : goal.returns-in_err-name
+returns-in_err-name c = failed (λ calls. to_text calls c.args.name.now) (λ _ x. object.has_own c.args.this.now (text_in x)) (λ x. Truth x) c.args.state.now c.to_text.new.self c.in_err-name.field-0.0 c.from_residual.result c.in_err-name.ensures c.from_residual.ensures
+
+pub returns : goal.returns
+returns c = also_gives (λ calls. to_text calls c.args.name.now) (λ _ x. object.has_own c.args.this.now (text_in x)) (λ x. Truth x) (Words c.in_ok-name.name) c.args.state.now c.to_text.new.self c.has_own.new.state c.has_own.result c.in_ok-name.ensures c.has_own.ensures

@@ -1,0 +1,17 @@
+//! The built-in functions of objects, truth values, errors and arrays that are made (ECMA-262 5.1 sections 15.2, 15.3.4, 15.4.2,
+//! 15.4.3, 15.6 and 15.11), and those that put out lines.
+#![tactic(auto)]
+
+mod arguments;
+mod definitions;
+mod descriptors;
+mod errors;
+mod lines;
+mod lists;
+mod objects;
+mod own;
+mod prototype;
+mod rows;
+mod values;
+
+pub use rows::row;
