@@ -7,7 +7,6 @@ use Rattle.js_values.specs.declared.throw.ErrorKind.{ErrorKind}
 use Rattle.js_values.specs.declared.throw.ErrorKind.TheVariants as kind
 use Rattle.js_values.specs.declared.value.Value.{Value}
 use Rattle.js_values.specs.declared.value.Value.TheVariants as value
-use Rattle.js_core.specs.Whole.{nan}
 use Rattle.object_heap.specs.declared.property.Change.{Change}
 use Rattle.object_heap.specs.Define.{length_name, number}
 use Rattle.object_heap.specs.Heap.{Contents, with_objects}
@@ -43,9 +42,6 @@ global_errors =
     ∷ method (codes "TypeError") built_in.TypeError
     ∷ method (codes "RangeError") built_in.RangeError
     ∷ method (codes "ReferenceError") built_in.ReferenceError ∷ []
-
-abbrev pub global_constants : Props
-global_constants = (codes "undefined", fixed value.Undefined) ∷ (codes "NaN", fixed (value.Num nan)) ∷ []
 
 -- what `Object.prototype` begins with
 abbrev pub object_conversions : Props

@@ -42,39 +42,22 @@ pub(crate) fn add_method(
     requires { own_property props.old name.now ≡ None }
     ensures { OnOk result (props.new ≡ props.old ++ method name.now which ∷ []) }
 {
-    let name = ascii_text(alloc, name)?;
     let function = Value::Object(ObjId(function_place(which)));
-    props.push(&name, Prop::hidden(function))?;
-    Ok(())
+    add_property(alloc, props, name, Prop::hidden(function))
 }
 
-// One more property, which stays.
-fn add_fixed(
+// One more property.
+fn add_property(
     alloc: Global,
     props: &mut Properties,
     name: &[u8],
-    given: Value,
+    prop: Prop,
 ) -> Result<(), OutOfMemory>
     requires { own_property props.old name.now ≡ None }
-    ensures { OnOk result (props.new ≡ props.old ++ (name.now, fixed given) ∷ []) }
+    ensures { OnOk result (props.new ≡ props.old ++ (name.now, prop) ∷ []) }
 {
     let name = ascii_text(alloc, name)?;
-    props.push(&name, Prop::fixed(given))?;
-    Ok(())
-}
-
-// One more property, which is not listed.
-fn add_hidden(
-    alloc: Global,
-    props: &mut Properties,
-    name: &[u8],
-    given: Value,
-) -> Result<(), OutOfMemory>
-    requires { own_property props.old name.now ≡ None }
-    ensures { OnOk result (props.new ≡ props.old ++ (name.now, hidden given) ∷ []) }
-{
-    let name = ascii_text(alloc, name)?;
-    props.push(&name, Prop::hidden(given))?;
+    props.push(&name, prop)?;
     Ok(())
 }
 
@@ -83,7 +66,12 @@ pub(crate) fn function_props(alloc: Global, formals: u8) -> Result<Properties, O
     ensures { IfOk result (λ props. props ≡ (length_name, fixed (number formals)) ∷ []) }
 {
     let mut props = Properties::new(alloc);
-    add_fixed(alloc, &mut props, b"length", Value::Num(small(formals)))?;
+    add_property(
+        alloc,
+        &mut props,
+        b"length",
+        Prop::fixed(Value::Num(small(formals))),
+    )?;
     Ok(props)
 }
 
@@ -92,7 +80,12 @@ pub(crate) fn constructor_props(alloc: Global, prototype: ObjId) -> Result<Prope
     ensures { IfOk result (λ props. props ≡ (length_name, fixed (number 1)) ∷ spec.prototype_is prototype ∷ []) }
 {
     let mut props = function_props(alloc, 1)?;
-    add_fixed(alloc, &mut props, b"prototype", Value::Object(prototype))?;
+    add_property(
+        alloc,
+        &mut props,
+        b"prototype",
+        Prop::fixed(Value::Object(prototype)),
+    )?;
     Ok(props)
 }
 
@@ -103,8 +96,18 @@ pub(crate) fn global_props(alloc: Global) -> Result<Properties, OutOfMemory>
     let mut props = global_host(alloc)?;
     add_constructors(alloc, &mut props)?;
     add_errors(alloc, &mut props)?;
-    add_fixed(alloc, &mut props, b"undefined", Value::Undefined)?;
-    add_fixed(alloc, &mut props, b"NaN", Value::Num(Whole::nan()))?;
+    add_property(
+        alloc,
+        &mut props,
+        b"undefined",
+        Prop::fixed(Value::Undefined),
+    )?;
+    add_property(
+        alloc,
+        &mut props,
+        b"NaN",
+        Prop::fixed(Value::Num(Whole::nan())),
+    )?;
     Ok(props)
 }
 
@@ -113,8 +116,18 @@ fn global_host(alloc: Global) -> Result<Properties, OutOfMemory>
     ensures { IfOk result (λ props. props ≡ global_host) }
 {
     let mut props = Properties::new(alloc);
-    add_fixed(alloc, &mut props, b"window", Value::Object(WINDOW))?;
-    add_hidden(alloc, &mut props, b"console", Value::Object(CONSOLE))?;
+    add_property(
+        alloc,
+        &mut props,
+        b"window",
+        Prop::fixed(Value::Object(WINDOW)),
+    )?;
+    add_property(
+        alloc,
+        &mut props,
+        b"console",
+        Prop::hidden(Value::Object(CONSOLE)),
+    )?;
     add_method(alloc, &mut props, b"alert", BuiltIn::Alert)?;
     Ok(props)
 }
@@ -299,8 +312,13 @@ pub(crate) fn error_prototype_props(
     let mut props = Properties::new(alloc);
     add_method(alloc, &mut props, b"constructor", which)?;
     let name = ascii_text(alloc, kind.name())?;
-    add_hidden(alloc, &mut props, b"name", Value::Text(name))?;
+    add_property(alloc, &mut props, b"name", Prop::hidden(Value::Text(name)))?;
     let message = ascii_text(alloc, b"")?;
-    add_hidden(alloc, &mut props, b"message", Value::Text(message))?;
+    add_property(
+        alloc,
+        &mut props,
+        b"message",
+        Prop::hidden(Value::Text(message)),
+    )?;
     Ok(props)
 }
