@@ -28,6 +28,6 @@ pub use errors::error_prototype;
 pub use fault::Fault;
 pub use functions::{built, object_or};
 pub use lines::class_name;
-pub use places::OBJECT_PROTOTYPE;
+pub use places::{OBJECT_PROTOTYPE, WINDOW};
 pub use properties::own_of_text;
 pub use state::State;

@@ -1,6 +1,6 @@
 //! A page while it runs.
 
-ghost use Rattle.std.specs.Prelude.{◌≡◌, ◌<◌, IfOk, IfSome, OnOk, false, length, slice_get};
+ghost use Rattle.std.specs.Prelude.{◌≡◌, ◌<◌, [], IfOk, IfSome, OnOk, false, length, slice_get};
 ghost use Rattle.std.specs.Map.{keys_of};
 ghost use Rattle.std.specs.Map.Iter.{deref_pair};
 ghost use Rattle.std.specs.Option.{option_copied, option_map};
@@ -179,6 +179,20 @@ impl State {
         ensures { Does (λ _. spec_bind at name.now value) self.old tt self.new }
     {
         self.heap.set(at, name, value);
+    }
+
+    /// The lines that it put out, oldest first.
+    pub fn lines(&self) -> &[Line]
+        ensures { result.now ≡ self.now.lines }
+    {
+        self.lines.as_slice()
+    }
+
+    /// Lets go of its lines. Takes no memory.
+    pub fn clear_lines(&mut self)
+        ensures { self.new ≡ record { heap = self.old.heap; lines = [] } }
+    {
+        self.lines.clear();
     }
 
     /// One more line.

@@ -5,7 +5,7 @@ use Rattle.code_table.specs.Node.{and_child}
 use Rattle.js_values.specs.declared.value.Value.{Value}
 use Rattle.page_meaning.specs.declared.signal.Signal.{Signal}
 use Rattle.page_meaning.specs.declared.signal.Signal.TheVariants.{Value as Val}
-use Rattle.page_meaning.specs.Act.{on_value, then_on}
+use Rattle.page_meaning.specs.Act.{Act, Calls, on_value, then_on}
 use Rattle.page_meaning.specs.Calls.{calls_at}
 use Rattle.page_meaning.specs.Store.{Store}
 use Rattle.page_frames.specs.declared.frame.Begin.TheVariants as begin
@@ -14,7 +14,7 @@ use Rattle.page_frames.specs.declared.meter.Meter.{Meter}
 use Rattle.page_frames.specs.declared.meter.Next.TheVariants.{Give, Go, Enter, Then}
 use Rattle.page_frames.specs.Parts.{mean_node}
 use Rattle.page_frames.specs.Rest.{rest_signal, rest_value}
-use Rattle.page_frames.specs.Step.{Goes}
+use Rattle.page_frames.specs.Step.{Goes, Leads}
 use Rattle.page_frames.specs.Weight.{cost, weigh_value, weigh_signal}
 use Rattle.page_frames.specs.Where.{Where, here_of, numbered, spot_node}
 use Rattle.page_state.specs.Does.{Does}
@@ -56,3 +56,7 @@ enters_node f k j w m e = record { follows = rw (← e) refl; levels = refl; lig
 
 pub enters_on : (f : Where) (k j : ℕ) (w : Store) (m : Meter) (v : Value) → IsPart f k j → IsPlain f j w v → Enters f k w m (Give (Val v))
 enters_on f k j w m v e p = record { follows = rw e at (p.is (calls_at m.depth) m.steps); levels = refl; lighter = le_refl m.steps }
+
+-- what is done at once gives its end
+pub does_give : (act : Calls → Act) (s t : Store) (weight : ℕ) (m : Meter) (g : Signal) → Does act s g t → Leads (act (calls_at m.depth)) weight s m (Give g) t m
+does_give act s t weight m g d = record { follows = d.is (calls_at m.depth) m.steps; levels = refl; lighter = le_refl m.steps }

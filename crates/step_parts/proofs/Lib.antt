@@ -1,3 +1,4 @@
 pub mod ByKind
 pub mod Callers
 pub mod Going
+pub mod Shapes

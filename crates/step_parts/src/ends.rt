@@ -1,25 +1,38 @@
 //! Ends of what is done at once, and steps that are taken.
 
-ghost use Rattle.std.specs.Prelude.{◌≡◌, ◌≢◌, IfOk, suc};
+ghost use Rattle.std.specs.Prelude.{◌≡◌, ◌≢◌, IfOk, suc, ℕ};
 ghost use Rattle.page_meaning.specs.Act.{Act, Calls};
+ghost use Rattle.page_meaning.specs.Calls.{calls_at};
 ghost use Rattle.page_meaning.specs.Store.{Store};
+ghost use Rattle.page_frames.specs.declared.meter.Meter.{Meter as Metered};
+ghost use Rattle.page_frames.specs.Step.{Leads};
 ghost use Rattle.page_state.specs.Does.{Does, Gives, itself};
 
 use js_core::memory::OutOfMemory;
 use js_values::value::Value;
-use page_frames::Meter;
+use page_frames::{Meter, Next};
 use page_meaning::signal::Signal;
 use page_state::Fault;
 
 /// The end that an answer is: its value, or its exception.
 pub fn signal_of(answer: Result<Value, Fault>) -> Result<Signal, OutOfMemory>
-    ensures { (act : Calls → Act) (s t : Store) → Gives itself act s t answer → IfOk result (λ g. Does act s g t) }
+    ensures { (act : Calls → Act) (s t : Store) → Gives itself act s t answer →
+        IfOk result (λ g. Does act s g t) }
 {
     match answer {
         Ok(value) => Ok(Signal::Value(value)),
         Err(Fault::Thrown(value)) => Ok(Signal::Thrown(value)),
         Err(Fault::OutOfMemory) => Err(OutOfMemory),
     }
+}
+
+/// What is done at once leads to its end.
+pub fn give(answer: Result<Value, Fault>) -> Result<Next, OutOfMemory>
+    ensures { (act : Calls → Act) (s t : Store) (weight : ℕ) (m : Metered) →
+        Gives itself act s t answer →
+        IfOk result (λ n. Leads (act (calls_at m.depth)) weight s m n t m) }
+{
+    Ok(Next::Give(signal_of(answer)?))
 }
 
 /// Takes a step, where one is left.

@@ -2,9 +2,11 @@
 #![tactic(auto)]
 
 mod ends;
+mod family;
 mod operands;
 mod parts;
 
-pub use ends::{signal_of, take_step};
+pub use ends::{give, signal_of, take_step};
+pub use family::Family;
 pub use operands::plain;
 pub use parts::{enter_part, run_part, run_statement};

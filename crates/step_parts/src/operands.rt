@@ -18,7 +18,8 @@ use page_state::State;
 /// The value of a name that means something, of a literal or of `this`, which needs no frame. Anything else is `None`.
 pub fn plain(state: &State, spot: &Spot, number: u32) -> Result<Option<Value>, OutOfMemory>
     ensures { IfOk result (λ o. IfSome o (λ v.
-        Does (λ calls. mean_node calls (here_of spot.now) (spot_node (numbered spot.now number))) state.now (Val v) state.now)) }
+        Does (λ calls. mean_node calls (here_of spot.now) (spot_node (numbered spot.now number)))
+        state.now (Val v) state.now)) }
 {
     match spot.kind_at(number) {
         Kind::Name(name) => state.known(spot.env(), name),

@@ -22,7 +22,8 @@ pub fn run_part(
     k: u64,
     meter: &Meter,
 ) -> Result<Next, OutOfMemory>
-    ensures { IfOk result (λ next. Goes spot (kind_of (spot_node spot)) turn got k state.now meter.now next) }
+    ensures { IfOk result (λ next.
+        Goes spot (kind_of (spot_node spot)) turn got k state.now meter.now next) }
 {
     let number = spot.part(k);
     match plain(state, &spot, number)? {
