@@ -1,8 +1,7 @@
 -- What is chosen, and what stands last.
-use Rattle.std.proofs.Common.{◌≡◌, refl, sym, ap, ◌∙◌, ℕ, suc, ◌+◌, ◌≤◌, Bool, true, false, List, [], ◌∷◌, Option, Some, None, Result, Ok, Err, IfOk, is_some, le_refl, arith}
+use Rattle.std.proofs.Common.{◌≡◌, refl, sym, ap, ◌∙◌, ℕ, suc, ◌≤◌, Bool, true, false, List, [], ◌∷◌, Option, Some, None, Result, Ok, Err, IfOk, is_some, arith}
 use Rattle.code_table.specs.Kind.{kind_of}
 use Rattle.code_table.specs.Node.{Node, and_child}
-use Rattle.code_table.specs.declared.kind.Kind.{Kind}
 use Rattle.code_table.specs.declared.kind.Kind.TheVariants.{Try}
 use Rattle.js_values.specs.declared.ids.EnvId.{EnvId}
 use Rattle.js_values.specs.declared.value.Value.{Value}
@@ -19,7 +18,7 @@ use Rattle.page_frames.specs.declared.frame.Begin.TheVariants as begin
 use Rattle.page_frames.specs.declared.frame.Frame.TheVariants as frame
 use Rattle.page_frames.specs.declared.meter.Meter.{Meter}
 use Rattle.page_frames.specs.declared.meter.Next.{Next}
-use Rattle.page_frames.specs.declared.meter.Next.TheVariants.{Give, Then}
+use Rattle.page_frames.specs.declared.meter.Next.TheVariants.{Then}
 use Rattle.page_frames.specs.Parts.{mean_node, part}
 use Rattle.page_frames.specs.Rest.{rest_of}
 use Rattle.page_frames.specs.RestStatements.{last_of, rest_if, rest_clause, rest_last}

@@ -1,3 +1,12 @@
+pub mod AtTurns
+pub mod Beginning
+pub mod CaseActs
+pub mod CaseParts
 pub mod Choosing
+pub mod Ending
+pub mod InTurn
 pub mod Looping
+pub mod Shifting
+pub mod Switching
 pub mod Turning
+pub mod Visiting

@@ -1,5 +1,5 @@
 -- How loops go on.
-use Rattle.std.proofs.Common.{◌≡◌, refl, ap, ◌∙◌, ℕ, suc, ◌+◌, ◌≤◌, Result, Ok, Err, IfOk, None, Some, Option, true, false, is_some, arith}
+use Rattle.std.proofs.Common.{◌≡◌, refl, ap, ◌∙◌, ℕ, ◌+◌, Result, Ok, Err, IfOk, None, Some, Option, true, false, is_some, arith}
 use Rattle.code_table.specs.Kind.{kind_of}
 use Rattle.code_table.specs.Node.{Node, and_child}
 use Rattle.code_table.specs.declared.kind.Kind.TheVariants.{While, Do, For}
@@ -9,7 +9,7 @@ use Rattle.page_meaning.specs.Act.{Act, Calls, also, done, give}
 use Rattle.page_meaning.specs.Calls.{calls_at}
 use Rattle.page_meaning.specs.declared.signal.Signal.{Signal}
 use Rattle.page_meaning.specs.declared.signal.Signal.TheVariants.{Value as Val, Thrown, Return, Break, Continue}
-use Rattle.page_meaning.specs.Loops.{loop, turn_if, turned}
+use Rattle.page_meaning.specs.Loops.{turn_if, turned}
 use Rattle.page_meaning.specs.Names.{Here}
 use Rattle.page_meaning.specs.Store.{Store}
 use Rattle.page_frames.specs.declared.meter.Meter.{Meter}
@@ -17,7 +17,7 @@ use Rattle.page_frames.specs.declared.meter.Next.{Next}
 use Rattle.page_frames.specs.Parts.{mean_node, node_or, part, part_or}
 use Rattle.page_frames.specs.RestLoops.{while_loop, do_loop, for_loop, for_again}
 use Rattle.page_frames.specs.Step.{Leads}
-use Rattle.page_frames.specs.Weight.{HasFewNodes, cost, weigh}
+use Rattle.page_frames.specs.Weight.{HasFewNodes, weigh}
 use Rattle.page_frames.specs.Where.{Where, here_of, spot_node}
 use Rattle.page_frames.proofs.Callers.{early_part, loop_turns, no_heavier, node_paid, weigh_less, weigh_paid}
 use Rattle.step_parts.specs.Running.{Awaits}
@@ -45,6 +45,10 @@ while_goes f d k = record { is = λ s w n. rw k refl }
 
 pub do_goes : (f : Where) (d : ℕ) → kind_of (spot_node f) ≡ Do → GoesOnAs f 0 d (also done (λ _. do_loop (calls_at d) (here_of f) (spot_node f)))
 do_goes f d k = record { is = λ s w n. rw k (idle (do_loop (calls_at d) (here_of f) (spot_node f)) s w n) }
+
+-- a turn with no test before it
+pub do_starts : (f : Where) (d : ℕ) → kind_of (spot_node f) ≡ Do → GoesOnAs f 0 d (do_loop (calls_at d) (here_of f) (spot_node f))
+do_starts f d k = record { is = λ s w n. rw k refl }
 
 pub for_goes : (f : Where) (d : ℕ) → kind_of (spot_node f) ≡ For → GoesOnAs f 3 d (for_again (calls_at d) (here_of f) (spot_node f))
 for_goes f d k = record { is = λ s w n. rw k refl }

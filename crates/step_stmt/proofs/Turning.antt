@@ -1,5 +1,5 @@
 -- A turn that is taken.
-use Rattle.std.proofs.Common.{◌≡◌, ◌≢◌, refl, sym, ap, ◌∙◌, ℕ, zero, suc, ◌+◌, ◌≤◌, true, false, Result, Ok, Err, IfOk, None, le_refl, arith}
+use Rattle.std.proofs.Common.{◌≡◌, refl, sym, ◌∙◌, ℕ, suc, true, false, Result, Ok, Err, IfOk, None, le_refl}
 use Rattle.code_table.specs.Kind.{kind_of}
 use Rattle.js_values.specs.declared.value.Value.{Value}
 use Rattle.page_meaning.specs.declared.signal.Signal.{Signal}

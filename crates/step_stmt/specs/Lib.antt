@@ -1,1 +1,4 @@
+pub mod Cases
+pub mod Ends
 pub mod Turns
+pub mod Visits

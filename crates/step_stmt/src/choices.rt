@@ -1,6 +1,6 @@
 //! `if`, and what stands last in a `try` (ECMA-262 5.1 sections 12.5 and 12.14).
 
-ghost use Rattle.std.specs.Prelude.{◌≡◌, IfOk, Some};
+ghost use Rattle.std.specs.Prelude.{◌≡◌, IfOk, Some, suc};
 ghost use Rattle.code_table.specs.Kind.{kind_of};
 ghost use Rattle.page_meaning.specs.declared.signal.Signal.TheVariants.{Thrown};
 ghost use Rattle.page_meaning.specs.Act.{bind};
@@ -21,13 +21,15 @@ use step_parts::{enter_part, run_statement};
 use whole_ops::conversions::is_true;
 
 /// An `if` after its test: what is chosen runs in its place.
-pub fn if_tested(
+pub(crate) fn if_tested(
     state: &State,
     spot: &Spot,
     value: &Value,
     meter: &Meter,
 ) -> Result<Next, OutOfMemory>
-    ensures { IfOk result (λ n. Leads (spec.rest_if (calls_at meter.now.depth) (here_of spot.now) (spot_node spot.now) value.now) (weigh (spot_node spot.now) 1) state.now meter.now n state.now meter.now) }
+    ensures { IfOk result (λ n.
+        Leads (spec.rest_if (calls_at meter.now.depth) (here_of spot.now) (spot_node spot.now)
+        value.now) (weigh (spot_node spot.now) 1) state.now meter.now n state.now meter.now) }
 {
     if is_true(value) {
         enter_part(state, spot, 1, meter)
@@ -37,7 +39,7 @@ pub fn if_tested(
 }
 
 /// The `finally` of a `try`, where there is one; it keeps the end that it may give back.
-pub fn run_last(
+pub(crate) fn run_last(
     state: &State,
     spot: Spot,
     name: &Option<Units>,
@@ -45,7 +47,9 @@ pub fn run_last(
     meter: &Meter,
 ) -> Result<Next, OutOfMemory>
     requires { kind_of (spot_node spot) ≡ Kind.Try name.now }
-    ensures { IfOk result (λ n. Leads (spec.rest_last (calls_at meter.now.depth) (here_of spot) (spot_node spot) end) (weigh (spot_node spot) 2) state.now meter.now n state.now meter.now) }
+    ensures { IfOk result (λ n.
+        Leads (spec.rest_last (calls_at meter.now.depth) (here_of spot) (spot_node spot) end)
+        (weigh (spot_node spot) 2) state.now meter.now n state.now meter.now) }
 {
     if spot.has_part(2) {
         run_statement(state, spot, 2, Some(end), 2, meter)
@@ -55,7 +59,7 @@ pub fn run_last(
 }
 
 /// What a `try` gives once its `finally` has ended: the end that it kept, unless the `finally` ends otherwise.
-pub fn given_back(kept: Option<Signal>, end: Signal) -> Signal
+pub(crate) fn given_back(kept: Option<Signal>, end: Signal) -> Signal
     ensures { result ≡ spec.given_back kept end }
 {
     match kept {
@@ -68,7 +72,7 @@ pub fn given_back(kept: Option<Signal>, end: Signal) -> Signal
 }
 
 /// A `try` after its block: the clause runs with the exception in an environment of its own, or what stands last runs.
-pub fn try_blocked(
+pub(crate) fn try_blocked(
     state: &mut State,
     spot: Spot,
     name: &Option<Units>,
@@ -76,7 +80,9 @@ pub fn try_blocked(
     meter: &Meter,
 ) -> Result<Next, OutOfMemory>
     requires { kind_of (spot_node spot) ≡ Kind.Try name.now }
-    ensures { IfOk result (λ n. Leads (bind (spec.rest_clause (calls_at meter.now.depth) (here_of spot) (spot_node spot) name.now end) (spec.rest_last (calls_at meter.now.depth) (here_of spot) (spot_node spot)))
+    ensures { IfOk result (λ n.
+        Leads (bind (spec.rest_clause (calls_at meter.now.depth) (here_of spot) (spot_node spot)
+        name.now end) (spec.rest_last (calls_at meter.now.depth) (here_of spot) (spot_node spot)))
         (weigh (spot_node spot) 1) state.old meter.now n state.new meter.now) }
 {
     match name {
@@ -97,7 +103,10 @@ fn run_clause(
     meter: &Meter,
 ) -> Result<Next, OutOfMemory>
     requires { kind_of (spot_node spot) ≡ Kind.Try (Some name.now) }
-    ensures { IfOk result (λ n. Leads (bind (spec.rest_clause (calls_at meter.now.depth) (here_of spot) (spot_node spot) (Some name.now) (Thrown value)) (spec.rest_last (calls_at meter.now.depth) (here_of spot) (spot_node spot)))
+    ensures { IfOk result (λ n.
+        Leads (bind (spec.rest_clause (calls_at meter.now.depth) (here_of spot) (spot_node spot)
+        (Some name.now) (Thrown value)) (spec.rest_last (calls_at meter.now.depth) (here_of spot)
+        (spot_node spot)))
         (weigh (spot_node spot) 1) state.old meter.now n state.new meter.now) }
 {
     let alloc = state.alloc();
@@ -114,4 +123,29 @@ fn run_clause(
         }),
         Begin::Node(clause),
     ))
+}
+
+/// A `try` after its block, its clause or its `finally` (section 12.14).
+pub(crate) fn go_try(
+    state: &mut State,
+    spot: Spot,
+    name: &Option<Units>,
+    turn: u64,
+    kept: Option<Signal>,
+    end: Signal,
+    meter: &Meter,
+) -> Result<Next, OutOfMemory>
+    requires { kind_of (spot_node spot) ≡ Kind.Try name.now }
+    ensures { IfOk result (λ n.
+        Leads (spec.rest_try (calls_at meter.now.depth) (here_of spot) (spot_node spot) name.now
+        turn kept end)
+        (weigh (spot_node spot) (suc turn)) state.old meter.now n state.new meter.now) }
+{
+    if turn == 0 {
+        try_blocked(state, spot, name, end, meter)
+    } else if turn == 1 {
+        run_last(state, spot, name, end, meter)
+    } else {
+        Ok(Next::Give(given_back(kept, end)))
+    }
 }

@@ -1,9 +1,16 @@
 //! The steps of statements (ECMA-262 5.1 section 12).
 #![tactic(auto)]
 
+mod again;
+mod blocks;
+mod cases;
 mod choices;
+mod each;
+mod ends;
 mod loops;
+mod statements;
 mod turns;
 
-pub use choices::{given_back, if_tested, run_last, try_blocked};
-pub use loops::{do_again, do_tested, for_again, for_test, for_tested, while_again, while_tested};
+pub use cases::go_case;
+pub use each::go_each;
+pub use statements::{begin_statement, go_statement};

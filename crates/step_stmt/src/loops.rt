@@ -4,14 +4,14 @@ ghost use Rattle.std.specs.Prelude.{◌≡◌, ◌+◌, IfOk};
 ghost use Rattle.code_table.specs.Kind.{kind_of};
 ghost use Rattle.page_meaning.specs.Act.{also, done};
 ghost use Rattle.page_meaning.specs.Calls.{calls_at};
-ghost use Rattle.page_meaning.specs.Loops.{turn_if};
+ghost use Rattle.page_meaning.specs.Loops.{turn as spec_turn, turn_if};
 ghost use Rattle.page_frames.specs.RestLoops as spec;
 ghost use Rattle.page_frames.specs.Step.{Leads};
 ghost use Rattle.page_frames.specs.Weight.{weigh};
 ghost use Rattle.page_frames.specs.Where.{here_of, spot_node};
 ghost use Rattle.step_stmt.specs.Turns.{body_of};
 
-use crate::turns::turn_when;
+use crate::turns::{take_turn, turn_when};
 use code_table::Kind;
 use js_core::memory::OutOfMemory;
 use js_values::value::Value;
@@ -20,14 +20,16 @@ use page_state::State;
 use step_parts::run_statement;
 
 /// A `while` after its test.
-pub fn while_tested(
+pub(crate) fn while_tested(
     state: &State,
     spot: Spot,
     value: &Value,
     meter: &mut Meter,
 ) -> Result<Next, OutOfMemory>
     requires { kind_of (spot_node spot) ≡ Kind.While }
-    ensures { IfOk result (λ n. Leads (turn_if (body_of spot meter.old.depth 1) (also done (λ _. spec.while_loop (calls_at meter.old.depth) (here_of spot) (spot_node spot))) value.now)
+    ensures { IfOk result (λ n.
+        Leads (turn_if (body_of spot meter.old.depth 1) (also done (λ _.
+        spec.while_loop (calls_at meter.old.depth) (here_of spot) (spot_node spot))) value.now)
         0 state.now meter.old n state.now meter.new) }
 {
     spot.is_small();
@@ -35,22 +37,38 @@ pub fn while_tested(
 }
 
 /// A `while` again, or as it begins.
-pub fn while_again(state: &State, spot: Spot, meter: &Meter) -> Result<Next, OutOfMemory>
+pub(crate) fn while_again(state: &State, spot: Spot, meter: &Meter) -> Result<Next, OutOfMemory>
     requires { kind_of (spot_node spot) ≡ Kind.While }
-    ensures { IfOk result (λ n. Leads (spec.while_loop (calls_at meter.now.depth) (here_of spot) (spot_node spot)) (weigh (spot_node spot) 0) state.now meter.now n state.now meter.now) }
+    ensures { IfOk result (λ n.
+        Leads (spec.while_loop (calls_at meter.now.depth) (here_of spot) (spot_node spot))
+        (weigh (spot_node spot) 0) state.now meter.now n state.now meter.now) }
 {
     run_statement(state, spot, 0, None, 0, meter)
 }
 
+/// A `do` as it begins: a turn without a test.
+pub(crate) fn do_begun(state: &State, spot: Spot, meter: &mut Meter) -> Result<Next, OutOfMemory>
+    requires { kind_of (spot_node spot) ≡ Kind.Do }
+    ensures { IfOk result (λ n.
+        Leads (spec_turn (body_of spot meter.old.depth 0) (spec.do_loop (calls_at meter.old.depth)
+        (here_of spot) (spot_node spot)))
+        0 state.now meter.old n state.now meter.new) }
+{
+    spot.is_small();
+    take_turn(state, spot, 0, 0, meter)
+}
+
 /// A `do` after its test.
-pub fn do_tested(
+pub(crate) fn do_tested(
     state: &State,
     spot: Spot,
     value: &Value,
     meter: &mut Meter,
 ) -> Result<Next, OutOfMemory>
     requires { kind_of (spot_node spot) ≡ Kind.Do }
-    ensures { IfOk result (λ n. Leads (turn_if (body_of spot meter.old.depth 0) (also done (λ _. spec.do_loop (calls_at meter.old.depth) (here_of spot) (spot_node spot))) value.now)
+    ensures { IfOk result (λ n.
+        Leads (turn_if (body_of spot meter.old.depth 0) (also done (λ _.
+        spec.do_loop (calls_at meter.old.depth) (here_of spot) (spot_node spot))) value.now)
         0 state.now meter.old n state.now meter.new) }
 {
     spot.is_small();
@@ -58,22 +76,26 @@ pub fn do_tested(
 }
 
 /// The test of a `do`, once its body has ended.
-pub fn do_again(state: &State, spot: Spot, meter: &Meter) -> Result<Next, OutOfMemory>
+pub(crate) fn do_again(state: &State, spot: Spot, meter: &Meter) -> Result<Next, OutOfMemory>
     requires { kind_of (spot_node spot) ≡ Kind.Do }
-    ensures { IfOk result (λ n. Leads (spec.do_loop (calls_at meter.now.depth) (here_of spot) (spot_node spot)) (weigh (spot_node spot) 1) state.now meter.now n state.now meter.now) }
+    ensures { IfOk result (λ n.
+        Leads (spec.do_loop (calls_at meter.now.depth) (here_of spot) (spot_node spot))
+        (weigh (spot_node spot) 1) state.now meter.now n state.now meter.now) }
 {
     run_statement(state, spot, 1, None, 1, meter)
 }
 
 /// A `for` after its test.
-pub fn for_tested(
+pub(crate) fn for_tested(
     state: &State,
     spot: Spot,
     value: &Value,
     meter: &mut Meter,
 ) -> Result<Next, OutOfMemory>
     requires { kind_of (spot_node spot) ≡ Kind.For }
-    ensures { IfOk result (λ n. Leads (turn_if (body_of spot meter.old.depth 3) (spec.for_again (calls_at meter.old.depth) (here_of spot) (spot_node spot)) value.now)
+    ensures { IfOk result (λ n.
+        Leads (turn_if (body_of spot meter.old.depth 3) (spec.for_again (calls_at meter.old.depth)
+        (here_of spot) (spot_node spot)) value.now)
         0 state.now meter.old n state.now meter.new) }
 {
     spot.is_small();
@@ -81,9 +103,11 @@ pub fn for_tested(
 }
 
 /// The test of a `for`, which is true where it is absent.
-pub fn for_test(state: &State, spot: Spot, meter: &mut Meter) -> Result<Next, OutOfMemory>
+pub(crate) fn for_test(state: &State, spot: Spot, meter: &mut Meter) -> Result<Next, OutOfMemory>
     requires { kind_of (spot_node spot) ≡ Kind.For }
-    ensures { IfOk result (λ n. Leads (spec.for_loop (calls_at meter.old.depth) (here_of spot) (spot_node spot)) (weigh (spot_node spot) 1) state.now meter.old n state.now meter.new) }
+    ensures { IfOk result (λ n.
+        Leads (spec.for_loop (calls_at meter.old.depth) (here_of spot) (spot_node spot))
+        (weigh (spot_node spot) 1) state.now meter.old n state.now meter.new) }
 {
     if spot.has_part(1) {
         run_statement(state, spot, 1, None, 1, meter)
@@ -93,9 +117,12 @@ pub fn for_test(state: &State, spot: Spot, meter: &mut Meter) -> Result<Next, Ou
 }
 
 /// What stands last in the header of a `for`, and the loop again.
-pub fn for_again(state: &State, spot: Spot, meter: &mut Meter) -> Result<Next, OutOfMemory>
+pub(crate) fn for_again(state: &State, spot: Spot, meter: &mut Meter) -> Result<Next, OutOfMemory>
     requires { kind_of (spot_node spot) ≡ Kind.For }
-    ensures { IfOk result (λ n. Leads (spec.for_again (calls_at meter.old.depth) (here_of spot) (spot_node spot)) (weigh (spot_node spot) 1 + weigh (spot_node spot) 1) state.now meter.old n state.now meter.new) }
+    ensures { IfOk result (λ n.
+        Leads (spec.for_again (calls_at meter.old.depth) (here_of spot) (spot_node spot))
+        (weigh (spot_node spot) 1 + weigh (spot_node spot) 1) state.now meter.old n state.now
+        meter.new) }
 {
     if spot.has_part(2) {
         run_statement(state, spot, 2, None, 2, meter)

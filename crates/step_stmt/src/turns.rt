@@ -24,7 +24,8 @@ pub(crate) fn take_turn(
 ) -> Result<Next, OutOfMemory>
     requires { IsPaid spot turn body }
     ensures { (next : Act) → GoesOnAs spot turn meter.old.depth next → IfOk result (λ n.
-        Leads (spec_turn (body_of spot meter.old.depth body) next) 0 state.now meter.old n state.now meter.new) }
+        Leads (spec_turn (body_of spot meter.old.depth body) next) 0 state.now meter.old n state.now
+        meter.new) }
 {
     if meter.steps == 0 {
         return Ok(Next::Stopped);
@@ -44,7 +45,8 @@ pub(crate) fn turn_when(
 ) -> Result<Next, OutOfMemory>
     requires { IsPaid spot turn body }
     ensures { (next : Act) → GoesOnAs spot turn meter.old.depth next → IfOk result (λ n.
-        Leads (turn_if (body_of spot meter.old.depth body) next value.now) 0 state.now meter.old n state.now meter.new) }
+        Leads (turn_if (body_of spot meter.old.depth body) next value.now) 0 state.now meter.old n
+        state.now meter.new) }
 {
     if is_true(value) {
         take_turn(state, spot, turn, body, meter)
