@@ -1,0 +1,4 @@
+pub mod Changing
+pub mod Leading
+pub mod Naming
+pub mod Targeting

@@ -1,0 +1,8 @@
+use Rattle.std.proofs.Common.{[], ◌∷◌}
+use Rattle.step_assign.proofs.Leading.{goes_got}
+use Rattle.step_assign.proofs.changes.run_beside.Goals as goal
+
+pub returns : goal.returns
+returns c =
+    goes_got c.args.spot 1 c.push-2.new.self (c.args.base ∷ c.args.old ∷ []) 1 c.args.state.now c.args.meter.now c.run_part.result
+    (rw (c.in_ok-push.ensures.ok, c.new-got.ensures) at c.in_ok-push-2.ensures.ok) c.run_part.ensures

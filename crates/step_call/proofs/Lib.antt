@@ -1,0 +1,4 @@
+pub mod Beginning
+pub mod Choosing
+pub mod Descending
+pub mod Passing

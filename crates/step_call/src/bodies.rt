@@ -1,0 +1,141 @@
+//! What runs of a function that is called or constructed, by its class (ECMA-262 5.1 sections 13.2.1, 13.2.2 and 15.3.4.5).
+
+ghost use Rattle.std.specs.Prelude.{◌≡◌, ◌≢◌, ◌++◌, IfOk};
+ghost use Rattle.js_values.specs.declared.value.Value.TheVariants.{Object};
+ghost use Rattle.page_meaning.specs.Act.{bind, ret};
+ghost use Rattle.page_meaning.specs.Calls.{build};
+ghost use Rattle.page_meaning.specs.Functions.{enter};
+ghost use Rattle.page_meaning.specs.Rows.{row_of};
+ghost use Rattle.page_meaning.specs.Statements.{exec_all};
+ghost use Rattle.page_meaning.specs.Store.{Store};
+ghost use Rattle.page_frames.specs.RestCalls.{mean_call, with_fresh};
+ghost use Rattle.step_call.specs.Callees.{Descends};
+
+use builtin_object::row;
+use code_table::FunctionCode;
+use js_core::memory::OutOfMemory;
+use js_values::built_in::BuiltIn;
+use js_values::ids::{EnvId, ObjId};
+use js_values::value::Value;
+use object_heap::values::Values;
+use page_frames::{Begin, CallFrame, CalledFrame, Frame, Meter, Next, Spot};
+use page_state::State;
+use step_parts::give;
+
+// The body of a function runs on `this` in a new environment, one level of depth down. A construction keeps its fresh object.
+fn enter_body(
+    state: &mut State,
+    code: FunctionCode,
+    env: Option<EnvId>,
+    this: Value,
+    args: &Values,
+    fresh: Option<Value>,
+    meter: &mut Meter,
+) -> Result<Next, OutOfMemory>
+    requires { meter.old.depth ≢ 0 }
+    ensures { IfOk result (λ n.
+        Descends (λ calls. bind (enter (exec_all calls) code env this args.now) (λ s.
+        ret (with_fresh fresh s))) state.old meter.old n state.new meter.new) }
+{
+    let scope = state.enter(&code, env, args.as_slice())?;
+    let body = Spot::body(state.alloc(), code, Some(scope), this)?;
+    body.is_small();
+    meter.depth -= 1;
+    Ok(Next::Then(
+        Frame::Called(CalledFrame { body: true, fresh }),
+        Begin::Node(body),
+    ))
+}
+
+/// A function of a page is called (section 13.2.1).
+pub(crate) fn call_page(
+    state: &mut State,
+    code: FunctionCode,
+    env: Option<EnvId>,
+    this: Value,
+    args: &Values,
+    meter: &mut Meter,
+) -> Result<Next, OutOfMemory>
+    requires { meter.old.depth ≢ 0 }
+    ensures { IfOk result (λ n.
+        Descends (λ calls. enter (exec_all calls) code env this args.now) state.old meter.old n
+        state.new meter.new) }
+{
+    enter_body(state, code, env, this, args, None, meter)
+}
+
+/// A function of a page is constructed: its body runs on a fresh object (section 13.2.2).
+pub(crate) fn construct_page(
+    state: &mut State,
+    at: ObjId,
+    code: FunctionCode,
+    env: Option<EnvId>,
+    args: &Values,
+    meter: &mut Meter,
+) -> Result<Next, OutOfMemory>
+    requires { meter.old.depth ≢ 0 }
+    ensures { IfOk result (λ n.
+        Descends (λ calls.
+        build calls (Object at) code env args.now) state.old meter.old n state.new meter.new) }
+{
+    let made = state.new_instance(&Value::Object(at))?;
+    let fresh = Some(Value::Object(made));
+    enter_body(state, code, env, Value::Object(made), args, fresh, meter)
+}
+
+/// A built-in function does all that it does at once.
+pub(crate) fn run_native(
+    state: &mut State,
+    construct: bool,
+    which: BuiltIn,
+    this: &Value,
+    args: &Values,
+    meter: &Meter,
+) -> Result<Next, OutOfMemory>
+    ensures { IfOk result (λ n.
+        Descends (λ calls. row_of calls construct which this.now args.now) state.old meter.now n
+        state.new meter.now) }
+{
+    give(row(state, construct, which, this, args.as_slice()))
+}
+
+/// A bound function calls or constructs its target, one level of depth down, with its own arguments before those that it got (sections
+/// 15.3.4.5.1 and 15.3.4.5.2).
+pub(crate) fn run_bound(
+    construct: bool,
+    target: ObjId,
+    this: Value,
+    own: Values,
+    args: Values,
+    meter: &mut Meter,
+) -> Result<Next, OutOfMemory>
+    requires { meter.old.depth ≢ 0 }
+    ensures { (w : Store) →
+        IfOk result (λ n.
+        Descends (λ calls. mean_call calls construct (Object target) this (own ++ args)) w meter.old
+        n w meter.new) }
+{
+    let args = joined(own, args)?;
+    meter.depth -= 1;
+    Ok(Next::Then(
+        Frame::Called(CalledFrame {
+            body: false,
+            fresh: None,
+        }),
+        Begin::Call(CallFrame {
+            construct,
+            callee: Value::Object(target),
+            this,
+            args,
+        }),
+    ))
+}
+
+fn joined(own: Values, args: Values) -> Result<Values, OutOfMemory>
+    ensures { IfOk result (λ values. values ≡ own ++ args) }
+{
+    let mut values = own.into_vec();
+    let mut rest = args.into_vec();
+    values.append(&mut rest)?;
+    Ok(Values::of(values))
+}

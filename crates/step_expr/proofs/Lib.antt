@@ -1,0 +1,4 @@
+pub mod Filling
+pub mod InTurn
+pub mod Moving
+pub mod Opening
