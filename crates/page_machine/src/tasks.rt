@@ -1,0 +1,138 @@
+//! Tasks: scripts, and calls of what a global name holds (ECMA-262 5.1 sections 10.4.1 and 14).
+
+ghost use Rattle.std.specs.Prelude.{◌≡◌, [], IfOk, OnOk, ℕ};
+ghost use Rattle.code_table.specs.Node.{body_of};
+ghost use Rattle.js_values.specs.declared.value.Value.TheVariants.{Undefined};
+ghost use Rattle.page_meaning.specs.Calls.{calls_at};
+ghost use Rattle.page_meaning.specs.Functions.{call_end as spec_end};
+ghost use Rattle.page_meaning.specs.Tasks as spec;
+ghost use Rattle.page_state.specs.Does.{Gives, no_value};
+ghost use Rattle.page_machine.specs.Ends.{outcome_of};
+ghost use Rattle.page_machine.specs.Running.{declared, task_of, top_body};
+
+use crate::machine::{End, run};
+use code_table::FunctionCode;
+use js_core::limits::{DEPTH_LIMIT, STEP_LIMIT};
+use js_core::memory::OutOfMemory;
+use js_core::units::Units;
+use js_values::line::LineKind;
+use js_values::value::Value;
+use object_heap::values::Values;
+use page_frames::{Begin, CallFrame, Meter, Spot};
+use page_meaning::signal::Signal;
+use page_state::{Fault, State, WINDOW};
+
+/// What is run as one.
+#[derive(Drop)]
+pub enum Task {
+    /// A script, as a code of its own; its name and formals are not looked at.
+    Script(FunctionCode),
+    /// A call of what this global name holds.
+    Name(Units),
+}
+
+/// Runs a task with all steps and all depth. An exception that it does not catch, and want of steps, are told by a line. After
+/// want of memory nothing is said of the page.
+pub fn run_task(state: &mut State, task: Task) -> Result<(), OutOfMemory>
+    ensures { OnOk result (state.new ≡ spec.after_task (task_of task) state.old) }
+{
+    let mut meter = Meter {
+        steps: STEP_LIMIT,
+        depth: DEPTH_LIMIT as u32,
+    };
+    match task {
+        Task::Script(code) => {
+            let end = run_script(state, code, &mut meter)?;
+            finish(state, end)
+        }
+        Task::Name(name) => {
+            let end = call_name(state, &name, &mut meter)?;
+            finish(state, end)
+        }
+    }
+}
+
+// Declares what a script declares, and runs it.
+fn run_script(state: &mut State, code: FunctionCode, meter: &mut Meter) -> Result<End, OutOfMemory>
+    ensures { IfOk result (λ end. outcome_of end state.new meter.new.steps
+        ≡ (spec.run_script (calls_at meter.old.depth) (body_of code)).run state.old
+        meter.old.steps) }
+{
+    match declare(state, &code) {
+        Ok(()) => run_body(state, code, meter),
+        Err(Fault::Thrown(value)) => Ok(End::Ended(Signal::Thrown(value))),
+        Err(Fault::OutOfMemory) => Err(OutOfMemory),
+    }
+}
+
+// The functions that a script declares, and then its variables (section 10.5).
+fn declare(state: &mut State, code: &FunctionCode) -> Result<(), Fault>
+    ensures { Gives no_value (λ _. declared (body_of code.now)) state.old state.new result }
+{
+    state.declare_globals(code)?;
+    state.global_variables(code)
+}
+
+// Runs the statements of a script at the top of the page (section 10.4.1).
+fn run_body(state: &mut State, code: FunctionCode, meter: &mut Meter) -> Result<End, OutOfMemory>
+    ensures { IfOk result (λ end. outcome_of end state.new meter.new.steps
+        ≡ (top_body (calls_at meter.old.depth) (body_of code)).run state.old meter.old.steps) }
+{
+    let spot = Spot::body(state.alloc(), code, None, Value::Object(WINDOW))?;
+    match run(state, Begin::Node(spot), meter)? {
+        End::Ended(signal) => Ok(End::Ended(call_end(signal))),
+        End::Stopped => Ok(End::Stopped),
+    }
+}
+
+// What a script makes of the end of its statements.
+fn call_end(end: Signal) -> Signal
+    ensures { result ≡ spec_end end }
+{
+    match end {
+        Signal::Return(value) => Signal::Value(value),
+        Signal::Thrown(value) => Signal::Thrown(value),
+        Signal::Value(_) | Signal::Break | Signal::Continue => Signal::Value(Value::Undefined),
+    }
+}
+
+// Calls what a global name holds, without arguments.
+fn call_name(state: &mut State, name: &Units, meter: &mut Meter) -> Result<End, OutOfMemory>
+    ensures { IfOk result (λ end. outcome_of end state.new meter.new.steps
+        ≡ (spec.task_of (calls_at meter.old.depth) (spec.Name name.now)).run state.old
+        meter.old.steps) }
+{
+    match state.read_name(None, name) {
+        Ok(callee) => call(state, callee, meter),
+        Err(Fault::Thrown(value)) => Ok(End::Ended(Signal::Thrown(value))),
+        Err(Fault::OutOfMemory) => Err(OutOfMemory),
+    }
+}
+
+// Calls a value without arguments, with `this` undefined.
+fn call(state: &mut State, callee: Value, meter: &mut Meter) -> Result<End, OutOfMemory>
+    ensures { IfOk result (λ end. outcome_of end state.new meter.new.steps
+        ≡ ((calls_at meter.old.depth).call callee Undefined []).run state.old meter.old.steps) }
+{
+    let frame = CallFrame {
+        construct: false,
+        callee,
+        this: Value::Undefined,
+        args: Values::new(state.alloc()),
+    };
+    run(state, Begin::Call(frame), meter)
+}
+
+// A line tells an exception and want of steps.
+fn finish(state: &mut State, end: End) -> Result<(), OutOfMemory>
+    ensures { OnOk result ((n : ℕ) → state.new ≡ spec.finished (outcome_of end state.old n)) }
+{
+    match end {
+        End::Ended(Signal::Thrown(value)) => {
+            let text = state.uncaught_text(&value)?;
+            state.put_line(LineKind::Uncaught, text)
+        }
+        End::Ended(_) => Ok(()),
+        End::Stopped => state.put_line(LineKind::Stopped, Units::of(state.alloc(), &[])?),
+    }
+}
