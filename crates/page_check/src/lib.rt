@@ -4,8 +4,12 @@
 //! first cause of refusal is the answer (`specs/Accept.antt`).
 #![tactic(auto)]
 
-pub mod accept;
-pub mod frame;
-pub mod laws;
-pub mod page;
-pub mod script;
+mod acceptance;
+mod frame;
+mod laws;
+mod page;
+mod script;
+
+pub use acceptance::accept;
+pub use laws::{law_one_answer, law_one_frame};
+pub use page::{AcceptFault, Accepted, Kind, Refusal};

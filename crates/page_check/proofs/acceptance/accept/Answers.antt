@@ -1,7 +1,7 @@
 use Rattle.std.proofs.Common.{List, ℕ, ◌∙◌, subst}
 use Rattle.page_check.specs.Accept.{IsScriptFault}
 use Rattle.page_check.proofs.Refusals.{framed_as, no_page, refused_at}
-use Rattle.page_check.proofs.accept.accept.Goals as goal
+use Rattle.page_check.proofs.acceptance.accept.Goals as goal
 
 pub returns-in_default-frame-clause-refused : goal.returns-in_default-frame-clause-refused
 returns-in_default-frame-clause-refused c = (c.in-Ok.ensures.cases.1, no_page c.as_slice.result.now c.in-Ok.text.now c.args.bytes.now (c.as_slice.ensures.value ∙ c.in_ok-page.ensures) c.in-Ok.ensures.cases.0 c.in_default-frame.ensures)
