@@ -8,6 +8,7 @@ pub mod OnePage
 pub mod OneReading
 pub mod Passing
 pub mod Renewing
+pub mod ScriptPages
 pub mod Swapped
 pub mod Sizes
 pub mod Steps

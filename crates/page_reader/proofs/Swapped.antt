@@ -398,11 +398,11 @@ form_units = ap utf16_of (sym form_encodes) ∙ units_of form_mark refl
 form_text : (us : Text) → page_text (form_mark ++ us) ≡ form_mark ++ with_line_feeds us
 form_text us = refl
 
-form_token : (size : ℕ) (us : Text) → TokenAt size (form_mark ++ us) us (Comment (codes "imagen 1"))
+pub form_token : (size : ℕ) (us : Text) → TokenAt size (form_mark ++ us) us (Comment (codes "imagen 1"))
 unfolding opening_of
 form_token size us = comment (form_mark ++ us) (codes "imagen 1") us refl refl
 
-commented : (v : Text) (ts : List PageToken) (nodes : Nodes) (raws : List RawText) → PageOf ts nodes raws → PageOf (Comment v ∷ ts) nodes raws
+pub commented : (v : Text) (ts : List PageToken) (nodes : Nodes) (raws : List RawText) → PageOf ts nodes raws → PageOf (Comment v ∷ ts) nodes raws
 commented v ts nodes raws (page us tag f s read) =
     let read' : IsPage (Comment v ∷ us) tag f s = record {
       content = read.content;

@@ -1,15 +1,16 @@
 //! What holds of all tokens and their pages.
 
-ghost use Rattle.std.specs.Prelude.{◌≡◌, ◌++◌, ℕ, List, drop, map};
+ghost use Rattle.std.specs.Prelude.{◌≡◌, ◌∷◌, ◌++◌, [], ℕ, Bool, List, drop, map};
+ghost use Rattle.std.specs.Str.{IsUtf8};
 ghost use Rattle.dom_tree.specs.Node.{Nodes};
 ghost use Rattle.page_tokens.specs.declared.token.PageToken.{PageToken as PureToken};
 ghost use Rattle.page_tokens.specs.declared.token.RawText.{RawText as PureRawText};
 ghost use Rattle.page_reader.specs.declared.page.ScriptText.{ScriptText as PureScript};
 ghost use Rattle.page_reader.specs.Bytes.{IsPageOf, IsTextPage};
-ghost use Rattle.page_reader.specs.Laws.{GoesOn};
+ghost use Rattle.page_reader.specs.Laws.{GoesOn, HasOneScript, IsScriptPage, script_page};
 ghost use Rattle.page_reader.specs.Pages.{PageOf};
 ghost use Rattle.page_reader.specs.Replacing.{AreScriptBytes, IsReadAs, form_mark, replaced};
-ghost use Rattle.page_reader.specs.Text.{mark_size};
+ghost use Rattle.page_reader.specs.Text.{mark_size, with_line_feeds};
 ghost use Rattle.js_core.specs.Text.{utf16_of};
 
 /// No tokens are two pages.
@@ -49,4 +50,15 @@ pub fn law_replaced_scripts()
         (texts : List (List ℕ)) → IsPageOf bytes nodes scripts → AreScriptBytes scripts texts
         → IsReadAs (form_mark ++ drop (mark_size (utf16_of bytes)) (replaced bytes scripts texts))
         nodes (map utf16_of texts) }
+{}
+
+/// A page round one script, behind a byte order mark, the mark of a form page, or neither, is read as `html` with an empty `body` or
+/// without, a script without a child, and this script's text.
+pub fn law_script_pages()
+    ensures text { (text : List ℕ) (with_body : Bool) (script : List ℕ)
+        → IsScriptPage text with_body script
+        → HasOneScript text (script_page with_body) script }
+    ensures bytes { (bytes : List ℕ) (with_body : Bool) (script : List ℕ) → IsUtf8 bytes
+        → IsScriptPage (with_line_feeds (utf16_of bytes)) with_body script
+        → IsReadAs bytes (script_page with_body) (script ∷ []) }
 {}

@@ -15,7 +15,7 @@ mod text;
 mod tree;
 
 pub use fault::{PageFault, TreeFault};
-pub use laws::{law_fronts, law_one_page, law_one_reading, law_replaced_scripts};
+pub use laws::{law_fronts, law_one_page, law_one_reading, law_replaced_scripts, law_script_pages};
 pub use page::{Page, ScriptText};
 pub use reader::read_page;
 pub use replacing::replace_scripts;

@@ -1,5 +1,5 @@
 -- What the crates above use of the proofs here.
-use Rattle.std.proofs.Common.{◌≡◌, ◌∙◌, ℕ, ◌+◌, ◌-◌, ◌≤◌, ◌==◌, ◌&&◌, ◌||◌, ◌⊎◌, inl, inr, Bool, true, false, not, List, [], ◌∷◌, ◌++◌, drop, length, refl, sym, ap, subst, append_assoc, arith, codes}
+use Rattle.std.proofs.Common.{◌≡◌, ◌∙◌, ℕ, ◌+◌, ◌-◌, ◌≤◌, ◌==◌, ◌&&◌, ◌||◌, ◌⊎◌, inl, inr, Bool, true, false, not, List, [], ◌∷◌, ◌++◌, drop, length, refl, sym, ap, subst, Some, append_assoc, arith, codes}
 use Rattle.std.specs.Char.{to_ascii_lowercase}
 use Rattle.std.specs.List.{list_all}
 use Rattle.page_tokens.specs.declared.opening.Opening.TheVariants.{Characters}
@@ -7,16 +7,16 @@ use Rattle.page_tokens.specs.declared.token.PageToken.{PageToken}
 use Rattle.page_tokens.specs.declared.token.PageToken.TheVariants.{Raw, Space}
 use Rattle.page_tokens.specs.declared.token.RawText.{RawText}
 use Rattle.page_tokens.specs.declared.token.Tag.{Tag}
-use Rattle.page_tokens.specs.Characters.{begins_with, behind, is_front, is_front_in_any_case, is_other, is_space, run_of}
+use Rattle.page_tokens.specs.Characters.{begins_with, behind, from, is_front, is_front_in_any_case, is_other, is_space, run_of}
 use Rattle.page_tokens.specs.Laws.{StaysAt, ends_itself, has_end_tag, opens_markup}
-use Rattle.page_tokens.specs.Tags.{ends_name, ends_raw_text, opening_of}
+use Rattle.page_tokens.specs.Tags.{behind_close, ends_name, ends_raw_text, opening_of, paired, raw_text_of}
 use Rattle.page_tokens.specs.Tokens.{TokenAt, TokensOf, placed}
 use Rattle.page_tokens.specs.Tokens.TokenAt.{space, text, doctype, comment, end_tag, start_tag, raw}
 use Rattle.page_tokens.specs.Tokens.TokensOf.{none, more}
 use Rattle.page_tokens.proofs.AllTokens.{behind_token}
 use Rattle.page_tokens.proofs.Decoding.{append_none}
 use Rattle.page_tokens.proofs.OneToken.{nothing_at_end}
-use Rattle.page_tokens.proofs.RawStay.{Nowhere}
+use Rattle.page_tokens.proofs.RawStay.{Nowhere, first_again, raw_is}
 use Rattle.page_tokens.proofs.Runs.{IsSplit, all_append, and_parts, run_again, run_split, same_unit}
 use Rattle.page_tokens.proofs.Shapes.{characters_shape, opens_characters}
 use Rattle.page_tokens.proofs.Staying.{RawStays, opens_again, raw_stays, token_stays}
@@ -217,6 +217,14 @@ no_end name (u ∷ us) mark after n e =
         let h = raw_front name (u ∷ (us ++ 60 ∷ (mark ++ after))) f in
         let k = ap (λ b. (to_ascii_lowercase u == 60) && b) (any_front (47 ∷ name) us (mark ++ after) n) in
         absurd (let z : true ≡ false = sym h ∙ k ∙ g in cc)
+
+-- such a text is all the raw text before the end tag
+pub raw_until : (name value mark after rest : List ℕ) → list_all (is_other 60) name ≡ true → has_end_tag name value ≡ false → ends_raw_text name ((60 ∷ mark) ++ after) ≡ true → behind_close (drop (2 + length name) ((60 ∷ mark) ++ after)) ≡ Some rest → raw_text_of name (value ++ ((60 ∷ mark) ++ after)) ≡ Some (value, rest)
+raw_until name value mark after rest n e ends closes =
+    let tail : List ℕ = (60 ∷ mark) ++ after in
+    let k : ℕ = 2 + length name in
+    let first = first_again (ends_raw_text name) value tail (no_end name value mark after n e) ends (omega arith) in
+    raw_is name (value ++ tail) ∙ ap (λ x. paired x (behind_close (drop k (from (ends_raw_text name) (value ++ tail))))) first.0 ∙ ap (λ x. paired value (behind_close (drop k x))) first.1 ∙ ap (paired value) closes
 
 -- an element with raw text, before whatever follows it, at any place and with any text that does not end sooner
 pub record RawMovesAt (size : ℕ) (us rest : List ℕ) (tag : Tag) (r : RawText) : Type 0 where

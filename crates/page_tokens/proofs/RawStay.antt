@@ -117,7 +117,7 @@ ends_comment us inner rest e = by_tail (before closes_comment us) (from closes_c
 
 -- Raw text
 
-raw_is : (name us : List ℕ) → raw_text_of name us ≡ paired (before (ends_raw_text name) us) (behind_close (drop (2 + length name) (from (ends_raw_text name) us)))
+pub raw_is : (name us : List ℕ) → raw_text_of name us ≡ paired (before (ends_raw_text name) us) (behind_close (drop (2 + length name) (from (ends_raw_text name) us)))
 unfolding raw_text_of
 raw_is name us = refl
 
