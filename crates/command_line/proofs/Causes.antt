@@ -12,6 +12,7 @@ use Rattle.js_values.specs.declared.event.Event.{Event}
 use Rattle.event_file.specs.Events.{calls_of}
 use Rattle.command_line.specs.declared.status.Status.{Status}
 use Rattle.command_line.specs.declared.status.Status.TheVariants as status
+use Rattle.command_line.specs.declared.command.Work.TheVariants.{Replay, Save}
 use Rattle.command_line.specs.Command.{Command, check, session}
 use Rattle.command_line.specs.Page.{page_limit, event_file_limit, Page, Accepts, IsBuilt, IsNotBuilt}
 use Rattle.command_line.specs.Replay.{IsEventFile}
@@ -229,8 +230,12 @@ module _ (seen : Seen) (none_neither : NoneNeither) where
       behind_page_file p (acceptance p ∷ writing ∷ []) (reads 0 [] (omega arith)) (next (words (Some (check p))) (work_of (check p)) never refl) λ bytes held no1.
       behind_acceptance p bytes (writing ∷ []) held no1 λ page a no2.
       at_writing no2
-  some_end (Some (session work p n)) reads never =
-      behind_page_file p (acceptance p ∷ building p ∷ event_file n ∷ writing ∷ []) (reads 0 [] (omega arith)) (next (words (Some (session work p n))) (work_of (session work p n)) never refl) λ bytes held no1.
+  some_end (Some (session Replay p n)) reads never =
+      behind_page_file p (acceptance p ∷ event_file n ∷ writing ∷ []) (reads 0 [] (omega arith)) (next (words (Some (session Replay p n))) (work_of (session Replay p n)) never refl) λ bytes held no1.
+      behind_acceptance p bytes (event_file n ∷ writing ∷ []) held no1 λ page a no2.
+      behind_event_file n (writing ∷ []) (reads 1 [] (omega arith)) no2 at_writing
+  some_end (Some (session Save p n)) reads never =
+      behind_page_file p (acceptance p ∷ building p ∷ event_file n ∷ writing ∷ []) (reads 0 [] (omega arith)) (next (words (Some (session Save p n))) (work_of (session Save p n)) never refl) λ bytes held no1.
       behind_acceptance p bytes (building p ∷ event_file n ∷ writing ∷ []) held no1 λ page a no2.
       behind_building p bytes (event_file n ∷ writing ∷ []) page held a no2 λ no3.
       behind_event_file n (writing ∷ []) (reads 1 [] (omega arith)) no3 at_writing

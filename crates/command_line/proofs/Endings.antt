@@ -10,7 +10,7 @@ use Rattle.page_check.specs.declared.page.Refusal.TheVariants.{NotBuilt}
 use Rattle.js_values.specs.declared.event.Event.{Event}
 use Rattle.command_line.specs.declared.status.Status.{Status}
 use Rattle.command_line.specs.declared.status.Status.TheVariants.{Ok, PageRefused, Usage, EventsRefused, ReadFault, WriteFault, OutOfMemory}
-use Rattle.command_line.specs.declared.command.Work.{Work}
+use Rattle.command_line.specs.declared.command.Work.TheVariants.{Replay, Save}
 use Rattle.command_line.specs.Command.{Command, check, session}
 use Rattle.command_line.specs.Page.{page_limit, Page, Accepts, IsPage, IsBuilt, IsNotBuilt, IsNotRun, IsRunnable}
 use Rattle.command_line.specs.Reading.{StopsAtPage, StopsAtEvents}
@@ -57,46 +57,32 @@ told_events None events h = tt
 told_events (Some None) events h = absurd h
 told_events (Some (Some file)) events h = (events, h)
 
+-- ---- reading and accepting a page, before what stands behind
+
+stops_at_page : (p : List ℕ) (gs : List Stage) (status : Status) (seen : Seen) → StopsAtPage IsRefused status (seen.files_before.content p) → (status ≡ ReadFault → ReadFailed p seen) → EndsAt (page_file p ∷ acceptance p ∷ gs) status seen
+stops_at_page p gs Ok seen h f = absurd h
+stops_at_page p gs (PageRefused None) seen h f = inl h
+stops_at_page p gs (PageRefused (Some r)) seen h f = let both = told_fits (seen.files_before.content p) (λ b. IsRefused b r) h in inr (both.0, inl both.1)
+stops_at_page p gs Usage seen h f = absurd h
+stops_at_page p gs (EventsRefused i) seen h f = absurd h
+stops_at_page p gs ReadFault seen h f = inl (f refl)
+stops_at_page p gs WriteFault seen h f = absurd h
+stops_at_page p gs OutOfMemory seen h f = inl tt
+
+behind_acceptance : (p : List ℕ) (gs : List Stage) (status : Status) (seen : Seen) (page : Page) → Held seen p (λ b. IsPage b page) → EndsAt gs status seen → EndsAt (page_file p ∷ acceptance p ∷ gs) status seen
+behind_acceptance p gs status seen page h s = let both = told_accepted (seen.files_before.content p) page h in inr (both.0, inr (both.1, s))
+
 -- ---- check
 
 -- reading the page ends a check
 pub check_stops : (p : List ℕ) (status : Status) (seen : Seen) → StopsAtPage IsRefused status (seen.files_before.content p) → (status ≡ ReadFault → ReadFailed p seen) → EndsAt (work_of (check p)) status seen
-check_stops p Ok seen h f = absurd h
-check_stops p (PageRefused None) seen h f = inl h
-check_stops p (PageRefused (Some r)) seen h f = let both = told_fits (seen.files_before.content p) (λ b. IsRefused b r) h in inr (both.0, inl both.1)
-check_stops p Usage seen h f = absurd h
-check_stops p (EventsRefused i) seen h f = absurd h
-check_stops p ReadFault seen h f = inl (f refl)
-check_stops p WriteFault seen h f = absurd h
-check_stops p OutOfMemory seen h f = inl tt
+check_stops p status seen h f = stops_at_page p (writing ∷ []) status seen h f
 
 -- or writing does
 pub check_writes : (p : List ℕ) (status : Status) (seen : Seen) (page : Page) → Held seen p (λ b. IsPage b page) → Stops writing status seen → EndsAt (work_of (check p)) status seen
-check_writes p status seen page h s = let both = told_accepted (seen.files_before.content p) page h in inr (both.0, inr (both.1, inl s))
+check_writes p status seen page h s = behind_acceptance p (writing ∷ []) status seen page h (inl s)
 
--- ---- replay and save
-
--- a page that is not run is refused, or is not built in
-session_refused : (work : Work) (p e : List ℕ) (r : Refusal) (seen : Seen) → Held seen p (λ b. (length b ≤ page_limit) × IsNotRun b r) → EndsAt (work_of (session work p e)) (PageRefused (Some r)) seen
-session_refused work p e (NotBuilt k) seen h =
-    let both = told_fits (seen.files_before.content p) (λ b. IsNotBuilt b (NotBuilt k)) h in
-    inr (both.0, inr (told_only_unbuilt (seen.files_before.content p) k both.1, inl both.1))
-session_refused work p e r seen h = let both = told_fits (seen.files_before.content p) (λ b. IsRefused b r) h in inr (both.0, inl both.1)
-
--- reading the page ends the session
-pub session_stops : (work : Work) (p e : List ℕ) (status : Status) (seen : Seen) → StopsAtPage IsNotRun status (seen.files_before.content p) → (status ≡ ReadFault → ReadFailed p seen) → EndsAt (work_of (session work p e)) status seen
-session_stops work p e Ok seen h f = absurd h
-session_stops work p e (PageRefused None) seen h f = inl h
-session_stops work p e (PageRefused (Some r)) seen h f = session_refused work p e r seen h
-session_stops work p e Usage seen h f = absurd h
-session_stops work p e (EventsRefused i) seen h f = absurd h
-session_stops work p e ReadFault seen h f = inl (f refl)
-session_stops work p e WriteFault seen h f = absurd h
-session_stops work p e OutOfMemory seen h f = inl tt
-
--- what stands behind the stages of the page
-behind_page : (work : Work) (p e : List ℕ) (status : Status) (seen : Seen) → PassesPage (seen.files_before.content p) → EndsAt (event_file e ∷ writing ∷ []) status seen → EndsAt (work_of (session work p e)) status seen
-behind_page work p e status seen h s = inr (h.fits, inr (h.accepted, inr (h.built, s)))
+-- ---- the events
 
 stops_at_events : (e : List ℕ) (status : Status) (seen : Seen) → StopsAtEvents status (seen.files_before.content e) → (status ≡ ReadFault → ReadFailed e seen) → EndsAt (event_file e ∷ writing ∷ []) status seen
 stops_at_events e Ok seen h f = absurd h
@@ -107,13 +93,51 @@ stops_at_events e ReadFault seen h f = inl (f refl)
 stops_at_events e WriteFault seen h f = absurd h
 stops_at_events e OutOfMemory seen h f = inl tt
 
--- reading the events ends the session
-pub session_events : (work : Work) (p e : List ℕ) (status : Status) (seen : Seen) (script : tree.Stmts) → Held seen p (λ b. IsRunnable b script) → StopsAtEvents status (seen.files_before.content e) → (status ≡ ReadFault → ReadFailed e seen) → EndsAt (work_of (session work p e)) status seen
-session_events work p e status seen script h s f = behind_page work p e status seen (told_runnable (seen.files_before.content p) script h) (stops_at_events e status seen s f)
+-- ---- replay
+
+-- reading the page ends the session
+pub replay_stops : (p e : List ℕ) (status : Status) (seen : Seen) → StopsAtPage IsRefused status (seen.files_before.content p) → (status ≡ ReadFault → ReadFailed p seen) → EndsAt (work_of (session Replay p e)) status seen
+replay_stops p e status seen h f = stops_at_page p (event_file e ∷ writing ∷ []) status seen h f
+
+-- or reading the events does
+pub replay_events : (p e : List ℕ) (status : Status) (seen : Seen) (page : Page) → Held seen p (λ b. IsPage b page) → StopsAtEvents status (seen.files_before.content e) → (status ≡ ReadFault → ReadFailed e seen) → EndsAt (work_of (session Replay p e)) status seen
+replay_events p e status seen page h s f = behind_acceptance p (event_file e ∷ writing ∷ []) status seen page h (stops_at_events e status seen s f)
 
 -- or writing does
-pub session_writes : (work : Work) (p e : List ℕ) (status : Status) (seen : Seen) (script : tree.Stmts) (events : List Event) → Held seen p (λ b. IsRunnable b script) → Held seen e (λ f. IsEventFile f events) → Stops writing status seen → EndsAt (work_of (session work p e)) status seen
-session_writes work p e status seen script events h g s = behind_page work p e status seen (told_runnable (seen.files_before.content p) script h) (inr (told_events (seen.files_before.content e) events g, inl s))
+pub replay_writes : (p e : List ℕ) (status : Status) (seen : Seen) (page : Page) (events : List Event) → Held seen p (λ b. IsPage b page) → Held seen e (λ f. IsEventFile f events) → Stops writing status seen → EndsAt (work_of (session Replay p e)) status seen
+replay_writes p e status seen page events h g s = behind_acceptance p (event_file e ∷ writing ∷ []) status seen page h (inr (told_events (seen.files_before.content e) events g, inl s))
+
+-- ---- save
+
+-- a page that is not run is refused, or is not built in
+save_refused : (p e : List ℕ) (r : Refusal) (seen : Seen) → Held seen p (λ b. (length b ≤ page_limit) × IsNotRun b r) → EndsAt (work_of (session Save p e)) (PageRefused (Some r)) seen
+save_refused p e (NotBuilt k) seen h =
+    let both = told_fits (seen.files_before.content p) (λ b. IsNotBuilt b (NotBuilt k)) h in
+    inr (both.0, inr (told_only_unbuilt (seen.files_before.content p) k both.1, inl both.1))
+save_refused p e r seen h = let both = told_fits (seen.files_before.content p) (λ b. IsRefused b r) h in inr (both.0, inl both.1)
+
+-- reading the page ends the session
+pub save_stops : (p e : List ℕ) (status : Status) (seen : Seen) → StopsAtPage IsNotRun status (seen.files_before.content p) → (status ≡ ReadFault → ReadFailed p seen) → EndsAt (work_of (session Save p e)) status seen
+save_stops p e Ok seen h f = absurd h
+save_stops p e (PageRefused None) seen h f = inl h
+save_stops p e (PageRefused (Some r)) seen h f = save_refused p e r seen h
+save_stops p e Usage seen h f = absurd h
+save_stops p e (EventsRefused i) seen h f = absurd h
+save_stops p e ReadFault seen h f = inl (f refl)
+save_stops p e WriteFault seen h f = absurd h
+save_stops p e OutOfMemory seen h f = inl tt
+
+-- what stands behind the stages of the page
+behind_page : (p e : List ℕ) (status : Status) (seen : Seen) → PassesPage (seen.files_before.content p) → EndsAt (event_file e ∷ writing ∷ []) status seen → EndsAt (work_of (session Save p e)) status seen
+behind_page p e status seen h s = inr (h.fits, inr (h.accepted, inr (h.built, s)))
+
+-- reading the events ends the session
+pub save_events : (p e : List ℕ) (status : Status) (seen : Seen) (script : tree.Stmts) → Held seen p (λ b. IsRunnable b script) → StopsAtEvents status (seen.files_before.content e) → (status ≡ ReadFault → ReadFailed e seen) → EndsAt (work_of (session Save p e)) status seen
+save_events p e status seen script h s f = behind_page p e status seen (told_runnable (seen.files_before.content p) script h) (stops_at_events e status seen s f)
+
+-- or writing does
+pub save_writes : (p e : List ℕ) (status : Status) (seen : Seen) (script : tree.Stmts) (events : List Event) → Held seen p (λ b. IsRunnable b script) → Held seen e (λ f. IsEventFile f events) → Stops writing status seen → EndsAt (work_of (session Save p e)) status seen
+save_writes p e status seen script events h g s = behind_page p e status seen (told_runnable (seen.files_before.content p) script h) (inr (told_events (seen.files_before.content e) events g, inl s))
 
 -- ---- nothing is put where reading ends the command
 
@@ -160,4 +184,5 @@ neither f g (inr b) = g b.1
 -- no command ends as words that are none
 pub no_usage : (command : Command) (seen : Seen) → ¬ EndsAt (work_of command) Usage seen
 no_usage (check p) seen = neither (λ x. x) (neither (λ x. x) (neither (λ x. x) (λ x. x)))
-no_usage (session work p e) seen = neither (λ x. x) (neither (λ x. x) (neither (λ x. x) (neither (λ x. x) (neither (λ x. x) (λ x. x)))))
+no_usage (session Replay p e) seen = neither (λ x. x) (neither (λ x. x) (neither (λ x. x) (neither (λ x. x) (λ x. x))))
+no_usage (session Save p e) seen = neither (λ x. x) (neither (λ x. x) (neither (λ x. x) (neither (λ x. x) (neither (λ x. x) (λ x. x)))))

@@ -1,4 +1,4 @@
--- What a page does: what its loading leaves, and its lines under host events.
+-- What a page does that is saved, by the meaning of pages of whole numbers: what its loading leaves, and its lines under host events.
 use Rattle.std.specs.Prelude.{List, [], ◌∷◌}
 use Rattle.js_values.specs.declared.line.Line.{Line}
 use Rattle.js_core.specs.Tree as tree

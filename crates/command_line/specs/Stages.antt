@@ -12,6 +12,7 @@ use Rattle.event_file.specs.Events.{calls_of}
 use Rattle.command_line.specs.declared.status.Status.{Status}
 use Rattle.command_line.specs.declared.status.Status.TheVariants.{Ok, PageRefused, Usage, EventsRefused, ReadFault, WriteFault, OutOfMemory}
 use Rattle.command_line.specs.Page.{page_limit, event_file_limit, Page, Accepts, IsBuilt, IsNotBuilt}
+use Rattle.command_line.specs.declared.command.Work.TheVariants.{Replay, Save}
 use Rattle.command_line.specs.Command.{Command, check, session, files_of}
 use Rattle.command_line.specs.Replay.{IsEventFile}
 
@@ -96,10 +97,11 @@ abbrev pub EndsAt : List Stage → Status → Seen → Type 0
 EndsAt [] status seen = ⊥
 EndsAt (g ∷ gs) status seen = Stops g status seen ⊎ (Passes g seen × EndsAt gs status seen)
 
--- the stages behind the words
+-- the stages behind the words. Every accepted page is run; those that are built in are saved
 abbrev pub work_of : Command → List Stage
 work_of (check p) = page_file p ∷ acceptance p ∷ writing ∷ []
-work_of (session work p e) = page_file p ∷ acceptance p ∷ building p ∷ event_file e ∷ writing ∷ []
+work_of (session Replay p e) = page_file p ∷ acceptance p ∷ event_file e ∷ writing ∷ []
+work_of (session Save p e) = page_file p ∷ acceptance p ∷ building p ∷ event_file e ∷ writing ∷ []
 
 abbrev pub work_behind : Option Command → List Stage
 work_behind None = []

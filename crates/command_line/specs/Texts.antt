@@ -3,10 +3,6 @@ use Rattle.std.specs.Prelude.{◌≡◌, ℕ, List, Option, Some, None}
 use Rattle.page_io.specs.Content.{Told}
 use Rattle.page_io.specs.Seen.{SinkSeen}
 use Rattle.page_io.specs.Taken.{Takes, TakesFront}
-use Rattle.js_values.specs.Line.{lines_text}
-use Rattle.js_core.specs.Tree as tree
-use Rattle.js_values.specs.declared.event.Event.{Event}
-use Rattle.js_machine.specs.Run as run
 use Rattle.command_line.specs.declared.status.Status.{Status}
 use Rattle.command_line.specs.declared.status.Status.TheVariants.{Ok, WriteFault}
 use Rattle.command_line.specs.declared.command.Work.{Work}
@@ -14,18 +10,13 @@ use Rattle.command_line.specs.declared.command.Work.TheVariants.{Replay, Save}
 use Rattle.command_line.specs.Command.{Command, check, session}
 use Rattle.command_line.specs.Checking.{Tells}
 use Rattle.command_line.specs.Replay.{Replays}
-use Rattle.command_line.specs.Saving.{Saves, saved_page}
+use Rattle.command_line.specs.Saving.{Saves}
 use Rattle.command_line.specs.Stages.{Of, Seen, Held}
 
 -- the text that a command writes for the bytes of a page and of an event file
 abbrev pub Writes : Work → List ℕ → List ℕ → List ℕ → Type 0
 Writes Replay page file text = Replays page file text
 Writes Save page file text = Saves page file text
-
--- the text for a script and events
-abbrev pub IsTextOf : Work → tree.Stmts → List Event → List ℕ → Type 0
-IsTextOf Replay script events text = text ≡ lines_text (run.lines_of_run script events)
-IsTextOf Save script events text = text ≡ saved_page (run.run_of script events)
 
 -- the text of a command for what its files hold
 abbrev pub TextOf : Command → Seen → List ℕ → Type 0

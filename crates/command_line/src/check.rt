@@ -8,7 +8,7 @@ ghost use Rattle.command_line.specs.Texts.{PutsText};
 
 use crate::reading::read_page;
 use crate::status::Status;
-use page_check::page::Kind;
+use page_check::Kind;
 use page_io::files::Files;
 use page_io::sink::Sink;
 use std::alloc::Global;

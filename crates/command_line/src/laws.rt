@@ -2,7 +2,7 @@
 
 ghost use Rattle.command_line.specs.Stages.{CausesExclude, SomeCause};
 
-use page_check::laws::law_one_answer;
+use page_check::law_one_answer;
 
 /// The causes exclude each other: where it is told what the files hold and nothing outside failed, one status at most has
 /// its cause; and where each file of the command is told to hold bytes or a read of it failed, some status has one. Want

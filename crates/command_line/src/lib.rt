@@ -8,9 +8,9 @@ mod notes;
 mod program;
 mod reading;
 mod replay;
+mod save;
 mod saving;
 mod status;
-mod work;
 
 pub use command::{Command, Work};
 pub use laws::law_one_ending;

@@ -5,7 +5,7 @@ ghost use Rattle.command_line.specs.Notes.{note_of, script_note, script_start, P
 
 use crate::status::Status;
 use itoa::Buffer;
-use page_check::page::Refusal;
+use page_check::Refusal;
 use page_io::sink::{PutFault, Sink};
 use scope_analysis::early_rule::EarlyRule;
 

@@ -8,10 +8,11 @@ ghost use Rattle.command_line.specs.Texts.{Puts};
 
 use crate::check::check;
 use crate::command;
-use crate::command::Command;
+use crate::command::{Command, Work};
 use crate::notes::write_note;
+use crate::replay::replay;
+use crate::save::save;
 use crate::status::Status;
-use crate::work::perform;
 use page_io::files::Files;
 use page_io::keeper::Keeper;
 use page_io::sink::Sink;
@@ -31,9 +32,10 @@ fn obey<F: Files, O: Sink>(alloc: Global, words: &[String], files: &mut F, out: 
     match command::command_of(words) {
         None => Status::Usage,
         Some(Command::Check(page)) => check(alloc, page, files, out),
-        Some(Command::Session(work, page, events)) => {
-            perform(alloc, work, page, events, files, out)
+        Some(Command::Session(Work::Replay, page, events)) => {
+            replay(alloc, page, events, files, out)
         }
+        Some(Command::Session(Work::Save, page, events)) => save(alloc, page, events, files, out),
     }
 }
 

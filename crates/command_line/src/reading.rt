@@ -16,8 +16,7 @@ use js_core::limits::{EVENT_FILE_LIMIT, PAGE_LIMIT};
 use js_core::memory::OutOfMemory;
 use js_core::syntax::Script;
 use js_values::event::Event;
-use page_check::accept::accept;
-use page_check::page::{AcceptFault, Accepted, Refusal};
+use page_check::{AcceptFault, Accepted, Refusal, accept};
 use page_io::files::{Files, ReadFault};
 use std::alloc::Global;
 

@@ -1,27 +1,33 @@
-//! The text that `replay` writes.
+//! What `replay` does.
 
 ghost use Rattle.std.specs.Prelude.{◌≡◌, IfOk};
 ghost use Rattle.js_values.specs.Line.{lines_text};
-ghost use Rattle.first_scripts.specs.Items.{IsFirst};
-ghost use Rattle.js_machine.specs.Run.{run_of, lines_of_run};
+ghost use Rattle.page_meaning.specs.Pages.{lines_of_run, run_all, run_of};
+ghost use Rattle.command_line.specs.declared.command.Work.TheVariants.{Replay as ReplayWork};
+ghost use Rattle.command_line.specs.Command as command;
+ghost use Rattle.command_line.specs.Stages.{seen_between, work_of, EndsAt, Lasts};
+ghost use Rattle.command_line.specs.Texts.{PutsText};
 
+use crate::reading::{read_events, read_page};
+use crate::status::Status;
 use js_core::memory::OutOfMemory;
-use js_core::syntax::Script;
-use js_machine::{First, load_first};
 use js_values::event::Event;
 use js_values::line::Line;
+use page_check::Accepted;
+use page_io::files::Files;
+use page_io::sink::Sink;
+use session::{Session, load};
 use std::alloc::Global;
 
-/// The page after its script and then the events.
-pub fn run_page(alloc: Global, script: &Script, list: &[Event]) -> Result<First, OutOfMemory>
-    requires { IsFirst script.now }
-    ensures { IfOk result (λ page. page ≡ run_of script.now list.now) }
+// The session of a page after the events.
+fn run_page(alloc: Global, page: Accepted, list: &[Event]) -> Result<Session, OutOfMemory>
+    ensures { IfOk result (λ s. s.page ≡ run_of page.scripts.items list.now) }
 {
-    let mut page = load_first(alloc, script)?;
+    let mut session = load(alloc, page)?;
     for event in list {
-        page.act(event)?;
+        session.act(event)?;
     }
-    Ok(page)
+    Ok(session)
 }
 
 // The text of lines.
@@ -35,11 +41,44 @@ fn text_of(alloc: Global, lines: &[Line]) -> Result<Vec<u8>, OutOfMemory>
     Ok(text)
 }
 
-/// The text of the lines that the script and then the events put out.
-pub fn replayed_text(alloc: Global, script: &Script, list: &[Event]) -> Result<Vec<u8>, OutOfMemory>
-    requires { IsFirst script.now }
-    ensures { IfOk result (λ text. text.items ≡ lines_text (lines_of_run script.now list.now)) }
+// The text of the lines that the scripts of a page and then the events put out.
+fn replayed_text(alloc: Global, page: Accepted, list: &[Event]) -> Result<Vec<u8>, OutOfMemory>
+    ensures { IfOk result (λ text.
+        text.items ≡ lines_text (lines_of_run page.scripts.items list.now)) }
 {
-    let page = run_page(alloc, script, list)?;
-    text_of(alloc, page.lines())
+    let session = run_page(alloc, page, list)?;
+    text_of(alloc, session.lines())
+}
+
+/// Writes the lines of the page and the events of these names. The order is: reading and accepting the page, reading the
+/// events, loading and acting, writing. The first cause to end is the answer.
+pub fn replay<F: Files, O: Sink>(
+    alloc: Global,
+    page: &str,
+    events: &str,
+    files: &mut F,
+    out: &mut O,
+) -> Status
+    ensures ends { EndsAt (work_of (command.session ReplayWork page.now events.now)) result
+        (seen_between (F.seen files.old) (F.seen files.new) (O.seen out.old) (O.seen out.new)) }
+    ensures puts { PutsText (command.session ReplayWork page.now events.now) result
+        (seen_between (F.seen files.old) (F.seen files.new) (O.seen out.old) (O.seen out.new)) }
+    ensures lasts { Lasts
+        (seen_between (F.seen files.old) (F.seen files.new) (O.seen out.old) (O.seen out.new)) }
+{
+    let page = match read_page(alloc, files, page) {
+        Ok(page) => page,
+        Err(status) => return status,
+    };
+    let list = match read_events(alloc, files, events) {
+        Ok(list) => list,
+        Err(status) => return status,
+    };
+    let Ok(text) = replayed_text(alloc, page, &list) else {
+        return Status::OutOfMemory;
+    };
+    match out.put(&text) {
+        Ok(()) => Status::Ok,
+        Err(_) => Status::WriteFault,
+    }
 }

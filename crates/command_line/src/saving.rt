@@ -11,7 +11,6 @@ ghost use Rattle.js_machine.specs.Run.{run_of};
 ghost use Rattle.js_machine.specs.Saved as spec;
 ghost use Rattle.command_line.specs.Saving.{saved_page, before};
 
-use crate::replay::run_page;
 use indexmap::map::Slice;
 use js_core::ascii::ascii_text;
 use js_core::memory::OutOfMemory;
@@ -19,7 +18,7 @@ use js_core::operators::BinaryOp;
 use js_core::syntax::{Code, Declarator, Expr, ExprNode, Script, Stmt, StmtNode};
 use js_core::units::Units;
 use js_core::whole::Whole;
-use js_machine::{Cell, First};
+use js_machine::{Cell, First, load_first};
 use js_print::print::print;
 use js_values::event::Event;
 use std::alloc::Global;
@@ -169,6 +168,18 @@ fn page_text(alloc: Global, page: &First) -> Result<Vec<u8>, OutOfMemory>
     print(alloc, &script, &mut text)?;
     text.extend_from_slice(SAVED_TAIL)?;
     Ok(text)
+}
+
+// The page after its script and then the events.
+fn run_page(alloc: Global, script: &Script, list: &[Event]) -> Result<First, OutOfMemory>
+    requires { IsFirst script.now }
+    ensures { IfOk result (λ page. page ≡ run_of script.now list.now) }
+{
+    let mut page = load_first(alloc, script)?;
+    for event in list {
+        page.act(event)?;
+    }
+    Ok(page)
 }
 
 /// The page that is saved after the script and then the events.

@@ -1,6 +1,6 @@
 //! How the program ends.
 
-use page_check::page::Refusal;
+use page_check::Refusal;
 
 /// How a command ends. The number of each is the exit status of the program.
 #[derive(Clone, Copy, Debug, PartialEq, Eq)]

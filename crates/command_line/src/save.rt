@@ -1,0 +1,48 @@
+//! What `save` does.
+
+ghost use Rattle.command_line.specs.declared.command.Work.TheVariants.{Save as SaveWork};
+ghost use Rattle.command_line.specs.Command.{session};
+ghost use Rattle.command_line.specs.Stages.{seen_between, work_of, EndsAt, Lasts};
+ghost use Rattle.command_line.specs.Texts.{PutsText};
+
+use crate::reading::{read_events, read_script};
+use crate::saving::saved_text;
+use crate::status::Status;
+use page_check::law_one_answer;
+use page_io::files::Files;
+use page_io::sink::Sink;
+use std::alloc::Global;
+
+/// Writes the page of this name as it is after the events. The order is: reading and accepting the page, reading the events,
+/// loading and acting, writing. The first cause to end is the answer.
+pub fn save<F: Files, O: Sink>(
+    alloc: Global,
+    page: &str,
+    events: &str,
+    files: &mut F,
+    out: &mut O,
+) -> Status
+    ensures ends { EndsAt (work_of (session SaveWork page.now events.now)) result
+        (seen_between (F.seen files.old) (F.seen files.new) (O.seen out.old) (O.seen out.new)) }
+    ensures puts { PutsText (session SaveWork page.now events.now) result
+        (seen_between (F.seen files.old) (F.seen files.new) (O.seen out.old) (O.seen out.new)) }
+    ensures lasts { Lasts
+        (seen_between (F.seen files.old) (F.seen files.new) (O.seen out.old) (O.seen out.new)) }
+{
+    law_one_answer();
+    let script = match read_script(alloc, files, page) {
+        Ok(script) => script,
+        Err(status) => return status,
+    };
+    let list = match read_events(alloc, files, events) {
+        Ok(list) => list,
+        Err(status) => return status,
+    };
+    let Ok(text) = saved_text(alloc, &script, &list) else {
+        return Status::OutOfMemory;
+    };
+    match out.put(&text) {
+        Ok(()) => Status::Ok,
+        Err(_) => Status::WriteFault,
+    }
+}
