@@ -225,7 +225,9 @@ def pages():
              b"<style>a<b &amp;</style>", b"<style></style>", b"<style></script></style >", b"<title>a<b>c</b></title>",
              b"<textarea>&lt;<!--a--></textarea>"]
     inner += [b"<%s></%s>" % (name.encode(), name.encode()) for name in sorted(REFUSED)]
-    return ok + [html(it) for it in inner]
+    marked = [b"<!--imagen 1--><html><script>'use strict';\n1</script></html>",
+              b"\xef\xbb\xbf<html><body></body><script>'use strict';\r\n1</script></html>"]
+    return ok + [html(it) for it in inner] + marked
 
 
 def main():
