@@ -1,12 +1,14 @@
 //! What waits for a part of a script, and what begins one.
 
 use crate::spot::Spot;
+use js_core::memory::OutOfMemory;
 use js_core::units::Units;
 use js_values::ids::ObjId;
 use js_values::value::Value;
 use object_heap::values::Values;
 use page_meaning::reference::Reference;
 use page_meaning::signal::Signal;
+use std::alloc::Global;
 use std::marker::Model;
 
 /// An expression waits for the value of the part whose number is `turn`, with what it has got.
@@ -59,7 +61,7 @@ impl Model for Listed {
     ghost view = { λ l. l.names.items };
 }
 
-ghost use Rattle.std.specs.Prelude.{◌≡◌};
+ghost use Rattle.std.specs.Prelude.{◌≡◌, IfOk};
 
 impl Listed {
     /// These names.
@@ -124,10 +126,77 @@ pub enum Frame {
     Called(CalledFrame),
 }
 
+/// A frame where it lies in memory, so that it is small to hand on. Contracts see it as the frame.
+#[derive(Drop)]
+pub struct BoxedFrame {
+    frame: Box<Frame>,
+}
+
+impl Model for BoxedFrame {
+    ghost use Rattle.page_frames.specs.contracts.frame.Frame as one;
+    ghost use Rattle.page_frames.specs.declared.frame.Frame.{Frame as OneFrame};
+
+    ghost Value = { OneFrame };
+
+    ghost coded = { one.the_row.coded };
+
+    ghost view = { λ b. b.frame.value };
+}
+
+impl BoxedFrame {
+    /// This frame.
+    pub fn of(alloc: Global, frame: Frame) -> Result<BoxedFrame, OutOfMemory>
+        ensures { IfOk result (λ boxed. boxed ≡ frame) }
+    {
+        Ok(BoxedFrame {
+            frame: Box::new(alloc, frame)?,
+        })
+    }
+
+    /// The frame, without memory.
+    pub fn into_frame(self) -> Frame
+        ensures { result ≡ self }
+    {
+        Box::into_inner(self.frame)
+    }
+}
+
+/// A call where it lies in memory. Contracts see it as the call.
+#[derive(Drop)]
+pub struct BoxedCall {
+    call: Box<CallFrame>,
+}
+
+impl Model for BoxedCall {
+    ghost use Rattle.page_frames.specs.declared.frame.CallFrame.{CallFrame as OneCall};
+
+    ghost Value = { OneCall };
+
+    ghost view = { λ b. b.call.value };
+}
+
+impl BoxedCall {
+    /// This call.
+    pub fn of(alloc: Global, call: CallFrame) -> Result<BoxedCall, OutOfMemory>
+        ensures { IfOk result (λ boxed. boxed ≡ call) }
+    {
+        Ok(BoxedCall {
+            call: Box::new(alloc, call)?,
+        })
+    }
+
+    /// The call, without memory.
+    pub fn into_call(self) -> CallFrame
+        ensures { result ≡ self }
+    {
+        Box::into_inner(self.call)
+    }
+}
+
 /// What begins: a node, a node that takes a value as the target of a for-in, or a call.
 #[derive(Drop)]
 pub enum Begin {
     Node(Spot),
     Target(Spot, Value),
-    Call(CallFrame),
+    Call(BoxedCall),
 }

@@ -7,8 +7,8 @@ mod meter;
 mod spot;
 
 pub use frame::{
-    Begin, CallFrame, CalledFrame, CaseFrame, EachFrame, ExprFrame, Frame, Listed, NameFrame,
-    StmtFrame, TargetFrame,
+    Begin, BoxedCall, BoxedFrame, CallFrame, CalledFrame, CaseFrame, EachFrame, ExprFrame, Frame,
+    Listed, NameFrame, StmtFrame, TargetFrame,
 };
 pub use laws::{law_loops, law_stacks, law_starts, law_weights};
 pub use meter::{Meter, Next};

@@ -1,6 +1,6 @@
 //! What is left to a task, and what a step leads to.
 
-use crate::frame::{Begin, Frame};
+use crate::frame::{Begin, BoxedFrame};
 use page_meaning::signal::Signal;
 
 /// The steps that are left, and the functions that may yet be active.
@@ -16,11 +16,11 @@ pub enum Next {
     /// It ends so.
     Give(Signal),
     /// The frame goes on with this end at once.
-    Go(Frame, Signal),
+    Go(BoxedFrame, Signal),
     /// This runs in its place.
     Enter(Begin),
     /// This runs, and the frame waits for its end.
-    Then(Frame, Begin),
+    Then(BoxedFrame, Begin),
     /// A step was to be taken, and none was left.
     Stopped,
 }

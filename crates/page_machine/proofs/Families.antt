@@ -7,8 +7,8 @@ use Rattle.code_table.specs.declared.kind.Kind.{Kind}
 use Rattle.code_table.specs.declared.kind.Kind.TheVariants as kind
 use Rattle.js_values.specs.declared.value.Value.{Value}
 use Rattle.page_meaning.specs.declared.signal.Signal.{Signal}
-use Rattle.page_meaning.specs.declared.signal.Signal.TheVariants.{Value as Val, Thrown, Return, Break, Continue}
-use Rattle.page_meaning.specs.Act.{Act, Calls, Ended, give, on_value}
+use Rattle.page_meaning.specs.declared.signal.Signal.TheVariants.{Value as Val}
+use Rattle.page_meaning.specs.Act.{Act, Calls, give}
 use Rattle.page_meaning.specs.Calls.{calls_at}
 use Rattle.page_meaning.specs.Names.{Here}
 use Rattle.page_meaning.specs.Store.{Store}
@@ -19,7 +19,9 @@ use Rattle.page_frames.specs.declared.meter.Next.{Next}
 use Rattle.page_frames.specs.declared.meter.Next.TheVariants.{Give}
 use Rattle.page_frames.specs.Rest.{rest_value}
 use Rattle.page_frames.specs.Step.{Moves, Steps}
+use Rattle.page_frames.specs.Weight.{weigh_frame}
 use Rattle.page_frames.specs.Where.{Where, here_of, spot_node}
+use Rattle.step_parts.proofs.Callers.{passes}
 use Rattle.step_parts.specs.Families.{family_of}
 use Rattle.step_parts.specs.declared.family.Family.{Family}
 use Rattle.step_parts.specs.declared.family.Family.TheVariants.{Plain, Sequence, Operator, Property, Change, Call, Named, Statement}
@@ -69,16 +71,6 @@ given_back f g turn got v w m e h = record {
 }
 
 -- an end that is no value passes
-passes : (f : Value → Act) (s : Signal) (w : Store) (n : ℕ) → ((v : Value) → s ≡ Val v → ⊥) → (on_value f s).run w n ≡ Ended s w n
-passes f (Val v) w n h = absurd (h v refl)
-passes f (Thrown v) w n h = refl
-passes f (Return v) w n h = refl
-passes f Break w n h = refl
-passes f Continue w n h = refl
-
 pub passed_on : (f : ExprFrame) (s : Signal) (w : Store) (m : Meter) → ((v : Value) → s ≡ Val v → ⊥) → Steps (frame.Expr f) s w m (Give s) w m
-passed_on f s w m h = record {
-  follows = passes (rest_value (calls_at m.depth) (here_of f.spot) (spot_node f.spot) (kind_of (spot_node f.spot)) f.turn f.got) s w m.steps h;
-  levels = refl;
-  lighter = le_refl m.steps;
-}
+passed_on f s w m h =
+    passes (rest_value (calls_at m.depth) (here_of f.spot) (spot_node f.spot) (kind_of (spot_node f.spot)) f.turn f.got) s (weigh_frame (frame.Expr f)) w m h

@@ -7,7 +7,7 @@ ghost use Rattle.page_frames.specs.Where.{spot_node};
 
 use js_core::memory::OutOfMemory;
 use js_values::value::Value;
-use page_frames::{Begin, ExprFrame, Frame, Meter, Next, Spot};
+use page_frames::{Begin, BoxedFrame, ExprFrame, Frame, Meter, Next, Spot};
 use page_meaning::signal::Signal;
 use page_state::State;
 use step_assign::{begin_named, begin_target, go_change, go_name, go_target};
@@ -23,7 +23,7 @@ pub(crate) fn begin(state: &mut State, what: Begin, meter: &mut Meter) -> Result
     match what {
         Begin::Node(spot) => begin_node(state, spot, meter),
         Begin::Target(spot, value) => begin_target(state, spot, value, meter),
-        Begin::Call(call) => begin_call(state, call, meter),
+        Begin::Call(call) => begin_call(state, call.into_call(), meter),
     }
 }
 
@@ -45,14 +45,14 @@ fn begin_node(state: &mut State, spot: Spot, meter: &mut Meter) -> Result<Next, 
 /// A step of a frame, from the end of what it waits for.
 pub(crate) fn go(
     state: &mut State,
-    frame: Frame,
+    frame: BoxedFrame,
     end: Signal,
     meter: &mut Meter,
 ) -> Result<Next, OutOfMemory>
     requires { depth_after frame meter.old.depth < 2 ^ 32 }
     ensures { IfOk result (λ n. Steps frame end state.old meter.old n state.new meter.new) }
 {
-    match frame {
+    match frame.into_frame() {
         Frame::Expr(frame) => go_expression(state, frame, end, meter),
         Frame::Name(frame) => go_name(state, frame, end, meter),
         Frame::Target(frame) => go_target(state, frame, end, meter),

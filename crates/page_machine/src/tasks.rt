@@ -4,7 +4,6 @@ ghost use Rattle.std.specs.Prelude.{◌≡◌, [], IfOk, OnOk, ℕ};
 ghost use Rattle.code_table.specs.Node.{body_of};
 ghost use Rattle.js_values.specs.declared.value.Value.TheVariants.{Undefined};
 ghost use Rattle.page_meaning.specs.Calls.{calls_at};
-ghost use Rattle.page_meaning.specs.Functions.{call_end as spec_end};
 ghost use Rattle.page_meaning.specs.Tasks as spec;
 ghost use Rattle.page_state.specs.Does.{Gives, no_value};
 ghost use Rattle.page_machine.specs.Ends.{outcome_of};
@@ -18,9 +17,10 @@ use js_core::units::Units;
 use js_values::line::LineKind;
 use js_values::value::Value;
 use object_heap::values::Values;
-use page_frames::{Begin, CallFrame, Meter, Spot};
+use page_frames::{Begin, BoxedCall, CallFrame, Meter, Spot};
 use page_meaning::signal::Signal;
 use page_state::{Fault, State, WINDOW};
+use step_call::call_end;
 
 /// What is run as one.
 #[derive(Drop)]
@@ -85,17 +85,6 @@ fn run_body(state: &mut State, code: FunctionCode, meter: &mut Meter) -> Result<
     }
 }
 
-// What a script makes of the end of its statements.
-fn call_end(end: Signal) -> Signal
-    ensures { result ≡ spec_end end }
-{
-    match end {
-        Signal::Return(value) => Signal::Value(value),
-        Signal::Thrown(value) => Signal::Thrown(value),
-        Signal::Value(_) | Signal::Break | Signal::Continue => Signal::Value(Value::Undefined),
-    }
-}
-
 // Calls what a global name holds, without arguments.
 fn call_name(state: &mut State, name: &Units, meter: &mut Meter) -> Result<End, OutOfMemory>
     ensures { IfOk result (λ end. outcome_of end state.new meter.new.steps
@@ -120,7 +109,8 @@ fn call(state: &mut State, callee: Value, meter: &mut Meter) -> Result<End, OutO
         this: Value::Undefined,
         args: Values::new(state.alloc()),
     };
-    run(state, Begin::Call(frame), meter)
+    let boxed = BoxedCall::of(state.alloc(), frame)?;
+    run(state, Begin::Call(boxed), meter)
 }
 
 // A line tells an exception and want of steps.

@@ -23,7 +23,7 @@ use Rattle.page_frames.proofs.Callers.{early_part, weigh_less}
 use Rattle.page_state.specs.Does.{Does}
 use Rattle.page_state.proofs.Callers.{told_property}
 use Rattle.step_assign.specs.Waiting.{RunsNamed}
-use Rattle.step_assign.proofs.Leading.{also_leads, goes_as}
+use Rattle.step_parts.proofs.Callers.{also_leads, goes_as}
 
 -- nothing was got
 pub nothing_got : (got : List Value) → length got ≡ 0 → got ≡ []

@@ -1,4 +1,3 @@
 pub mod Changing
-pub mod Leading
 pub mod Naming
 pub mod Targeting

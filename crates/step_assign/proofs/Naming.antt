@@ -17,7 +17,7 @@ use Rattle.page_frames.specs.declared.frame.Begin.TheVariants as begin
 use Rattle.page_frames.specs.declared.frame.Frame.TheVariants as frame
 use Rattle.page_frames.specs.declared.meter.Meter.{Meter}
 use Rattle.page_frames.specs.declared.meter.Next.{Next}
-use Rattle.page_frames.specs.declared.meter.Next.TheVariants.{Go, Then}
+use Rattle.page_frames.specs.declared.meter.Next.TheVariants.{Then}
 use Rattle.page_frames.specs.Parts.{mean_node, part}
 use Rattle.page_frames.specs.Rest.{rest_name}
 use Rattle.page_frames.specs.Start.{start_of}
@@ -27,24 +27,22 @@ use Rattle.page_frames.specs.Where.{Where, here_of, numbered, spot_node}
 use Rattle.page_frames.proofs.Callers.{begin_weigh, begins_by_kind, early_part}
 use Rattle.page_state.specs.Does.{Does}
 use Rattle.step_assign.specs.Waiting.{ReadsThenRuns, RunsRight}
-use Rattle.step_assign.proofs.Leading.{also_leads, leads_as, there_is}
+use Rattle.step_parts.proofs.Callers.{also_leads, leads_as, there_is}
 
 -- the right side is paid
 right_paid : (at : Option Node) → suc (weigh at 1) + suc (cost (and_child at 0)) ≤ weigh at 0
 right_paid at = early_part at 0 (omega arith)
 
 pub right_then : (f : Where) (ref : Reference) (old : Option Value) (j : ℕ) (w : Store) (m : Meter) → spot_node (numbered f j) ≡ and_child (spot_node f) 0
-    → RunsRight f ref old w m (Then (frame.Name (record { spot = f; reference = ref; old = old })) (begin.Node (numbered f j)))
+    → RunsRight f ref old w m (Then (frame.Name (record { spot = f; reference = ref; old = old })) (begin.Node (numbered f j))) w
 right_then f ref old j w m e = record { follows = rw (← e) refl; levels = refl; lighter = rw e (omega (arith, right_paid (spot_node f))) }
 
-pub right_on : (f : Where) (ref : Reference) (old : Option Value) (j : ℕ) (w : Store) (m : Meter) (v : Value) → spot_node (numbered f j) ≡ and_child (spot_node f) 0
-    → Does (λ calls. mean_node calls (here_of f) (spot_node (numbered f j))) w (Val v) w
-    → RunsRight f ref old w m (Go (frame.Name (record { spot = f; reference = ref; old = old })) (Val v))
-right_on f ref old j w m v e p = record {
-  follows = ap (λ o. then_on o (on_value (rest_name (calls_at m.depth) (kind_of (spot_node f)) ref old))) (rw e at (p.is (calls_at m.depth) m.steps));
-  levels = refl;
-  lighter = omega (arith, right_paid (spot_node f));
-}
+-- a right side that is read at once
+pub right_put : {E : Type 0} (f : Where) (ref : Reference) (old : Option Value) (j : ℕ) (v : Value) (s t : Store) (m : Meter) (r : Result Next E) → spot_node (numbered f j) ≡ and_child (spot_node f) 0
+    → Does (λ calls. mean_node calls (here_of f) (spot_node (numbered f j))) s (Val v) s
+    → IfOk r (λ n. Leads (rest_name (calls_at m.depth) (kind_of (spot_node f)) ref old v) (weigh (spot_node f) 0) s m n t m) → IfOk r (λ n. RunsRight f ref old s m n t)
+right_put f ref old j v s t m r e d h =
+    also_leads (λ calls. part calls (here_of f) (spot_node f) 0) (rest_name (calls_at m.depth) (kind_of (spot_node f)) ref old) v (weigh (spot_node f) 0) s s t m m r (rw e at d) h
 
 -- a name that is resolved begins
 opens_resolved : {E : Type 0} (f : Where) (q : Kind) (x : List ℕ) (k : Reference → Act) (ref : Reference) (s t : Store) (m : Meter) (r : Result Next E) → kind_of (spot_node f) ≡ q
@@ -59,11 +57,11 @@ opens_resolved f q x k ref s t m r e z b d h =
     ∙ ap (λ o. then_on o k) (d.is calls m.steps)) (omega (arith, paid)) h
 
 -- an assignment, and one with an operator
-pub assigned_opens : {E : Type 0} (f : Where) (x : List ℕ) (ref : Reference) (s : Store) (m : Meter) (r : Result Next E) (env : Option EnvId) → kind_of (spot_node f) ≡ AssignName None x
+pub assigned_opens : {E : Type 0} (f : Where) (x : List ℕ) (ref : Reference) (s t : Store) (m : Meter) (r : Result Next E) (env : Option EnvId) → kind_of (spot_node f) ≡ AssignName None x
     → env ≡ f.env → ((here : Here) → here.env ≡ env → Does (λ _. resolve here x) s ref s)
-    → IfOk r (λ n. RunsRight f ref None s m n) → IfOk r (λ n. Opens f s m n s m)
-assigned_opens f x ref s m r env e i d h =
-    opens_resolved f (AssignName None x) x (λ y. also (part (calls_at m.depth) (here_of f) (spot_node f) 0) (rest_name (calls_at m.depth) (AssignName None x) y None)) ref s s m r e
+    → IfOk r (λ n. RunsRight f ref None s m n t) → IfOk r (λ n. Opens f s m n t m)
+assigned_opens f x ref s t m r env e i d h =
+    opens_resolved f (AssignName None x) x (λ y. also (part (calls_at m.depth) (here_of f) (spot_node f) 0) (rest_name (calls_at m.depth) (AssignName None x) y None)) ref s t m r e
     (λ z. cc) refl (d (here_of f) (rw i refl)) (rw e at h)
 
 pub operated_opens : {E : Type 0} (f : Where) (op : BinaryOp) (x : List ℕ) (ref : Reference) (s t : Store) (m : Meter) (r : Result Next E) (env : Option EnvId)
@@ -76,21 +74,21 @@ operated_opens f op x ref s t m r env e i d h =
     (λ z. cc) refl (d (here_of f) (rw i refl)) h
 
 -- a declared name
-pub declared_opens : {E : Type 0} (f : Where) (x : List ℕ) (ref : Reference) (s : Store) (m : Meter) (r : Result Next E) (env : Option EnvId) → kind_of (spot_node f) ≡ Declarator x
+pub declared_opens : {E : Type 0} (f : Where) (x : List ℕ) (ref : Reference) (s t : Store) (m : Meter) (r : Result Next E) (env : Option EnvId) → kind_of (spot_node f) ≡ Declarator x
     → env ≡ f.env → ((here : Here) → here.env ≡ env → Does (λ _. resolve here x) s ref s)
-    → IfOk r (λ n. RunsRight f ref None s m n) → IfOk r (λ n. Opens f s m n s m)
-declared_opens f x ref s m r env e i d h =
-    opens_resolved f (Declarator x) x (λ y. also (part (calls_at m.depth) (here_of f) (spot_node f) 0) (rest_name (calls_at m.depth) (Declarator x) y None)) ref s s m r e
+    → IfOk r (λ n. RunsRight f ref None s m n t) → IfOk r (λ n. Opens f s m n t m)
+declared_opens f x ref s t m r env e i d h =
+    opens_resolved f (Declarator x) x (λ y. also (part (calls_at m.depth) (here_of f) (spot_node f) 0) (rest_name (calls_at m.depth) (Declarator x) y None)) ref s t m r e
     (λ z. cc) refl (d (here_of f) (rw i refl)) (rw e at h)
 
 -- the old value was read, and the right side runs
-pub read_waits : {E : Type 0} (f : Where) (op : BinaryOp) (x : List ℕ) (ref : Reference) (old : Value) (s t : Store) (m : Meter) (r : Result Next E)
+pub read_waits : {E : Type 0} (f : Where) (op : BinaryOp) (x : List ℕ) (ref : Reference) (old : Value) (s t u : Store) (m : Meter) (r : Result Next E)
     → kind_of (spot_node f) ≡ AssignName (Some op) x → Does (λ _. read x ref) s (Val old) t
-    → IfOk r (λ n. RunsRight f ref (Some old) t m n)
-    → IfOk r (λ n. ReadsThenRuns f op x ref s m n t)
-read_waits f op x ref old s t m r e d h =
+    → IfOk r (λ n. RunsRight f ref (Some old) t m n u)
+    → IfOk r (λ n. ReadsThenRuns f op x ref s m n u)
+read_waits f op x ref old s t u m r e d h =
     also_leads (λ _. read x ref) (λ v. also (part (calls_at m.depth) (here_of f) (spot_node f) 0) (rest_name (calls_at m.depth) (AssignName (Some op) x) ref (Some v))) old
-    (weigh (spot_node f) 0) s t t m m r d (rw e at h)
+    (weigh (spot_node f) 0) s t u m m r d (rw e at h)
 
 -- a name of another kind gives what its right side gives
 pub other_name : (calls : Calls) (q : Kind) (ref : Reference) (old : Option Value) (v : Value) → ((op : Option BinaryOp) (x : List ℕ) → q ≡ AssignName op x → ⊥)

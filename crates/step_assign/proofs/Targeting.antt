@@ -29,7 +29,7 @@ use Rattle.page_frames.proofs.Callers.{begin_weigh, early_part}
 use Rattle.page_state.specs.Does.{Does}
 use Rattle.step_assign.specs.Targets.{start_target}
 use Rattle.step_assign.specs.Waiting.{RunsTarget, TargetGoes}
-use Rattle.step_assign.proofs.Leading.{leads_as, there_is}
+use Rattle.step_parts.proofs.Callers.{leads_as, there_is}
 
 by_expr : (calls : Calls) (here : Here) (e : tree.Expr) (v : Value) → assign_to calls here e v ≡ start_target calls here (Some (expr_node e)) (kind_of (Some (expr_node e))) v
 by_expr calls here (call (member e x) es) v = refl

@@ -20,9 +20,9 @@ use Rattle.page_frames.specs.Weight.{cost, weigh, weigh_target}
 use Rattle.page_frames.specs.Where.{Where, here_of, spot_node}
 
 -- the right side of a name runs, and then the name goes on by what it meant
-abbrev pub RunsRight : Where → Reference → Option Value → Store → Meter → Next → Type 0
-RunsRight f ref old w m next =
-    Leads (also (part (calls_at m.depth) (here_of f) (spot_node f) 0) (rest_name (calls_at m.depth) (kind_of (spot_node f)) ref old)) (weigh (spot_node f) 0) w m next w m
+abbrev pub RunsRight : Where → Reference → Option Value → Store → Meter → Next → Store → Type 0
+RunsRight f ref old w m next t =
+    Leads (also (part (calls_at m.depth) (here_of f) (spot_node f) 0) (rest_name (calls_at m.depth) (kind_of (spot_node f)) ref old)) (weigh (spot_node f) 0) w m next t m
 
 -- the name is read before
 abbrev pub ReadsThenRuns : Where → BinaryOp → List ℕ → Reference → Store → Meter → Next → Store → Type 0

@@ -20,7 +20,7 @@ use js_core::memory::OutOfMemory;
 use js_core::operators::BinaryOp;
 use js_core::units::Units;
 use js_values::value::Value;
-use page_frames::{Begin, Frame, Meter, NameFrame, Next, Spot};
+use page_frames::{Begin, BoxedFrame, Frame, Meter, NameFrame, Next, Spot};
 use page_meaning::reference::Reference;
 use page_meaning::signal::Signal;
 use page_state::{Fault, State};
@@ -82,36 +82,28 @@ fn read_named(
     }
 }
 
-// The right side runs, and then the name goes on by what it meant.
+// The right side runs, and then the name goes on by what it meant; at once where the right side is read at once.
 fn run_right(
-    state: &State,
+    state: &mut State,
     spot: Spot,
     reference: Reference,
     old: Option<Value>,
     meter: &Meter,
 ) -> Result<Next, OutOfMemory>
-    ensures { IfOk result (λ n. RunsRight spot reference old state.now meter.now n) }
+    ensures { IfOk result (λ n. RunsRight spot reference old state.old meter.now n state.new) }
 {
     let number = spot.part(0);
     match plain(state, &spot, number)? {
-        Some(value) => Ok(Next::Go(
-            Frame::Name(NameFrame {
+        Some(value) => give(put_named(state, &spot, reference, &old, value)),
+        None => {
+            let part = spot.at(number)?;
+            let frame = Frame::Name(NameFrame {
                 spot,
                 reference,
                 old,
-            }),
-            Signal::Value(value),
-        )),
-        None => {
-            let part = spot.at(number)?;
-            Ok(Next::Then(
-                Frame::Name(NameFrame {
-                    spot,
-                    reference,
-                    old,
-                }),
-                Begin::Node(part),
-            ))
+            });
+            let boxed = BoxedFrame::of(state.alloc(), frame)?;
+            Ok(Next::Then(boxed, Begin::Node(part)))
         }
     }
 }

@@ -10,7 +10,7 @@ use code_table::Kind;
 use js_core::memory::OutOfMemory;
 use js_core::units::Units;
 use js_values::value::Value;
-use page_frames::{Begin, Frame, Meter, Next, Spot, TargetFrame};
+use page_frames::{Begin, BoxedFrame, Frame, Meter, Next, Spot, TargetFrame};
 use page_meaning::signal::Signal;
 use page_state::{Fault, State};
 use step_parts::{give, plain};
@@ -46,16 +46,16 @@ fn run_target(
 {
     let number = spot.part(k);
     match plain(state, &spot, number)? {
-        Some(part) => Ok(Next::Go(
-            Frame::Target(TargetFrame { spot, value, base }),
-            Signal::Value(part),
-        )),
+        Some(part) => {
+            let frame = Frame::Target(TargetFrame { spot, value, base });
+            let boxed = BoxedFrame::of(state.alloc(), frame)?;
+            Ok(Next::Go(boxed, Signal::Value(part)))
+        }
         None => {
             let part = spot.at(number)?;
-            Ok(Next::Then(
-                Frame::Target(TargetFrame { spot, value, base }),
-                Begin::Node(part),
-            ))
+            let frame = Frame::Target(TargetFrame { spot, value, base });
+            let boxed = BoxedFrame::of(state.alloc(), frame)?;
+            Ok(Next::Then(boxed, Begin::Node(part)))
         }
     }
 }

@@ -14,7 +14,7 @@ use code_table::Kind;
 use js_core::memory::OutOfMemory;
 use js_values::value::Value;
 use object_heap::values::Values;
-use page_frames::{Begin, CallFrame, Meter, Next, Spot};
+use page_frames::{Begin, BoxedCall, CallFrame, Meter, Next, Spot};
 use page_state::State;
 use step_parts::{Family, run_part};
 
@@ -73,7 +73,8 @@ pub(crate) fn next_argument(
         run_part(state, spot, turn, got, part, meter)
     } else {
         let construct = is_new(spot.kind());
-        Ok(Next::Enter(Begin::Call(call_of(construct, got))))
+        let call = BoxedCall::of(state.alloc(), call_of(construct, got))?;
+        Ok(Next::Enter(Begin::Call(call)))
     }
 }
 

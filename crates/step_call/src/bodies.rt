@@ -18,8 +18,9 @@ use js_values::built_in::BuiltIn;
 use js_values::ids::{EnvId, ObjId};
 use js_values::value::Value;
 use object_heap::values::Values;
-use page_frames::{Begin, CallFrame, CalledFrame, Frame, Meter, Next, Spot};
+use page_frames::{Begin, BoxedCall, BoxedFrame, CallFrame, CalledFrame, Frame, Meter, Next, Spot};
 use page_state::State;
+use std::alloc::Global;
 use step_parts::give;
 
 // The body of a function runs on `this` in a new environment, one level of depth down. A construction keeps its fresh object.
@@ -41,10 +42,9 @@ fn enter_body(
     let body = Spot::body(state.alloc(), code, Some(scope), this)?;
     body.is_small();
     meter.depth -= 1;
-    Ok(Next::Then(
-        Frame::Called(CalledFrame { body: true, fresh }),
-        Begin::Node(body),
-    ))
+    let frame = Frame::Called(CalledFrame { body: true, fresh });
+    let boxed = BoxedFrame::of(state.alloc(), frame)?;
+    Ok(Next::Then(boxed, Begin::Node(body)))
 }
 
 /// A function of a page is called (section 13.2.1).
@@ -102,6 +102,7 @@ pub(crate) fn run_native(
 /// A bound function calls or constructs its target, one level of depth down, with its own arguments before those that it got (sections
 /// 15.3.4.5.1 and 15.3.4.5.2).
 pub(crate) fn run_bound(
+    alloc: Global,
     construct: bool,
     target: ObjId,
     this: Value,
@@ -117,18 +118,19 @@ pub(crate) fn run_bound(
 {
     let args = joined(own, args)?;
     meter.depth -= 1;
-    Ok(Next::Then(
-        Frame::Called(CalledFrame {
-            body: false,
-            fresh: None,
-        }),
-        Begin::Call(CallFrame {
-            construct,
-            callee: Value::Object(target),
-            this,
-            args,
-        }),
-    ))
+    let frame = Frame::Called(CalledFrame {
+        body: false,
+        fresh: None,
+    });
+    let call = CallFrame {
+        construct,
+        callee: Value::Object(target),
+        this,
+        args,
+    };
+    let boxed = BoxedFrame::of(alloc, frame)?;
+    let call = BoxedCall::of(alloc, call)?;
+    Ok(Next::Then(boxed, Begin::Call(call)))
 }
 
 fn joined(own: Values, args: Values) -> Result<Values, OutOfMemory>

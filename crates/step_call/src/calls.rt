@@ -124,7 +124,7 @@ fn call_object(
             let target = *target;
             let own = own.clone()?;
             let before = before.clone()?;
-            run_bound(false, target, own, before, args, meter)
+            run_bound(state.alloc(), false, target, own, before, args, meter)
         }
         _ => {
             let fault = state.raise(Throw::NotFunction);
@@ -164,7 +164,7 @@ fn construct_object(
             let target = *target;
             let own = own.clone()?;
             let before = before.clone()?;
-            run_bound(true, target, own, before, args, meter)
+            run_bound(state.alloc(), true, target, own, before, args, meter)
         }
         _ => {
             let fault = state.raise(Throw::NotFunction);

@@ -37,8 +37,8 @@ fn ended(body: bool, fresh: Option<Value>, end: Signal) -> Signal
     }
 }
 
-// What the end of a body gives: the value that it returned, or undefined.
-fn call_end(end: Signal) -> Signal
+/// What the end of a body gives: the value that it returned, or undefined (section 13.2.1).
+pub fn call_end(end: Signal) -> Signal
     ensures { result ≡ spec_end end }
 {
     match end {

@@ -9,4 +9,4 @@ mod ends;
 
 pub use callees::go_call;
 pub use calls::begin_call;
-pub use ends::go_called;
+pub use ends::{call_end, go_called};

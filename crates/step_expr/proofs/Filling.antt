@@ -21,8 +21,9 @@ use Rattle.page_frames.specs.Where.{Where, here_of, spot_node}
 use Rattle.page_state.specs.declared.fault.Fault.{Fault}
 use Rattle.page_state.specs.Does.{Does, Gives, Raises, itself}
 use Rattle.page_state.proofs.Callers.{also_gives, failed, given}
+use Rattle.step_parts.proofs.Callers.{also_leads}
 use Rattle.step_expr.specs.Holding.{holder}
-use Rattle.step_expr.proofs.InTurn.{done_first, list_goes, literal_goes}
+use Rattle.step_expr.proofs.InTurn.{list_goes, literal_goes}
 
 -- an element is defined, and the next ones follow
 pub list_filled : {E : Type 0} (f : Where) (turn k : ℕ) (got : List Value) (o : ObjId) (v u : Value) (w w1 w2 : Store) (m : Meter) (r : Result Next E) → Some o ≡ holder got → k ≡ suc turn
@@ -30,7 +31,7 @@ pub list_filled : {E : Type 0} (f : Where) (turn k : ℕ) (got : List Value) (o 
     → IfOk r (λ n. Leads (elements_from (calls_at m.depth) (here_of f) (spot_node f) o k) (weigh (spot_node f) k) w1 m n w2 m) → IfOk r (λ n. Moves f kind.List turn got v w m n w2)
 list_filled f turn k got o v u w w1 w2 m r e i d h =
     list_goes f turn got o v w w2 m r e
-    (done_first m (define_member o (decimal turn) v) (λ _. elements_from (calls_at m.depth) (here_of f) (spot_node f) o (suc turn)) (weigh (spot_node f) (suc turn)) u w w1 w2 m r d
+    (also_leads (λ _. define_member o (decimal turn) v) (λ _. elements_from (calls_at m.depth) (here_of f) (spot_node f) o (suc turn)) u (weigh (spot_node f) (suc turn)) w w1 w2 m m r d
     (subst (λ (k : ℕ). IfOk r (λ n. Leads (elements_from (calls_at m.depth) (here_of f) (spot_node f) o k) (weigh (spot_node f) k) w1 m n w2 m)) i h))
 
 -- a field is defined, and the next ones follow
@@ -39,7 +40,7 @@ pub literal_filled : {E : Type 0} (f : Where) (xs : List (List ℕ)) (x : List �
     → IfOk r (λ n. Leads (fields_from (calls_at m.depth) (here_of f) (spot_node f) o k) (weigh (spot_node f) k) w1 m n w1 m) → IfOk r (λ n. Moves f (kind.Literal xs) turn got v w m n w1)
 literal_filled f xs x turn k got o v u w w1 m r e g i d h =
     literal_goes f xs turn got o v w w1 m r e
-    (done_first m (define_member o (name_at xs turn) v) (λ _. fields_from (calls_at m.depth) (here_of f) (spot_node f) o (suc turn)) (weigh (spot_node f) (suc turn)) u w w1 w1 m r
+    (also_leads (λ _. define_member o (name_at xs turn) v) (λ _. fields_from (calls_at m.depth) (here_of f) (spot_node f) o (suc turn)) u (weigh (spot_node f) (suc turn)) w w1 w1 m m r
     (subst (λ (x : List ℕ). Does (λ _. define_member o x v) w (Val u) w1) g d)
     (subst (λ (k : ℕ). IfOk r (λ n. Leads (fields_from (calls_at m.depth) (here_of f) (spot_node f) o k) (weigh (spot_node f) k) w1 m n w1 m)) i h))
 

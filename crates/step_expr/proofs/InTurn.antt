@@ -75,16 +75,6 @@ made_first m make next weight at w w1 w2 m' (Ok n) d h = record {
   lighter = h.lighter;
 }
 
--- what was done at once, and what comes next
-pub done_first : {E : Type 0} (m : Meter) (act : Act) (next : Value → Act) (weight : ℕ) (v : Value) (w w1 w2 : Store) (m' : Meter) (r : Result Next E)
-    → Does (λ _. act) w (Val v) w1 → IfOk r (λ n. Leads (next v) weight w1 m n w2 m') → IfOk r (λ n. Leads (also act next) weight w m n w2 m')
-done_first m act next weight v w w1 w2 m' (Err x) d h = h
-done_first m act next weight v w w1 w2 m' (Ok n) d h = record {
-  follows = ap (λ o. then_on o (on_value next)) (d.is (calls_at m.depth) m.steps) ∙ h.follows;
-  levels = h.levels;
-  lighter = h.lighter;
-}
-
 -- a part that is there runs, and then the expression goes on
 runs_part : {E : Type 0} (f : Where) (q : Kind) (k : ℕ) (got : List Value) (act : Act) (w : Store) (m : Meter) (r : Result Next E) → kind_of (spot_node f) ≡ q → true ≡ is_some (and_child (spot_node f) k)
     → act ≡ also (part (calls_at m.depth) (here_of f) (spot_node f) k) (rest_value (calls_at m.depth) (here_of f) (spot_node f) q k got) → weigh_value (spot_node f) q k got ≡ weigh (spot_node f) (suc k)

@@ -30,11 +30,6 @@ use Rattle.step_parts.specs.Families.{family_of}
 use Rattle.step_parts.specs.Running.{Enters}
 use Rattle.step_parts.specs.declared.family.Family.TheVariants.{Operator, Property}
 
--- by the kind of its node
-pub moves_as : {E : Type 0} (f : Where) (q : Kind) (turn : ℕ) (got : List Value) (v : Value) (w w' : Store) (m : Meter) (r : Result Next E) → kind_of (spot_node f) ≡ q
-    → IfOk r (λ n. Moves f q turn got v w m n w') → IfOk r (λ n. Moves f (kind_of (spot_node f)) turn got v w m n w')
-moves_as f q turn got v w w' m r e h = subst (λ (k : Kind). IfOk r (λ n. Moves f k turn got v w m n w')) (sym e) h
-
 -- no other kinds are of these families
 pub no_operator : (q : Kind) → family_of q ≡ Operator → ((op : UnaryOp) → q ≡ kind.Unary op → ⊥) → ((op : BinaryOp) → q ≡ kind.Binary op → ⊥) → (q ≡ kind.And → ⊥) → (q ≡ kind.Or → ⊥) → (q ≡ kind.Cond → ⊥) → ⊥
 no_operator (kind.Unary op) h a b c d e = a op refl

@@ -18,7 +18,7 @@ use Rattle.page_frames.specs.Step.{Goes, Leads}
 use Rattle.page_frames.specs.Weight.{cost, weigh_value, weigh_signal}
 use Rattle.page_frames.specs.Where.{Where, here_of, numbered, spot_node}
 use Rattle.page_state.specs.Does.{Does}
-use Rattle.step_parts.specs.Running.{Awaits, Enters}
+use Rattle.step_parts.specs.Running.{Awaits, AwaitsNode, Enters}
 
 -- the node of this number is the kth part
 abbrev IsPart : Where → ℕ → ℕ → Type 0
@@ -39,9 +39,9 @@ goes_on f turn got k j w m v e p = record {
   lighter = omega arith;
 }
 
-pub awaits_then : (f : Where) (turn : ℕ) (kept : Option Signal) (k j : ℕ) (w : Store) (m : Meter) → IsPart f k j
-    → Awaits f turn kept k w m (Then (frame.Stmt (record { spot = f; turn = turn; kept = kept })) (begin.Node (numbered f j)))
-awaits_then f turn kept k j w m e = record { follows = rw (← e) refl; levels = refl; lighter = rw (← e) (omega arith) }
+pub awaits_node : (f : Where) (turn : ℕ) (kept : Option Signal) (j : ℕ) (w : Store) (m : Meter)
+    → AwaitsNode f turn kept (spot_node (numbered f j)) w m (Then (frame.Stmt (record { spot = f; turn = turn; kept = kept })) (begin.Node (numbered f j)))
+awaits_node f turn kept j w m = record { follows = refl; levels = refl; lighter = omega arith }
 
 pub awaits_on : (f : Where) (turn : ℕ) (kept : Option Signal) (k j : ℕ) (w : Store) (m : Meter) (v : Value) → IsPart f k j → IsPlain f j w v
     → Awaits f turn kept k w m (Go (frame.Stmt (record { spot = f; turn = turn; kept = kept })) (Val v))

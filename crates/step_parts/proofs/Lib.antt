@@ -1,4 +1,6 @@
 pub mod ByKind
 pub mod Callers
+pub mod Combining
 pub mod Going
+pub mod Leading
 pub mod Shapes

@@ -1,35 +1,61 @@
 -- Which node a kind is: a node is known by the kind that it has.
-use Rattle.std.proofs.Common.{◌≡◌, refl, ap, List, ℕ, Option, Some, None}
+use Rattle.std.proofs.Common.{◌≡◌, refl, ap, Bool, true, false, List, ℕ, Option, Some, None}
 use Rattle.code_table.specs.Kind.{kind_of, expr_kind, stmt_kind, field_names}
 use Rattle.code_table.specs.Node.{Node, expr_node, stmt_node, block_node, declarator_node}
 use Rattle.code_table.specs.declared.kind.Kind.{Kind}
 use Rattle.code_table.specs.declared.kind.Kind.TheVariants as kind
 use Rattle.js_core.specs.Tree as tree
 use Rattle.js_core.specs.Tree.{name, member, index, list, literal, call, construct, unary, update, assign, comma, var, function, expr, empty, block, if_else, do_while, while, for, for_in, continue, break, return, throw, try, switch}
+use Rattle.js_core.specs.declared.operators.BinaryOp.{BinaryOp}
+use Rattle.js_core.specs.declared.operators.UnaryOp.{UnaryOp}
 use Rattle.js_core.specs.declared.operators.UnaryOp.TheVariants.{Delete, Typeof}
 use Rattle.step_parts.specs.Families.{family_of}
+use Rattle.step_parts.specs.declared.family.Family.{Family}
 use Rattle.step_parts.specs.declared.family.Family.TheVariants.{Statement, Sequence, Call}
+
+-- calls are of one family, whatever is called
+call_family : (f : tree.Expr) (es : tree.Exprs) → family_of (expr_kind (call f es)) ≡ Call
+call_family (member e x) es = refl
+call_family (index a b) es = refl
+call_family f es = refl
+
+-- the families of unary operators, updates and assignments are none of those below
+abbrev is_apart : Family → Bool
+is_apart Statement = false
+is_apart Sequence = false
+is_apart Call = false
+is_apart f = true
+
+unary_apart : (op : UnaryOp) (e : tree.Expr) → is_apart (family_of (expr_kind (unary op e))) ≡ true
+unary_apart Delete (member e x) = refl
+unary_apart Delete (index a b) = refl
+unary_apart Delete e = refl
+unary_apart Typeof (name x) = refl
+unary_apart Typeof e = refl
+unary_apart op e = refl
+
+update_apart : (up prefix : Bool) (e : tree.Expr) → is_apart (family_of (expr_kind (update up prefix e))) ≡ true
+update_apart up prefix (name x) = refl
+update_apart up prefix (member e x) = refl
+update_apart up prefix (index a b) = refl
+update_apart up prefix e = refl
+
+assign_apart : (op : Option BinaryOp) (a b : tree.Expr) → is_apart (family_of (expr_kind (assign op a b))) ≡ true
+assign_apart op (name x) b = refl
+assign_apart op (member e x) b = refl
+assign_apart op (index a b) c = refl
+assign_apart op a b = refl
+
+apart : (f g : Family) → is_apart f ≡ true → f ≡ g → is_apart g ≡ false → ⊥
+apart f g a e n = cc (a, ap is_apart e, n)
 
 -- no expression is a statement
 pub no_statement : (e : tree.Expr) → family_of (expr_kind e) ≡ Statement → ⊥
-no_statement (call (member e x) es) h = cc
-no_statement (call (index a b) es) h = cc
-no_statement (call f es) h = cc
-no_statement (unary Delete (member e x)) h = cc
-no_statement (unary Delete (index a b)) h = cc
-no_statement (unary Delete e) h = cc
-no_statement (unary Typeof (name x)) h = cc
-no_statement (unary Typeof e) h = cc
-no_statement (unary op e) h = cc
-no_statement (update up prefix (name x)) h = cc
-no_statement (update up prefix (member e x)) h = cc
-no_statement (update up prefix (index a b)) h = cc
-no_statement (update up prefix e) h = cc
-no_statement (assign op (name x) b) h = cc
-no_statement (assign op (member e x) b) h = cc
-no_statement (assign op (index a b) c) h = cc
-no_statement (assign op a b) h = cc
-no_statement e h = cc
+no_statement (call f es) h = cc (h, call_family f es)
+no_statement (unary op e) h = apart (family_of (expr_kind (unary op e))) Statement (unary_apart op e) h refl
+no_statement (update up prefix e) h = apart (family_of (expr_kind (update up prefix e))) Statement (update_apart up prefix e) h refl
+no_statement (assign op a b) h = apart (family_of (expr_kind (assign op a b))) Statement (assign_apart op a b) h refl
+no_statement e h = cc h
 
 -- statements of a kind
 pub data IsBlock : Option Node → Type 0 where
@@ -70,24 +96,11 @@ sequence_expr : (e : tree.Expr) → family_of (expr_kind e) ≡ Sequence → IsS
 sequence_expr (list hs) h = elements hs
 sequence_expr (literal fs) h = fields fs
 sequence_expr (comma es) h = commas es
-sequence_expr (call (member e x) es) h = cc
-sequence_expr (call (index a b) es) h = cc
-sequence_expr (call f es) h = cc
-sequence_expr (unary Delete (member e x)) h = cc
-sequence_expr (unary Delete (index a b)) h = cc
-sequence_expr (unary Delete e) h = cc
-sequence_expr (unary Typeof (name x)) h = cc
-sequence_expr (unary Typeof e) h = cc
-sequence_expr (unary op e) h = cc
-sequence_expr (update up prefix (name x)) h = cc
-sequence_expr (update up prefix (member e x)) h = cc
-sequence_expr (update up prefix (index a b)) h = cc
-sequence_expr (update up prefix e) h = cc
-sequence_expr (assign op (name x) b) h = cc
-sequence_expr (assign op (member e x) b) h = cc
-sequence_expr (assign op (index a b) c) h = cc
-sequence_expr (assign op a b) h = cc
-sequence_expr e h = cc
+sequence_expr (call f es) h = cc (h, call_family f es)
+sequence_expr (unary op e) h = absurd (apart (family_of (expr_kind (unary op e))) Sequence (unary_apart op e) h refl)
+sequence_expr (update up prefix e) h = absurd (apart (family_of (expr_kind (update up prefix e))) Sequence (update_apart up prefix e) h refl)
+sequence_expr (assign op a b) h = absurd (apart (family_of (expr_kind (assign op a b))) Sequence (assign_apart op a b) h refl)
+sequence_expr e h = cc h
 
 -- every statement is one
 stmt_family : (s : tree.Stmt) → family_of (stmt_kind s) ≡ Statement
@@ -123,21 +136,10 @@ pub data IsCall : Option Node → Type 0 where
 call_expr : (e : tree.Expr) → family_of (expr_kind e) ≡ Call → IsCall (Some (expr_node e))
 call_expr (call f es) h = called f es
 call_expr (construct f es) h = built f es
-call_expr (unary Delete (member e x)) h = cc
-call_expr (unary Delete (index a b)) h = cc
-call_expr (unary Delete e) h = cc
-call_expr (unary Typeof (name x)) h = cc
-call_expr (unary Typeof e) h = cc
-call_expr (unary op e) h = cc
-call_expr (update up prefix (name x)) h = cc
-call_expr (update up prefix (member e x)) h = cc
-call_expr (update up prefix (index a b)) h = cc
-call_expr (update up prefix e) h = cc
-call_expr (assign op (name x) b) h = cc
-call_expr (assign op (member e x) b) h = cc
-call_expr (assign op (index a b) c) h = cc
-call_expr (assign op a b) h = cc
-call_expr e h = cc
+call_expr (unary op e) h = absurd (apart (family_of (expr_kind (unary op e))) Call (unary_apart op e) h refl)
+call_expr (update up prefix e) h = absurd (apart (family_of (expr_kind (update up prefix e))) Call (update_apart up prefix e) h refl)
+call_expr (assign op a b) h = absurd (apart (family_of (expr_kind (assign op a b))) Call (assign_apart op a b) h refl)
+call_expr e h = cc h
 
 pub call_shape : (at : Option Node) → family_of (kind_of at) ≡ Call → IsCall at
 call_shape None h = cc

@@ -4,9 +4,10 @@
 mod ends;
 mod family;
 mod operands;
+mod operators;
 mod parts;
 
 pub use ends::{give, signal_of, take_step};
 pub use family::Family;
 pub use operands::plain;
-pub use parts::{enter_part, run_part, run_statement};
+pub use parts::{await_statement, enter_part, run_part, run_statement};

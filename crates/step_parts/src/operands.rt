@@ -1,25 +1,63 @@
 //! Operands that are read at once.
 
 ghost use Rattle.std.specs.Prelude.{◌≡◌, IfOk, IfSome};
+ghost use Rattle.code_table.specs.Node.{and_child};
 ghost use Rattle.page_meaning.specs.declared.signal.Signal.TheVariants.{Value as Val};
-ghost use Rattle.page_meaning.specs.Names.{Here, read_name};
-ghost use Rattle.page_frames.specs.Parts.{mean_node};
-ghost use Rattle.page_frames.specs.Where.{here_of, numbered, spot_node};
+ghost use Rattle.page_meaning.specs.Properties.{get_index, get_member};
+ghost use Rattle.page_frames.specs.Where.{numbered, spot_node};
 ghost use Rattle.page_state.specs.Does.{Does};
+ghost use Rattle.step_parts.specs.Operands.{Reads};
 
+use crate::operators::operated;
 use code_table::Kind;
 use js_core::memory::OutOfMemory;
 use js_core::units::Units;
-use js_values::ids::EnvId;
 use js_values::value::Value;
 use page_frames::Spot;
-use page_state::State;
+use page_state::{State, text_of};
 
-/// The value of a name that means something, of a literal or of `this`, which needs no frame. Anything else is `None`.
+/// How deep the operands of operands are read at once, so that they take so many levels of the host's stack at most.
+const NESTING: u8 = 6;
+
+/// The value of a node that needs no frame: a name that means something, a literal, `this`, and an operator or a property of such nodes,
+/// where it throws nothing. Anything else is `None`.
 pub fn plain(state: &State, spot: &Spot, number: u32) -> Result<Option<Value>, OutOfMemory>
-    ensures { IfOk result (λ o. IfSome o (λ v.
-        Does (λ calls. mean_node calls (here_of spot.now) (spot_node (numbered spot.now number)))
-        state.now (Val v) state.now)) }
+    ensures { IfOk result (λ o.
+        IfSome o (Reads spot.now (spot_node (numbered spot.now number)) state.now)) }
+{
+    value_of(state, spot, number, NESTING)
+}
+
+// The same, with so many levels left.
+fn value_of(
+    state: &State,
+    spot: &Spot,
+    number: u32,
+    nesting: u8,
+) -> Result<Option<Value>, OutOfMemory>
+    ensures { IfOk result (λ o.
+        IfSome o (Reads spot.now (spot_node (numbered spot.now number)) state.now)) }
+{
+    match spot.kind_at(number) {
+        Kind::Binary(_) | Kind::Member(_) | Kind::Index => {
+            if nesting == 0 {
+                return Ok(None);
+            }
+            let node = spot.at(number)?;
+            let Some(first) = value_of(state, &node, node.part(0), nesting - 1)? else {
+                return Ok(None);
+            };
+            let second = value_of(state, &node, node.part(1), nesting - 1)?;
+            combined(state, &node, &first, &second)
+        }
+        _ => leaf(state, spot, number),
+    }
+}
+
+// The value of a name that means something, of a literal or of `this`.
+fn leaf(state: &State, spot: &Spot, number: u32) -> Result<Option<Value>, OutOfMemory>
+    ensures { IfOk result (λ o.
+        IfSome o (Reads spot.now (spot_node (numbered spot.now number)) state.now)) }
 {
     match spot.kind_at(number) {
         Kind::Name(name) => state.known(spot.env(), name),
@@ -29,5 +67,49 @@ pub fn plain(state: &State, spot: &Spot, number: u32) -> Result<Option<Value>, O
         Kind::Null => Ok(Some(Value::Null)),
         Kind::This => Ok(Some(spot.this().clone()?)),
         _ => Ok(None),
+    }
+}
+
+// What a node makes of the values of its operands. A property by its name has no second one.
+fn combined(
+    state: &State,
+    node: &Spot,
+    first: &Value,
+    second: &Option<Value>,
+) -> Result<Option<Value>, OutOfMemory>
+    requires first { Reads node.now (and_child (spot_node node.now) 0) state.now first.now }
+    requires second { IfSome second.now (Reads node.now (and_child (spot_node node.now) 1) state.now) }
+    ensures { IfOk result (λ o. IfSome o (Reads node.now (spot_node node.now) state.now)) }
+{
+    match (node.kind(), second) {
+        (Kind::Member(name), _) => member(state, first, name),
+        (Kind::Binary(op), Some(second)) => Ok(operated(*op, first, second)),
+        (Kind::Index, Some(second)) => element(state, first, second),
+        _ => Ok(None),
+    }
+}
+
+// The property of a value that can have some.
+fn member(state: &State, base: &Value, name: &Units) -> Result<Option<Value>, OutOfMemory>
+    ensures { IfOk result (λ o. IfSome o (λ v.
+        Does (λ _. get_member base.now name.now) state.now (Val v) state.now)) }
+{
+    match base {
+        Value::Undefined | Value::Null => Ok(None),
+        _ => Ok(Some(state.read_property(base, name)?)),
+    }
+}
+
+// The same by a key that is a primitive value.
+fn element(state: &State, base: &Value, key: &Value) -> Result<Option<Value>, OutOfMemory>
+    ensures { IfOk result (λ o. IfSome o (λ v.
+        Does (λ calls. get_index calls base.now key.now) state.now (Val v) state.now)) }
+{
+    match key {
+        Value::Object(_) => Ok(None),
+        _ => {
+            let name = text_of(state.alloc(), key)?;
+            member(state, base, &name)
+        }
     }
 }

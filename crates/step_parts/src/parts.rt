@@ -2,16 +2,19 @@
 
 ghost use Rattle.std.specs.Prelude.{◌≡◌, IfOk};
 ghost use Rattle.code_table.specs.Kind.{kind_of};
+ghost use Rattle.page_meaning.specs.Store.{Store};
+ghost use Rattle.page_frames.specs.declared.meter.Meter.{Meter as Metered};
 ghost use Rattle.page_frames.specs.Step.{Goes};
-ghost use Rattle.page_frames.specs.Where.{spot_node};
-ghost use Rattle.step_parts.specs.Running.{Awaits, Enters};
+ghost use Rattle.page_frames.specs.Where.{numbered, spot_node};
+ghost use Rattle.step_parts.specs.Running.{Awaits, AwaitsNode, Enters};
 
 use crate::operands::plain;
 use js_core::memory::OutOfMemory;
 use object_heap::values::Values;
-use page_frames::{Begin, ExprFrame, Frame, Meter, Next, Spot, StmtFrame};
+use page_frames::{Begin, BoxedFrame, ExprFrame, Frame, Meter, Next, Spot, StmtFrame};
 use page_meaning::signal::Signal;
 use page_state::State;
+use std::alloc::Global;
 
 /// The kth part runs, and then the expression goes on with what it has got.
 pub fn run_part(
@@ -27,16 +30,16 @@ pub fn run_part(
 {
     let number = spot.part(k);
     match plain(state, &spot, number)? {
-        Some(value) => Ok(Next::Go(
-            Frame::Expr(ExprFrame { spot, turn, got }),
-            Signal::Value(value),
-        )),
+        Some(value) => {
+            let frame = Frame::Expr(ExprFrame { spot, turn, got });
+            let boxed = BoxedFrame::of(state.alloc(), frame)?;
+            Ok(Next::Go(boxed, Signal::Value(value)))
+        }
         None => {
             let part = spot.at(number)?;
-            Ok(Next::Then(
-                Frame::Expr(ExprFrame { spot, turn, got }),
-                Begin::Node(part),
-            ))
+            let frame = Frame::Expr(ExprFrame { spot, turn, got });
+            let boxed = BoxedFrame::of(state.alloc(), frame)?;
+            Ok(Next::Then(boxed, Begin::Node(part)))
         }
     }
 }
@@ -54,18 +57,30 @@ pub fn run_statement(
 {
     let number = spot.part(k);
     match plain(state, &spot, number)? {
-        Some(value) => Ok(Next::Go(
-            Frame::Stmt(StmtFrame { spot, turn, kept }),
-            Signal::Value(value),
-        )),
-        None => {
-            let part = spot.at(number)?;
-            Ok(Next::Then(
-                Frame::Stmt(StmtFrame { spot, turn, kept }),
-                Begin::Node(part),
-            ))
+        Some(value) => {
+            let frame = Frame::Stmt(StmtFrame { spot, turn, kept });
+            let boxed = BoxedFrame::of(state.alloc(), frame)?;
+            Ok(Next::Go(boxed, Signal::Value(value)))
         }
+        None => await_statement(state.alloc(), spot, turn, kept, number),
     }
+}
+
+/// The node of this number begins, and then the statement goes on from its end.
+pub fn await_statement(
+    alloc: Global,
+    spot: Spot,
+    turn: u64,
+    kept: Option<Signal>,
+    number: u32,
+) -> Result<Next, OutOfMemory>
+    ensures { (w : Store) (m : Metered) → IfOk result (λ next.
+        AwaitsNode spot turn kept (spot_node (numbered spot number)) w m next) }
+{
+    let part = spot.at(number)?;
+    let frame = Frame::Stmt(StmtFrame { spot, turn, kept });
+    let boxed = BoxedFrame::of(alloc, frame)?;
+    Ok(Next::Then(boxed, Begin::Node(part)))
 }
 
 /// The kth part runs in the place of what waits for it.

@@ -43,12 +43,12 @@ pub while_passes : (f : Where) (turn : ℕ) (s : Signal) (w : Store) (m : Meter)
 while_passes f zero s w m z h = ended _ s _ w m (passes_on _ s h)
 while_passes f (suc k) s w m z h = absurd (omega arith)
 
-pub while_on : {E : Type 0} (f : Where) (turn : ℕ) (s : Signal) (o : Option Signal) (w : Store) (m : Meter) (r : Result Next E) → (turn ≡ 0 → ⊥) → EndsSo s o → o ≡ None
-    → IfOk r (λ n. Leads (while_loop (calls_at m.depth) (here_of f) (spot_node f)) (weigh (spot_node f) 0) w m n w m)
-    → IfOk r (λ n. Leads (rest_while (calls_at m.depth) (here_of f) (spot_node f) turn s) (weigh_signal (spot_node f) kind.While turn) w m n w m)
-while_on f zero s o w m r z h e g = absurd (z refl)
-while_on f (suc k) s o w m r z h e g =
-    same_leads (while_loop (calls_at m.depth) (here_of f) (spot_node f)) _ (weigh (spot_node f) 0) (weigh (spot_node f) 0) w w m m r
+pub while_on : {E : Type 0} (f : Where) (turn : ℕ) (s : Signal) (o : Option Signal) (w : Store) (m m1 : Meter) (r : Result Next E) → (turn ≡ 0 → ⊥) → EndsSo s o → o ≡ None
+    → IfOk r (λ n. Leads (while_loop (calls_at m.depth) (here_of f) (spot_node f)) (weigh (spot_node f) 0) w m n w m1)
+    → IfOk r (λ n. Leads (rest_while (calls_at m.depth) (here_of f) (spot_node f) turn s) (weigh_signal (spot_node f) kind.While turn) w m n w m1)
+while_on f zero s o w m m1 r z h e g = absurd (z refl)
+while_on f (suc k) s o w m m1 r z h e g =
+    same_leads (while_loop (calls_at m.depth) (here_of f) (spot_node f)) _ (weigh (spot_node f) 0) (weigh (spot_node f) 0) w w m m1 r
     (ap (λ (a : Act). a.run w m.steps) (on (also done (λ _. while_loop (calls_at m.depth) (here_of f) (spot_node f))) s o h e)) (le_refl (weigh (spot_node f) 0)) g
 
 pub while_over : (f : Where) (turn : ℕ) (s last : Signal) (o : Option Signal) (w : Store) (m : Meter) → (turn ≡ 0 → ⊥) → EndsSo s o → o ≡ Some last
@@ -58,13 +58,13 @@ while_over f (suc k) s last o w m z h e = ended _ last _ w m (over _ s last o h 
 
 -- ---- do
 
-pub do_on : {E : Type 0} (f : Where) (turn : ℕ) (s : Signal) (o : Option Signal) (w : Store) (m : Meter) (r : Result Next E) → turn ≡ 0 → EndsSo s o → o ≡ None
-    → IfOk r (λ n. Leads (do_loop (calls_at m.depth) (here_of f) (spot_node f)) (weigh (spot_node f) 1) w m n w m)
-    → IfOk r (λ n. Leads (rest_do (calls_at m.depth) (here_of f) (spot_node f) turn s) (weigh_signal (spot_node f) kind.Do turn) w m n w m)
-do_on f zero s o w m r z h e g =
-    same_leads (do_loop (calls_at m.depth) (here_of f) (spot_node f)) _ (weigh (spot_node f) 1) (weigh (spot_node f) 1) w w m m r
+pub do_on : {E : Type 0} (f : Where) (turn : ℕ) (s : Signal) (o : Option Signal) (w : Store) (m m1 : Meter) (r : Result Next E) → turn ≡ 0 → EndsSo s o → o ≡ None
+    → IfOk r (λ n. Leads (do_loop (calls_at m.depth) (here_of f) (spot_node f)) (weigh (spot_node f) 1) w m n w m1)
+    → IfOk r (λ n. Leads (rest_do (calls_at m.depth) (here_of f) (spot_node f) turn s) (weigh_signal (spot_node f) kind.Do turn) w m n w m1)
+do_on f zero s o w m m1 r z h e g =
+    same_leads (do_loop (calls_at m.depth) (here_of f) (spot_node f)) _ (weigh (spot_node f) 1) (weigh (spot_node f) 1) w w m m1 r
     (ap (λ (a : Act). a.run w m.steps) (on (do_loop (calls_at m.depth) (here_of f) (spot_node f)) s o h e)) (le_refl (weigh (spot_node f) 1)) g
-do_on f (suc k) s o w m r z h e g = absurd (omega arith)
+do_on f (suc k) s o w m m1 r z h e g = absurd (omega arith)
 
 pub do_over : (f : Where) (turn : ℕ) (s last : Signal) (o : Option Signal) (w : Store) (m : Meter) → turn ≡ 0 → EndsSo s o → o ≡ Some last
     → Leads (rest_do (calls_at m.depth) (here_of f) (spot_node f) turn s) (weigh_signal (spot_node f) kind.Do turn) w m (Give last) w m

@@ -1,10 +1,12 @@
 -- How statements begin.
-use Rattle.std.proofs.Common.{◌≡◌, ◌≢◌, refl, ap, ◌∙◌, ℕ, suc, ◌+◌, ◌≤◌, ◌<◌, Option, Some, None, Result, Ok, Err, IfOk, true, is_some, le_refl, arith}
+use Rattle.std.proofs.Common.{◌≡◌, ◌≢◌, refl, ap, ◌∙◌, ℕ, suc, ◌+◌, ◌≤◌, ◌<◌, List, Option, Some, None, Result, Ok, Err, IfOk, true, is_some, le_refl, arith}
 use Rattle.code_table.specs.Kind.{kind_of}
 use Rattle.code_table.specs.Node.{Node, and_child}
 use Rattle.code_table.specs.declared.kind.Kind.{Kind}
 use Rattle.code_table.specs.declared.kind.Kind.TheVariants as kind
+use Rattle.js_values.specs.declared.value.Value.{Value}
 use Rattle.page_meaning.specs.declared.signal.Signal.{Signal}
+use Rattle.page_meaning.specs.declared.signal.Signal.TheVariants.{Value as Val}
 use Rattle.page_meaning.specs.Act.{Act, Calls, ret}
 use Rattle.page_meaning.specs.Calls.{calls_at}
 use Rattle.page_meaning.specs.Names.{Here}
@@ -12,11 +14,13 @@ use Rattle.page_meaning.specs.Store.{Store}
 use Rattle.page_frames.specs.declared.meter.Meter.{Meter}
 use Rattle.page_frames.specs.declared.meter.Next.{Next}
 use Rattle.page_frames.specs.declared.meter.Next.TheVariants.{Give}
+use Rattle.page_frames.specs.Parts.{part}
 use Rattle.page_frames.specs.Start.{first_of, start_of}
-use Rattle.page_frames.specs.Step.{Leads, Opens}
+use Rattle.page_frames.specs.Step.{Leads, Opens, Shifts}
 use Rattle.page_frames.specs.Weight.{cost, weigh, weigh_signal}
 use Rattle.page_frames.specs.Where.{Where, here_of, spot_node}
 use Rattle.page_frames.proofs.Callers.{begin_weigh, begins_by_kind, early_part, no_heavier, weigh_less}
+use Rattle.page_state.specs.Does.{Does}
 use Rattle.step_parts.specs.Families.{family_of}
 use Rattle.step_parts.specs.Running.{Awaits}
 use Rattle.step_parts.specs.declared.family.Family.TheVariants.{Statement}
@@ -70,6 +74,18 @@ opens_part f k w m (Ok n) s h g = let a : Awaits f k None k w m n = g in record 
   lighter = no_heavier _ _ m n m (h.pays (spot_node f) (stands (spot_node f) s)) a.lighter;
 }
 
+-- its part is read at once
+pub opens_valued : {E : Type 0} (f : Where) (v : Value) (w w1 : Store) (m m1 : Meter) (r : Result Next E) → family_of (kind_of (spot_node f)) ≡ Statement → StartsWith (kind_of (spot_node f)) 0
+    → Does (λ calls. part calls (here_of f) (spot_node f) 0) w (Val v) w → IfOk r (λ n. Shifts f (kind_of (spot_node f)) 0 None (Val v) w m n w1 m1) → IfOk r (λ n. Opens f w m n w1 m1)
+opens_valued f v w w1 m m1 (Err x) s h d g = g
+opens_valued f v w w1 m m1 (Ok n) s h d g = record {
+  follows =
+      begins_by_kind (calls_at m.depth) (here_of f) (spot_node f) w m.steps ∙ ap (λ (a : Act). a.run w m.steps) (h.starts (calls_at m.depth) (here_of f) (spot_node f))
+      ∙ (rw (d.is (calls_at m.depth) m.steps) (g.follows));
+  levels = g.levels;
+  lighter = no_heavier _ _ m n m1 (omega (arith, h.pays (spot_node f) (stands (spot_node f) s))) g.lighter;
+}
+
 pays_with : (at : Option Node) (k : ℕ) → k < 8 → weigh at k ≤ weigh at 0 → is_some at ≡ true → suc (weigh at (suc k)) + suc (cost (and_child at k)) ≤ cost at
 pays_with at k l h s = omega (arith, early_part at k l, h, whole at s)
 
@@ -99,3 +115,10 @@ starts_early kind.While s e c b v l w d f = absurd (w refl)
 starts_early kind.Do s e c b v l w d f = absurd (d refl)
 starts_early kind.ForIn s e c b v l w d f = absurd (f refl)
 starts_early q s e c b v l w d f = cc
+
+-- the two that begin so and take more than values
+pub for_starts : (q : Kind) → q ≡ kind.For → StartsWith q 0
+for_starts q e = rw e (early kind.For (λ calls here at. refl) (λ at. refl))
+
+pub try_starts : (x : Option (List ℕ)) (q : Kind) → q ≡ kind.Try x → StartsWith q 0
+try_starts x q e = rw e (early (kind.Try x) (λ calls here at. refl) (λ at. refl))

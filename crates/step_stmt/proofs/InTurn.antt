@@ -1,11 +1,14 @@
 -- Statements in turn, and declared names in turn.
-use Rattle.std.proofs.Common.{◌≡◌, refl, ap, ◌∙◌, ℕ, zero, suc, ◌<◌, ◌≤◌, Option, Some, None, Result, Ok, Err, IfOk, true, is_some, length, le_refl, arith}
+use Rattle.std.proofs.Common.{◌≡◌, refl, ap, ◌∙◌, ℕ, zero, suc, ◌+◌, ◌<◌, ◌≤◌, Option, Some, None, Result, Ok, Err, IfOk, true, is_some, length, le_refl, arith}
 use Rattle.code_table.specs.Kind.{kind_of}
 use Rattle.code_table.specs.Node.{Node, and_child, declarators_parts, part_count, parts_in, pick, stmt_node, stmts_parts}
-use Rattle.code_table.specs.declared.kind.Kind.TheVariants.{Block, Var}
+use Rattle.code_table.specs.declared.kind.Kind.{Kind}
+use Rattle.code_table.specs.declared.kind.Kind.TheVariants.{Block, Discard, Var}
 use Rattle.js_core.specs.Tree as tree
 use Rattle.js_core.specs.Tree.{no_stmts, then_stmt, no_declarators, then_declarator, no_expr, one_expr, var}
-use Rattle.page_meaning.specs.Act.{Act, Calls, also, done, nothing}
+use Rattle.page_meaning.specs.declared.signal.Signal.{Signal}
+use Rattle.page_meaning.specs.declared.signal.Signal.TheVariants.{Value as Val, Thrown, Return, Break, Continue}
+use Rattle.page_meaning.specs.Act.{Act, Calls, Outcome, Ended, Stopped, also, done, nothing, on_value, then_on}
 use Rattle.page_meaning.specs.Calls.{calls_at}
 use Rattle.page_meaning.specs.Names.{Here}
 use Rattle.page_meaning.specs.Statements.{exec_all, exec_declarators}
@@ -15,11 +18,12 @@ use Rattle.page_frames.specs.declared.meter.Next.{Next}
 use Rattle.page_frames.specs.declared.meter.Next.TheVariants.{Give}
 use Rattle.page_frames.specs.Parts.{drop_declarators, drop_stmts, mean_node, part}
 use Rattle.page_frames.specs.RestStatements.{declarators_from, stmts_from}
+use Rattle.page_frames.specs.Start.{start_of}
 use Rattle.page_frames.specs.Step.{Leads}
-use Rattle.page_frames.specs.Weight.{weigh}
-use Rattle.page_frames.specs.Where.{Where, here_of, spot_node}
-use Rattle.page_frames.proofs.Callers.{no_heavier, there_part}
-use Rattle.step_parts.specs.Running.{Awaits}
+use Rattle.page_frames.specs.Weight.{cost, weigh}
+use Rattle.page_frames.specs.Where.{Where, here_of, numbered, spot_node}
+use Rattle.page_frames.proofs.Callers.{begin_weigh, begins_by_kind, early_part, no_heavier, there_part}
+use Rattle.step_parts.specs.Running.{Awaits, AwaitsNode}
 use Rattle.step_parts.proofs.Callers.{IsBlock, block_shape, body, braced, var_shape}
 use Rattle.step_stmt.proofs.Ending.{ended}
 
@@ -66,6 +70,41 @@ block_runs f k w m (Ok n) e h g = let a : Awaits f k None k w m n = g in record 
 pub block_ends : (f : Where) (k : ℕ) (w : Store) (m : Meter) → kind_of (spot_node f) ≡ Block → part_count (spot_node f) ≤ k
     → Leads (stmts_from (calls_at m.depth) (here_of f) (spot_node f) k) (weigh (spot_node f) k) w m (Give nothing) w m
 block_ends f k w m e h = ended _ nothing _ w m (block_end (calls_at m.depth) (here_of f) (spot_node f) k (block_shape (spot_node f) e) h)
+
+-- what is done with the value of an expression before the block goes on does nothing
+same_discarded : (o : Outcome Signal) (next : Act) → then_on (then_on o (on_value (λ _. done))) (on_value (λ _. next)) ≡ then_on o (on_value (λ _. next))
+same_discarded (Ended (Val v) w k) next = refl
+same_discarded (Ended (Thrown v) w k) next = refl
+same_discarded (Ended (Return v) w k) next = refl
+same_discarded (Ended Break w k) next = refl
+same_discarded (Ended Continue w k) next = refl
+same_discarded (Stopped w) next = refl
+
+discards : (calls : Calls) (here : Here) (at : Option Node) (next : Act) (w : Store) (n : ℕ) → kind_of at ≡ Discard
+    → (also (mean_node calls here at) (λ _. next)).run w n ≡ (also (part calls here at 0) (λ _. next)).run w n
+discards calls here at next w n e =
+    ap (λ o. then_on o (on_value (λ _. next))) (begins_by_kind calls here at w n ∙ ap (λ (q : Kind). (start_of calls here at q).run w n) e) ∙ same_discarded ((part calls here at 0).run w n) next
+
+discard_weight : (at : Option Node) → kind_of at ≡ Discard → cost (and_child at 0) ≤ cost at
+discard_weight at e = omega (arith, early_part at 0 (omega arith), begin_weigh at (is_there at e))
+  where
+    is_there : (at : Option Node) → kind_of at ≡ Discard → is_some at ≡ true
+    is_there None e = cc e
+    is_there (Some n) e = refl
+
+-- the expression of a statement runs in its place
+pub expression_awaits : {E : Type 0} (f : Where) (k j i : ℕ) (w : Store) (m : Meter) (r : Result Next E) → kind_of (spot_node f) ≡ Block → spot_node (numbered f j) ≡ and_child (spot_node f) k
+    → kind_of (spot_node (numbered f j)) ≡ Discard → spot_node (numbered f i) ≡ and_child (spot_node (numbered f j)) 0 → IfOk r (λ n. AwaitsNode f k None (spot_node (numbered f i)) w m n)
+    → IfOk r (λ n. Awaits f k None k w m n)
+expression_awaits f k j i w m (Err x) b e d p h = h
+expression_awaits f k j i w m (Ok n) b e d p h =
+    let at : Option Node = and_child (spot_node f) k in
+    let q : kind_of at ≡ Discard = rw e at d in
+    let a : AwaitsNode f k None (and_child at 0) w m n = rw (p, e) at h in record {
+      follows = rw b (discards (calls_at m.depth) (here_of f) at (stmts_from (calls_at m.depth) (here_of f) (spot_node f) (suc k)) w m.steps q ∙ (rw b at (a.follows)));
+      levels = a.levels;
+      lighter = no_heavier _ _ m n m (omega (arith, discard_weight at q)) a.lighter;
+    }
 
 -- ---- declared names
 

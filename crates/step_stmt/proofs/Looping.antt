@@ -20,6 +20,7 @@ use Rattle.page_frames.specs.Step.{Leads}
 use Rattle.page_frames.specs.Weight.{HasFewNodes, weigh}
 use Rattle.page_frames.specs.Where.{Where, here_of, spot_node}
 use Rattle.page_frames.proofs.Callers.{early_part, loop_turns, no_heavier, node_paid, weigh_less, weigh_paid}
+use Rattle.page_state.specs.Does.{Does}
 use Rattle.step_parts.specs.Running.{Awaits}
 use Rattle.step_stmt.specs.Turns.{GoesOnAs, IsPaid, body_of}
 
@@ -83,7 +84,46 @@ nothing_there : (calls : Calls) (here : Here) (o : Option Node) → false ≡ is
 nothing_there calls here (Some n) e = cc e
 nothing_there calls here None e = refl
 
--- a `for` with a test, and one without
+-- ---- tests that are read at once
+
+abbrev Known : Where → ℕ → Store → Value → Type 0
+Known f k w v = Does (λ calls. part calls (here_of f) (spot_node f) k) w (Val v) w
+
+pub while_known : {E : Type 0} (f : Where) (v : Value) (w : Store) (m m1 : Meter) (r : Result Next E) → Known f 0 w v
+    → IfOk r (λ n. Leads (turn_if (body_of f m.depth 1) (also done (λ _. while_loop (calls_at m.depth) (here_of f) (spot_node f))) v) 0 w m n w m1)
+    → IfOk r (λ n. Leads (while_loop (calls_at m.depth) (here_of f) (spot_node f)) (weigh (spot_node f) 0) w m n w m1)
+while_known f v w m m1 (Err x) d h = h
+while_known f v w m m1 (Ok n) d h = let calls = calls_at m.depth in record {
+  follows = loop_turns (part calls (here_of f) (spot_node f) 0) (part calls (here_of f) (spot_node f) 1) done w m.steps ∙ (rw (d.is calls m.steps) (h.follows));
+  levels = h.levels;
+  lighter = no_heavier 0 (weigh (spot_node f) 0) m n m1 (omega arith) h.lighter;
+}
+
+pub do_known : {E : Type 0} (f : Where) (v : Value) (w : Store) (m m1 : Meter) (r : Result Next E) → Known f 1 w v
+    → IfOk r (λ n. Leads (turn_if (body_of f m.depth 0) (also done (λ _. do_loop (calls_at m.depth) (here_of f) (spot_node f))) v) 0 w m n w m1)
+    → IfOk r (λ n. Leads (do_loop (calls_at m.depth) (here_of f) (spot_node f)) (weigh (spot_node f) 1) w m n w m1)
+do_known f v w m m1 (Err x) d h = h
+do_known f v w m m1 (Ok n) d h = let calls = calls_at m.depth in record {
+  follows = loop_turns (part calls (here_of f) (spot_node f) 1) (part calls (here_of f) (spot_node f) 0) done w m.steps ∙ (rw (d.is calls m.steps) (h.follows));
+  levels = h.levels;
+  lighter = no_heavier 0 (weigh (spot_node f) 1) m n m1 (omega arith) h.lighter;
+}
+
+pub for_known : {E : Type 0} (f : Where) (v : Value) (w : Store) (m m1 : Meter) (r : Result Next E) → true ≡ is_some (and_child (spot_node f) 1) → Known f 1 w v
+    → IfOk r (λ n. Leads (turn_if (body_of f m.depth 3) (for_again (calls_at m.depth) (here_of f) (spot_node f)) v) 0 w m n w m1)
+    → IfOk r (λ n. Leads (for_loop (calls_at m.depth) (here_of f) (spot_node f)) (weigh (spot_node f) 1) w m n w m1)
+for_known f v w m m1 (Err x) t d h = h
+for_known f v w m m1 (Ok n) t d h = let calls = calls_at m.depth in record {
+  follows =
+      loop_turns (part_or calls (here_of f) (spot_node f) 1 (Truth true)) (part calls (here_of f) (spot_node f) 3) (part calls (here_of f) (spot_node f) 2) w m.steps
+      ∙ ap (λ a. (also a (turn_if (part calls (here_of f) (spot_node f) 3) (for_again calls (here_of f) (spot_node f)))).run w m.steps)
+      (there calls (here_of f) (and_child (spot_node f) 1) (Truth true) t) ∙ (rw (d.is calls m.steps) (h.follows));
+  levels = h.levels;
+  lighter = no_heavier 0 (weigh (spot_node f) 1) m n m1 (omega arith) h.lighter;
+}
+
+-- ---- a `for` with a test, and one without
+
 pub for_turns : {E : Type 0} (f : Where) (w : Store) (m : Meter) (r : Result Next E) → kind_of (spot_node f) ≡ For → true ≡ is_some (and_child (spot_node f) 1) → IfOk r (λ n. Awaits f 1 None 1 w m n)
     → IfOk r (λ n. Leads (for_loop (calls_at m.depth) (here_of f) (spot_node f)) (weigh (spot_node f) 1) w m n w m)
 for_turns f w m (Err x) k t h = h

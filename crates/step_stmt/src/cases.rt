@@ -16,9 +16,10 @@ use crate::ends::{nothing, unbroken};
 use code_table::Kind;
 use js_core::memory::OutOfMemory;
 use js_values::value::Value;
-use page_frames::{Begin, CaseFrame, Frame, Meter, Next, Spot};
+use page_frames::{Begin, BoxedFrame, CaseFrame, Frame, Meter, Next, Spot};
 use page_meaning::signal::Signal;
 use page_state::State;
+use std::alloc::Global;
 use step_parts::plain;
 use whole_ops::equality::same;
 
@@ -97,32 +98,38 @@ fn run_test(
 {
     let number = spot.part(test_place(index));
     match plain(state, &spot, number)? {
-        Some(tested) => Ok(Next::Go(
-            Frame::Case(CaseFrame {
+        Some(tested) => {
+            let frame = Frame::Case(CaseFrame {
                 spot,
                 value,
                 index,
                 testing: true,
-            }),
-            Signal::Value(tested),
-        )),
+            });
+            let boxed = BoxedFrame::of(state.alloc(), frame)?;
+            Ok(Next::Go(boxed, Signal::Value(tested)))
+        }
         None => {
             let test = spot.at(number)?;
-            Ok(Next::Then(
-                Frame::Case(CaseFrame {
-                    spot,
-                    value,
-                    index,
-                    testing: true,
-                }),
-                Begin::Node(test),
-            ))
+            let frame = Frame::Case(CaseFrame {
+                spot,
+                value,
+                index,
+                testing: true,
+            });
+            let boxed = BoxedFrame::of(state.alloc(), frame)?;
+            Ok(Next::Then(boxed, Begin::Node(test)))
         }
     }
 }
 
 // The statements of the cases from this index on.
-fn through(spot: Spot, value: Value, index: u64, meter: &Meter) -> Result<Next, OutOfMemory>
+fn through(
+    alloc: Global,
+    spot: Spot,
+    value: Value,
+    index: u64,
+    meter: &Meter,
+) -> Result<Next, OutOfMemory>
     requires { kind_of (spot_node spot) ≡ Kind.Switch }
     ensures { (w : Store) → IfOk result (λ n. cases.GoesThrough spot index w meter.now n) }
 {
@@ -130,25 +137,24 @@ fn through(spot: Spot, value: Value, index: u64, meter: &Meter) -> Result<Next, 
         return Ok(nothing());
     }
     let body = spot.at(spot.part(body_place(index)))?;
-    Ok(Next::Then(
-        Frame::Case(CaseFrame {
-            spot,
-            value,
-            index,
-            testing: false,
-        }),
-        Begin::Node(body),
-    ))
+    let frame = Frame::Case(CaseFrame {
+        spot,
+        value,
+        index,
+        testing: false,
+    });
+    let boxed = BoxedFrame::of(alloc, frame)?;
+    Ok(Next::Then(boxed, Begin::Node(body)))
 }
 
 // What runs where no test was the same: the statements from the default on, if there is one.
-fn run_default(spot: Spot, value: Value, meter: &Meter) -> Result<Next, OutOfMemory>
+fn run_default(alloc: Global, spot: Spot, value: Value, meter: &Meter) -> Result<Next, OutOfMemory>
     requires { kind_of (spot_node spot) ≡ Kind.Switch }
     ensures { (w : Store) (i : ℕ) → IfOk result (λ n. cases.Defaults spot i w meter.now n) }
 {
     let count = case_count(&spot);
     match default_index(&spot, count) {
-        Some(index) => through(spot, value, index, meter),
+        Some(index) => through(alloc, spot, value, index, meter),
         None => Ok(nothing()),
     }
 }
@@ -171,7 +177,7 @@ fn tests_from(
     let count = case_count(&spot);
     match next_test(&spot, index, count) {
         Some(tested) => run_test(state, spot, value, tested, meter),
-        None => run_default(spot, value, meter),
+        None => run_default(state.alloc(), spot, value, meter),
     }
 }
 
@@ -228,14 +234,20 @@ fn test_ended(
         (weigh_case (spot_node spot) index true) state.now meter.now n state.now meter.now) }
 {
     if same(&value, tested) {
-        through(spot, value, index, meter)
+        through(state.alloc(), spot, value, index, meter)
     } else {
         tests_after(state, spot, value, index, meter)
     }
 }
 
 // The statements of the case of this index have ended: those of the next one run.
-fn body_ended(spot: Spot, value: Value, index: u64, meter: &Meter) -> Result<Next, OutOfMemory>
+fn body_ended(
+    alloc: Global,
+    spot: Spot,
+    value: Value,
+    index: u64,
+    meter: &Meter,
+) -> Result<Next, OutOfMemory>
     requires { kind_of (spot_node spot) ≡ Kind.Switch }
     ensures { (w : Store) →
         IfOk result (λ n.
@@ -244,7 +256,7 @@ fn body_ended(spot: Spot, value: Value, index: u64, meter: &Meter) -> Result<Nex
         (weigh_case (spot_node spot) index false) w meter.now n w meter.now) }
 {
     if index < case_count(&spot) {
-        through(spot, value, index + 1, meter)
+        through(alloc, spot, value, index + 1, meter)
     } else {
         Ok(nothing())
     }
@@ -290,7 +302,7 @@ fn case_ended(
             if testing {
                 test_ended(state, spot, value, index, tested, meter)
             } else {
-                body_ended(spot, value, index, meter)
+                body_ended(state.alloc(), spot, value, index, meter)
             }
         }
         _ => Ok(nothing()),

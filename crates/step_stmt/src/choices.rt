@@ -14,7 +14,7 @@ use code_table::Kind;
 use js_core::memory::OutOfMemory;
 use js_core::units::Units;
 use js_values::value::Value;
-use page_frames::{Begin, Frame, Meter, Next, Spot, StmtFrame};
+use page_frames::{Begin, BoxedFrame, Frame, Meter, Next, Spot, StmtFrame};
 use page_meaning::signal::Signal;
 use page_state::State;
 use step_parts::{enter_part, run_statement};
@@ -115,14 +115,13 @@ fn run_clause(
     let env = state.make_environment(spot.env(), names)?;
     let number = spot.part(1);
     let clause = spot.within(alloc, env, number)?;
-    Ok(Next::Then(
-        Frame::Stmt(StmtFrame {
-            spot,
-            turn: 1,
-            kept: None,
-        }),
-        Begin::Node(clause),
-    ))
+    let frame = Frame::Stmt(StmtFrame {
+        spot,
+        turn: 1,
+        kept: None,
+    });
+    let boxed = BoxedFrame::of(alloc, frame)?;
+    Ok(Next::Then(boxed, Begin::Node(clause)))
 }
 
 /// A `try` after its block, its clause or its `finally` (section 12.14).

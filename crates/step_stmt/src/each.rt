@@ -18,9 +18,10 @@ use js_core::memory::OutOfMemory;
 use js_core::units::Units;
 use js_values::ids::ObjId;
 use js_values::value::Value;
-use page_frames::{Begin, EachFrame, Frame, Listed, Meter, Next, Spot};
+use page_frames::{Begin, BoxedFrame, EachFrame, Frame, Listed, Meter, Next, Spot};
 use page_meaning::signal::Signal;
 use page_state::State;
+use std::alloc::Global;
 use step_parts::take_step;
 
 /// A for-in over this value: its names are listed, and there is a turn for each (section 12.6.4).
@@ -93,25 +94,23 @@ fn each_name(
 {
     if state.is_held(holder, &name) {
         let target = spot.at(spot.part(0))?;
-        Ok(Next::Then(
-            Frame::Each(EachFrame {
-                spot,
-                names,
-                index,
-                assigning: true,
-            }),
-            Begin::Target(target, Value::Text(name)),
-        ))
+        let frame = Frame::Each(EachFrame {
+            spot,
+            names,
+            index,
+            assigning: true,
+        });
+        let boxed = BoxedFrame::of(state.alloc(), frame)?;
+        Ok(Next::Then(boxed, Begin::Target(target, Value::Text(name))))
     } else {
-        Ok(Next::Go(
-            Frame::Each(EachFrame {
-                spot,
-                names,
-                index,
-                assigning: false,
-            }),
-            Signal::Value(Value::Undefined),
-        ))
+        let frame = Frame::Each(EachFrame {
+            spot,
+            names,
+            index,
+            assigning: false,
+        });
+        let boxed = BoxedFrame::of(state.alloc(), frame)?;
+        Ok(Next::Go(boxed, Signal::Value(Value::Undefined)))
     }
 }
 
@@ -127,7 +126,7 @@ pub fn go_each(
 {
     if frame.assigning {
         match end {
-            Signal::Value(_) => each_body(frame, meter),
+            Signal::Value(_) => each_body(state.alloc(), frame, meter),
             other => Ok(Next::Give(other)),
         }
     } else {
@@ -139,7 +138,7 @@ pub fn go_each(
 }
 
 // The body runs with the name of this index.
-fn each_body(frame: EachFrame, meter: &Meter) -> Result<Next, OutOfMemory>
+fn each_body(alloc: Global, frame: EachFrame, meter: &Meter) -> Result<Next, OutOfMemory>
     ensures { (w : Store) →
         IfOk result (λ n.
         Leads (bind (part (calls_at meter.now.depth) (here_of frame.spot) (spot_node frame.spot) 2)
@@ -154,15 +153,14 @@ fn each_body(frame: EachFrame, meter: &Meter) -> Result<Next, OutOfMemory>
         assigning: _,
     } = frame;
     let body = spot.at(spot.part(2))?;
-    Ok(Next::Then(
-        Frame::Each(EachFrame {
-            spot,
-            names,
-            index,
-            assigning: false,
-        }),
-        Begin::Node(body),
-    ))
+    let frame = Frame::Each(EachFrame {
+        spot,
+        names,
+        index,
+        assigning: false,
+    });
+    let boxed = BoxedFrame::of(alloc, frame)?;
+    Ok(Next::Then(boxed, Begin::Node(body)))
 }
 
 // A turn for each name after that of this index.

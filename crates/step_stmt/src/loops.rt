@@ -1,7 +1,8 @@
 //! Loops with a test, from the end of what they wait for (ECMA-262 5.1 sections 12.6.1 to 12.6.3).
 
-ghost use Rattle.std.specs.Prelude.{◌≡◌, ◌+◌, IfOk};
+ghost use Rattle.std.specs.Prelude.{◌≡◌, ◌+◌, IfOk, is_some, true};
 ghost use Rattle.code_table.specs.Kind.{kind_of};
+ghost use Rattle.code_table.specs.Node.{and_child};
 ghost use Rattle.page_meaning.specs.Act.{also, done};
 ghost use Rattle.page_meaning.specs.Calls.{calls_at};
 ghost use Rattle.page_meaning.specs.Loops.{turn as spec_turn, turn_if};
@@ -17,7 +18,7 @@ use js_core::memory::OutOfMemory;
 use js_values::value::Value;
 use page_frames::{Meter, Next, Spot};
 use page_state::State;
-use step_parts::run_statement;
+use step_parts::{await_statement, plain, run_statement};
 
 /// A `while` after its test.
 pub(crate) fn while_tested(
@@ -37,13 +38,17 @@ pub(crate) fn while_tested(
 }
 
 /// A `while` again, or as it begins.
-pub(crate) fn while_again(state: &State, spot: Spot, meter: &Meter) -> Result<Next, OutOfMemory>
+pub(crate) fn while_again(state: &State, spot: Spot, meter: &mut Meter) -> Result<Next, OutOfMemory>
     requires { kind_of (spot_node spot) ≡ Kind.While }
     ensures { IfOk result (λ n.
-        Leads (spec.while_loop (calls_at meter.now.depth) (here_of spot) (spot_node spot))
-        (weigh (spot_node spot) 0) state.now meter.now n state.now meter.now) }
+        Leads (spec.while_loop (calls_at meter.old.depth) (here_of spot) (spot_node spot))
+        (weigh (spot_node spot) 0) state.now meter.old n state.now meter.new) }
 {
-    run_statement(state, spot, 0, None, 0, meter)
+    let number = spot.part(0);
+    match plain(state, &spot, number)? {
+        Some(value) => while_tested(state, spot, &value, meter),
+        None => await_statement(state.alloc(), spot, 0, None, number),
+    }
 }
 
 /// A `do` as it begins: a turn without a test.
@@ -76,13 +81,17 @@ pub(crate) fn do_tested(
 }
 
 /// The test of a `do`, once its body has ended.
-pub(crate) fn do_again(state: &State, spot: Spot, meter: &Meter) -> Result<Next, OutOfMemory>
+pub(crate) fn do_again(state: &State, spot: Spot, meter: &mut Meter) -> Result<Next, OutOfMemory>
     requires { kind_of (spot_node spot) ≡ Kind.Do }
     ensures { IfOk result (λ n.
-        Leads (spec.do_loop (calls_at meter.now.depth) (here_of spot) (spot_node spot))
-        (weigh (spot_node spot) 1) state.now meter.now n state.now meter.now) }
+        Leads (spec.do_loop (calls_at meter.old.depth) (here_of spot) (spot_node spot))
+        (weigh (spot_node spot) 1) state.now meter.old n state.now meter.new) }
 {
-    run_statement(state, spot, 1, None, 1, meter)
+    let number = spot.part(1);
+    match plain(state, &spot, number)? {
+        Some(value) => do_tested(state, spot, &value, meter),
+        None => await_statement(state.alloc(), spot, 1, None, number),
+    }
 }
 
 /// A `for` after its test.
@@ -110,9 +119,24 @@ pub(crate) fn for_test(state: &State, spot: Spot, meter: &mut Meter) -> Result<N
         (weigh (spot_node spot) 1) state.now meter.old n state.now meter.new) }
 {
     if spot.has_part(1) {
-        run_statement(state, spot, 1, None, 1, meter)
+        run_test(state, spot, meter)
     } else {
         for_tested(state, spot, &Value::Bool(true), meter)
+    }
+}
+
+// The test of a `for` that has one.
+fn run_test(state: &State, spot: Spot, meter: &mut Meter) -> Result<Next, OutOfMemory>
+    requires kind { kind_of (spot_node spot) ≡ Kind.For }
+    requires test { is_some (and_child (spot_node spot) 1) ≡ true }
+    ensures { IfOk result (λ n.
+        Leads (spec.for_loop (calls_at meter.old.depth) (here_of spot) (spot_node spot))
+        (weigh (spot_node spot) 1) state.now meter.old n state.now meter.new) }
+{
+    let number = spot.part(1);
+    match plain(state, &spot, number)? {
+        Some(value) => for_tested(state, spot, &value, meter),
+        None => await_statement(state.alloc(), spot, 1, None, number),
     }
 }
 

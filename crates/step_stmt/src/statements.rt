@@ -7,7 +7,7 @@ ghost use Rattle.page_meaning.specs.declared.signal.Signal.TheVariants.{Value as
 ghost use Rattle.page_frames.specs.Step.{Opens, Shifts, Steps};
 ghost use Rattle.page_frames.specs.Where.{spot_node};
 ghost use Rattle.step_parts.specs.Families.{family_of};
-ghost use Rattle.step_stmt.specs.Ends.{takes_values};
+ghost use Rattle.step_stmt.specs.Ends.{StartsWith, takes_values};
 
 use crate::again::{go_do, go_for, go_while};
 use crate::blocks::{block_after, block_from, names_after, names_from};
@@ -22,7 +22,7 @@ use js_values::value::Value;
 use page_frames::{Frame, Meter, Next, Spot, StmtFrame};
 use page_meaning::signal::Signal;
 use page_state::State;
-use step_parts::{Family, run_statement};
+use step_parts::{Family, await_statement, plain, run_statement};
 
 /// A statement begins (section 12).
 pub fn begin_statement(
@@ -42,7 +42,23 @@ pub fn begin_statement(
         Kind::While => while_again(state, spot, meter),
         Kind::Do => do_begun(state, spot, meter),
         Kind::ForIn => run_statement(state, spot, 1, None, 1, meter),
-        _ => run_statement(state, spot, 0, None, 0, meter),
+        Kind::For => run_statement(state, spot, 0, None, 0, meter),
+        Kind::Try(_) => run_statement(state, spot, 0, None, 0, meter),
+        _ => begin_valued(state, spot, meter),
+    }
+}
+
+// A statement that begins with an expression goes on at once where that is read at once.
+fn begin_valued(state: &mut State, spot: Spot, meter: &mut Meter) -> Result<Next, OutOfMemory>
+    requires family { family_of (kind_of (spot_node spot)) ≡ Family.Statement }
+    requires values { takes_values (kind_of (spot_node spot)) ≡ true }
+    requires starts { StartsWith (kind_of (spot_node spot)) 0 }
+    ensures { IfOk result (λ n. Opens spot state.old meter.old n state.new meter.new) }
+{
+    let number = spot.part(0);
+    match plain(state, &spot, number)? {
+        Some(value) => go_value(state, spot, 0, value, meter),
+        None => await_statement(state.alloc(), spot, 0, None, number),
     }
 }
 

@@ -3,7 +3,7 @@ use Rattle.code_table.specs.declared.kind.Kind.TheVariants.{AssignIndex, AssignM
 use Rattle.page_frames.specs.RestProperties.{rest_update_member}
 use Rattle.page_frames.specs.Weight.{weigh}
 use Rattle.page_frames.specs.Where.{spot_node}
-use Rattle.step_assign.proofs.Leading.{moves_as}
+use Rattle.step_parts.proofs.Callers.{moves_as}
 use Rattle.step_assign.proofs.changes.go_change.Goals as goal
 
 pub returns-in-UpdateMember : goal.returns-in-UpdateMember

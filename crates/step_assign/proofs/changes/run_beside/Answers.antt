@@ -1,5 +1,5 @@
 use Rattle.std.proofs.Common.{[], ◌∷◌}
-use Rattle.step_assign.proofs.Leading.{goes_got}
+use Rattle.step_parts.proofs.Callers.{goes_got}
 use Rattle.step_assign.proofs.changes.run_beside.Goals as goal
 
 pub returns : goal.returns

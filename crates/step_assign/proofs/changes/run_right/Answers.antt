@@ -1,6 +1,6 @@
 use Rattle.std.proofs.Common.{[], ◌∷◌}
 use Rattle.js_values.specs.declared.value.Value.TheVariants.{Text}
-use Rattle.step_assign.proofs.Leading.{goes_got}
+use Rattle.step_parts.proofs.Callers.{goes_got}
 use Rattle.step_assign.proofs.Changing.{right_beside, right_waits}
 use Rattle.step_assign.proofs.changes.run_right.Goals as goal
 

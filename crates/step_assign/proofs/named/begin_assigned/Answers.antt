@@ -3,7 +3,7 @@ use Rattle.step_assign.proofs.named.begin_assigned.Goals as goal
 
 pub returns-in-None : goal.returns-in-None
 returns-in-None c =
-    assigned_opens c.args.spot c.args.name.now c.resolve-reference.result c.args.state.now c.args.meter.now c.run_right.result c.env.result (rw c.in-None.is at c.requires) c.env.ensures c.resolve-reference.ensures
+    assigned_opens c.args.spot c.args.name.now c.resolve-reference.result c.args.state.now c.run_right.new.state c.args.meter.now c.run_right.result c.env.result (rw c.in-None.is at c.requires) c.env.ensures c.resolve-reference.ensures
     c.run_right.ensures
 
 pub read_named-requires : goal.read_named-requires

@@ -7,5 +7,5 @@ begin_assigned-requires c = rw c.in_ok-name-in-AssignName.ensures (sym c.kind.en
 
 pub returns-in-Declarator : goal.returns-in-Declarator
 returns-in-Declarator c =
-    declared_opens c.args.spot c.in-Declarator.name c.resolve-reference.result c.args.state.now c.args.meter.now c.run_right.result c.env.result (sym c.kind.ensures ∙ c.in-Declarator.is) c.env.ensures c.resolve-reference.ensures
+    declared_opens c.args.spot c.in-Declarator.name c.resolve-reference.result c.args.state.now c.run_right.new.state c.args.meter.now c.run_right.result c.env.result (sym c.kind.ensures ∙ c.in-Declarator.is) c.env.ensures c.resolve-reference.ensures
     c.run_right.ensures

@@ -3,7 +3,7 @@ use Rattle.page_meaning.specs.Calls.{calls_at}
 use Rattle.page_frames.specs.Rest.{rest_name}
 use Rattle.page_frames.specs.Weight.{weigh}
 use Rattle.page_frames.specs.Where.{spot_node}
-use Rattle.step_assign.proofs.Leading.{passes}
+use Rattle.step_parts.proofs.Callers.{passes}
 use Rattle.step_assign.proofs.named.go_name.Goals as goal
 
 pub returns-in-Value : goal.returns-in-Value

@@ -12,7 +12,7 @@ use Rattle.step_assign.proofs.named.read_named.Goals as goal
 
 pub returns-in-Ok : goal.returns-in-Ok
 returns-in-Ok c =
-    read_waits c.args.spot c.args.op c.args.name.now c.args.reference c.in-Ok.old c.args.state.now c.read.new.self c.args.meter.now c.run_right.result c.requires c.in-Ok.ensures c.run_right.ensures
+    read_waits c.args.spot c.args.op c.args.name.now c.args.reference c.in-Ok.old c.args.state.now c.read.new.self c.run_right.new.state c.args.meter.now c.run_right.result c.requires c.in-Ok.ensures c.run_right.ensures
 
 pub returns-in-Err : goal.returns-in-Err
 returns-in-Err c =

@@ -4,7 +4,8 @@ use Rattle.page_meaning.specs.Operators.{operate_one}
 use Rattle.page_frames.specs.Weight.{weigh}
 use Rattle.page_frames.specs.Where.{spot_node}
 use Rattle.step_parts.specs.Families.{family_of}
-use Rattle.step_expr.proofs.Moving.{moves_as, no_operator}
+use Rattle.step_parts.proofs.Callers.{moves_as}
+use Rattle.step_expr.proofs.Moving.{no_operator}
 use Rattle.step_expr.proofs.operators.go_operator.Goals as goal
 
 pub go_binary-requires : goal.go_binary-requires

@@ -5,7 +5,8 @@ use Rattle.page_frames.specs.RestProperties.{rest_delete_member}
 use Rattle.page_frames.specs.Weight.{weigh}
 use Rattle.page_frames.specs.Where.{spot_node}
 use Rattle.step_parts.specs.Families.{family_of}
-use Rattle.step_expr.proofs.Moving.{moves_as, no_property}
+use Rattle.step_parts.proofs.Callers.{moves_as}
+use Rattle.step_expr.proofs.Moving.{no_property}
 use Rattle.step_expr.proofs.properties.go_property.Goals as goal
 
 pub go_index-requires : goal.go_index-requires

@@ -2,7 +2,7 @@ use Rattle.std.proofs.Common.{sym, ap, ◌∙◌}
 use Rattle.code_table.specs.declared.kind.Kind.TheVariants as kind
 use Rattle.step_parts.specs.Families.{family_of}
 use Rattle.step_expr.proofs.InTurn.{no_sequence}
-use Rattle.step_expr.proofs.Moving.{moves_as}
+use Rattle.step_parts.proofs.Callers.{moves_as}
 use Rattle.step_expr.proofs.sequences.go_sequence.Goals as goal
 
 pub go_list-requires : goal.go_list-requires

@@ -7,4 +7,4 @@ returns-then-index-case_count c w = rw (c.nothing.ensures) (bodies_done c.args.s
 
 pub returns : goal.returns
 returns c w =
-    rw (c.in_ok-body.ensures) (body_then c.args.spot c.args.value c.args.index c.part.result w c.args.meter.now c.requires (omega arith) (rw c.body_place.ensures at c.part.ensures))
+    rw (c.in_ok-boxed.ensures, c.in_ok-body.ensures) (body_then c.args.spot c.args.value c.args.index c.part.result w c.args.meter.now c.requires (omega arith) (rw c.body_place.ensures at c.part.ensures))

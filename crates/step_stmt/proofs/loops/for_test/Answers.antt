@@ -1,8 +1,5 @@
-use Rattle.step_stmt.proofs.Looping.{for_turns, for_untested}
+use Rattle.step_stmt.proofs.Looping.{for_untested}
 use Rattle.step_stmt.proofs.loops.for_test.Goals as goal
-
-pub returns-then-has_part : goal.returns-then-has_part
-returns-then-has_part c = for_turns c.args.spot c.args.state.now c.args.meter.now c.run_statement.result c.requires c.if-has_part.ensures c.run_statement.ensures
 
 pub returns-else-has_part : goal.returns-else-has_part
 returns-else-has_part c = for_untested c.args.spot c.args.state.now c.args.meter.now c.for_tested.new.meter c.for_tested.result c.if-has_part.ensures c.for_tested.ensures

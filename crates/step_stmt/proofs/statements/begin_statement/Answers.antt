@@ -2,7 +2,8 @@ use Rattle.std.proofs.Common.{refl, sym, ◌∙◌}
 use Rattle.code_table.specs.declared.kind.Kind.TheVariants as kind
 use Rattle.page_meaning.specs.declared.signal.Signal.TheVariants.{Break, Continue}
 use Rattle.page_meaning.specs.Act.{nothing}
-use Rattle.step_stmt.proofs.Beginning.{for_in_starts, opens_ended, opens_paid, opens_part, opens_whole, starts_early}
+use Rattle.step_stmt.proofs.Beginning.{for_in_starts, for_starts, opens_ended, opens_paid, opens_part, opens_whole, starts_early, try_starts}
+use Rattle.step_stmt.proofs.Shifting.{takes}
 use Rattle.step_stmt.proofs.statements.begin_statement.Goals as goal
 
 pub returns-in-Empty : goal.returns-in-Empty
@@ -24,7 +25,7 @@ returns-in-Block c =
 
 pub returns-in-While : goal.returns-in-While
 returns-in-While c =
-    opens_whole c.args.spot kind.While c.args.state.now c.args.state.now c.args.meter.now c.args.meter.now c.while_again.result c.requires (sym c.kind.ensures ∙ c.in-While.is) c.while_again.ensures
+    opens_whole c.args.spot kind.While c.args.state.now c.args.state.now c.args.meter.now c.while_again.new.meter c.while_again.result c.requires (sym c.kind.ensures ∙ c.in-While.is) c.while_again.ensures
 
 pub returns-in-Do : goal.returns-in-Do
 returns-in-Do c =
@@ -34,10 +35,21 @@ pub returns-in-ForIn : goal.returns-in-ForIn
 returns-in-ForIn c =
     opens_part c.args.spot 1 c.args.state.now c.args.meter.now c.run_statement.result c.requires (for_in_starts _ (sym c.kind.ensures ∙ c.in-ForIn.is)) c.run_statement.ensures
 
-pub returns-in_default : goal.returns-in_default
-returns-in_default c =
-    opens_part c.args.spot 0 c.args.state.now c.args.meter.now c.run_statement-in_default.result c.requires
-    (starts_early _ c.requires (λ e. c.in_default.not-Empty (c.kind.ensures ∙ e)) (λ e. c.in_default.not-Continue (c.kind.ensures ∙ e)) (λ e. c.in_default.not-Break (c.kind.ensures ∙ e))
-    (λ e. c.in_default.not-Var (c.kind.ensures ∙ e)) (λ e. c.in_default.not-Block (c.kind.ensures ∙ e)) (λ e. c.in_default.not-While (c.kind.ensures ∙ e)) (λ e. c.in_default.not-Do (c.kind.ensures ∙ e))
-    (λ e. c.in_default.not-ForIn (c.kind.ensures ∙ e)))
-    c.run_statement-in_default.ensures
+pub returns-in-For : goal.returns-in-For
+returns-in-For c =
+    opens_part c.args.spot 0 c.args.state.now c.args.meter.now c.run_statement-in-For.result c.requires (for_starts _ (sym c.kind.ensures ∙ c.in-For.is)) c.run_statement-in-For.ensures
+
+pub returns-in-Try : goal.returns-in-Try
+returns-in-Try c =
+    opens_part c.args.spot 0 c.args.state.now c.args.meter.now c.run_statement-in-Try.result c.requires (try_starts c.in-Try.field-0 _ (sym c.kind.ensures ∙ c.in-Try.is)) c.run_statement-in-Try.ensures
+
+pub begin_valued-requires : goal.begin_valued-requires
+begin_valued-requires c = record {
+  family = c.requires;
+  values =
+      takes _ (λ e. c.in_default.not-While (c.kind.ensures ∙ e)) (λ e. c.in_default.not-Do (c.kind.ensures ∙ e)) (λ e. c.in_default.not-For (c.kind.ensures ∙ e)) (λ x e. c.in_default.not-Try x (c.kind.ensures ∙ e));
+  starts =
+      starts_early _ c.requires (λ e. c.in_default.not-Empty (c.kind.ensures ∙ e)) (λ e. c.in_default.not-Continue (c.kind.ensures ∙ e)) (λ e. c.in_default.not-Break (c.kind.ensures ∙ e))
+      (λ e. c.in_default.not-Var (c.kind.ensures ∙ e)) (λ e. c.in_default.not-Block (c.kind.ensures ∙ e)) (λ e. c.in_default.not-While (c.kind.ensures ∙ e)) (λ e. c.in_default.not-Do (c.kind.ensures ∙ e))
+      (λ e. c.in_default.not-ForIn (c.kind.ensures ∙ e));
+}

@@ -1,6 +1,6 @@
 use Rattle.std.proofs.Common.{sym, ◌∙◌}
 use Rattle.step_parts.proofs.ByKind.{name_known}
-use Rattle.step_parts.proofs.operands.plain.Goals as goal
+use Rattle.step_parts.proofs.operands.leaf.Goals as goal
 
 pub returns-in-Name : goal.returns-in-Name
 returns-in-Name c =
