@@ -2,7 +2,6 @@
 use Rattle.std.proofs.Common.{◌≡◌, refl, ◌∙◌, ℕ, List, Option, Some, None, Result, Ok, Err, IfOk}
 use Rattle.std.specs.Prelude.{IfSome}
 use Rattle.code_table.specs.Kind.{kind_of}
-use Rattle.code_table.specs.Node.{and_child}
 use Rattle.code_table.specs.declared.kind.Kind.TheVariants.{Binary, Index, Member}
 use Rattle.js_core.specs.declared.operators.BinaryOp.{BinaryOp}
 use Rattle.js_values.specs.declared.ids.ObjId.{ObjId}
@@ -19,7 +18,7 @@ use Rattle.page_meaning.specs.Properties.{get_index, get_member, read_property, 
 use Rattle.page_meaning.specs.Store.{Store}
 use Rattle.page_frames.specs.Where.{Where, here_of, spot_node}
 use Rattle.page_state.specs.Does.{Does}
-use Rattle.step_parts.specs.Operands.{Reads}
+use Rattle.step_parts.specs.Operands.{Operand, Reads}
 use Rattle.step_parts.proofs.ByKind.{plain_by_kind}
 
 -- a value that was found is given
@@ -27,9 +26,6 @@ pub settled : (r : Result Value Throw) (v : Value) (s : Store) (n : ℕ) → r �
 settled r v s n e = rw e refl
 
 -- ---- the operands of the node at a place
-
-abbrev Operand : Where → ℕ → Store → Value → Type 0
-Operand f k s v = Reads f (and_child (spot_node f) k) s v
 
 pub reads_member : {E : Type 0} (r : Result (Option Value) E) (f : Where) (x : List ℕ) (s : Store) (u : Value) → kind_of (spot_node f) ≡ Member x → Operand f 0 s u
     → IfOk r (λ o. IfSome o (λ v. Does (λ _. get_member u x) s (Val v) s)) → IfOk r (λ o. IfSome o (Reads f (spot_node f) s))

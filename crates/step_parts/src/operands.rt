@@ -1,12 +1,11 @@
 //! Operands that are read at once.
 
 ghost use Rattle.std.specs.Prelude.{◌≡◌, IfOk, IfSome};
-ghost use Rattle.code_table.specs.Node.{and_child};
 ghost use Rattle.page_meaning.specs.declared.signal.Signal.TheVariants.{Value as Val};
 ghost use Rattle.page_meaning.specs.Properties.{get_index, get_member};
 ghost use Rattle.page_frames.specs.Where.{numbered, spot_node};
 ghost use Rattle.page_state.specs.Does.{Does};
-ghost use Rattle.step_parts.specs.Operands.{Reads};
+ghost use Rattle.step_parts.specs.Operands.{Operand, Reads};
 
 use crate::operators::operated;
 use code_table::Kind;
@@ -77,8 +76,8 @@ fn combined(
     first: &Value,
     second: &Option<Value>,
 ) -> Result<Option<Value>, OutOfMemory>
-    requires first { Reads node.now (and_child (spot_node node.now) 0) state.now first.now }
-    requires second { IfSome second.now (Reads node.now (and_child (spot_node node.now) 1) state.now) }
+    requires first { Operand node.now 0 state.now first.now }
+    requires second { IfSome second.now (Operand node.now 1 state.now) }
     ensures { IfOk result (λ o. IfSome o (Reads node.now (spot_node node.now) state.now)) }
 {
     match (node.kind(), second) {
