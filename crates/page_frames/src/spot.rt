@@ -130,6 +130,14 @@ impl Spot {
         self.scene.code.part(self.node, k)
     }
 
+    /// The number of the kth part of the node of another number. Where there is none, no node has the number.
+    pub fn part_at(&self, node: u32, k: u64) -> u32
+        ensures { spot_node (numbered self.now result)
+            ≡ and_child (spot_node (numbered self.now node)) k }
+    {
+        self.scene.code.part(node, k)
+    }
+
     /// Whether it has a kth part.
     pub fn has_part(&self, k: u64) -> bool
         ensures { result ≡ is_some (and_child (spot_node self.now) k) }

@@ -1,19 +1,22 @@
 //! A step of what begins, and of a frame that goes on, by the family of its node.
 
-ghost use Rattle.std.specs.Prelude.{◌≡◌, ◌<◌, ◌^◌, IfOk};
+ghost use Rattle.std.specs.Prelude.{◌≡◌, ◌<◌, ◌^◌, IfOk, true};
 ghost use Rattle.page_frames.specs.Step.{Begins, Moves, Opens, Steps, depth_after};
 ghost use Rattle.code_table.specs.Kind.{kind_of};
 ghost use Rattle.page_frames.specs.Where.{spot_node};
+ghost use Rattle.step_parts.specs.Families.{family_of};
+ghost use Rattle.step_expr.specs.Begins.{begins_first};
 
 use js_core::memory::OutOfMemory;
 use js_values::value::Value;
+use object_heap::values::Values;
 use page_frames::{Begin, BoxedFrame, ExprFrame, Frame, Meter, Next, Spot};
 use page_meaning::signal::Signal;
 use page_state::State;
 use step_assign::{begin_named, begin_target, go_change, go_name, go_target};
 use step_call::{begin_call, go_call, go_called};
 use step_expr::{begin_first, begin_plain, begin_sequence, go_operator, go_property, go_sequence};
-use step_parts::Family;
+use step_parts::{Family, plain};
 use step_stmt::{begin_statement, go_case, go_each, go_statement};
 
 /// A step of what begins.
@@ -37,8 +40,23 @@ fn begin_node(state: &mut State, spot: Spot, meter: &mut Meter) -> Result<Next, 
         Family::Named => begin_named(state, spot, meter),
         Family::Statement => begin_statement(state, spot, meter),
         Family::Operator | Family::Property | Family::Change | Family::Call => {
-            begin_first(state, spot, meter)
+            begin_with_part(state, spot, meter)
         }
+    }
+}
+
+// What begins with its first part goes on at once from one that is read at once.
+fn begin_with_part(state: &mut State, spot: Spot, meter: &Meter) -> Result<Next, OutOfMemory>
+    requires { begins_first (family_of (kind_of (spot_node spot))) ≡ true }
+    ensures { IfOk result (λ n. Opens spot state.old meter.now n state.new meter.now) }
+{
+    let number = spot.part(0);
+    match plain(state, &spot, number)? {
+        Some(value) => {
+            let got = Values::new(state.alloc());
+            go_value(state, ExprFrame { spot, turn: 0, got }, value, meter)
+        }
+        None => begin_first(state, spot, meter),
     }
 }
 

@@ -1,3 +1,4 @@
+pub mod Callers
 pub mod Filling
 pub mod InTurn
 pub mod Moving

@@ -6,19 +6,21 @@ use Rattle.code_table.specs.declared.kind.Kind.{Kind}
 use Rattle.code_table.specs.declared.kind.Kind.TheVariants as kind
 use Rattle.js_core.specs.Tree as tree
 use Rattle.js_values.specs.declared.value.Value.{Value}
+use Rattle.page_meaning.specs.declared.signal.Signal.TheVariants.{Value as Val}
 use Rattle.page_meaning.specs.Act.{Calls}
 use Rattle.page_meaning.specs.Calls.{calls_at}
 use Rattle.page_meaning.specs.Names.{Here}
 use Rattle.page_meaning.specs.Store.{Store}
 use Rattle.page_frames.specs.declared.meter.Meter.{Meter}
 use Rattle.page_frames.specs.declared.meter.Next.{Next}
+use Rattle.page_frames.specs.Parts.{part}
 use Rattle.page_frames.specs.Start.{first_part, start_of}
-use Rattle.page_frames.specs.Step.{Goes, Leads, Opens}
+use Rattle.page_frames.specs.Step.{Goes, Leads, Moves, Opens}
 use Rattle.page_frames.specs.Weight.{cost, weigh, weigh_value}
 use Rattle.page_frames.specs.Where.{Where, here_of, spot_node}
 use Rattle.page_frames.proofs.Callers.{begin_weigh, begins_by_kind, early_part, no_heavier}
 use Rattle.page_state.specs.declared.fault.Fault.{Fault}
-use Rattle.page_state.specs.Does.{Gives, itself}
+use Rattle.page_state.specs.Does.{Does, Gives, itself}
 use Rattle.step_parts.specs.Families.{family_of}
 use Rattle.step_parts.specs.declared.family.Family.TheVariants.{Plain}
 use Rattle.step_expr.specs.Begins.{begins_first}
@@ -82,6 +84,18 @@ begins_with_first f got w m (Ok n) b e h =
       follows = begins_by_kind (calls_at m.depth) (here_of f) (spot_node f) w m.steps ∙ s.starts (calls_at m.depth) (here_of f) w m.steps ∙ a.follows;
       levels = a.levels;
       lighter = no_heavier _ _ m n m (pays_first (spot_node f) _ (there (spot_node f) b) s.weighs) a.lighter;
+    }
+
+-- the first part is read at once
+pub opens_moved : {E : Type 0} (f : Where) (got : List Value) (v : Value) (w t : Store) (m : Meter) (r : Result Next E) → begins_first (family_of (kind_of (spot_node f))) ≡ true → got ≡ []
+    → Does (λ calls. part calls (here_of f) (spot_node f) 0) w (Val v) w → IfOk r (λ n. Moves f (kind_of (spot_node f)) 0 got v w m n t) → IfOk r (λ n. Opens f w m n t m)
+opens_moved f got v w t m (Err x) b e d h = h
+opens_moved f got v w t m (Ok n) b e d h =
+    let a : Moves f (kind_of (spot_node f)) 0 [] v w m n t = rw e at h in
+    let s : StartsFirst (spot_node f) (kind_of (spot_node f)) = starts_first (spot_node f) (kind_of (spot_node f)) b in record {
+      follows = begins_by_kind (calls_at m.depth) (here_of f) (spot_node f) w m.steps ∙ s.starts (calls_at m.depth) (here_of f) w m.steps ∙ (rw (d.is (calls_at m.depth) m.steps) (a.follows));
+      levels = a.levels;
+      lighter = no_heavier _ _ m n m (omega (arith, pays_first (spot_node f) _ (there (spot_node f) b) s.weighs)) a.lighter;
     }
 
 -- ---- what is done at once

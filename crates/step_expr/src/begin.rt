@@ -11,13 +11,14 @@ use js_core::memory::OutOfMemory;
 use object_heap::values::Values;
 use page_frames::{Meter, Next, Spot};
 use page_state::State;
-use step_parts::run_part;
+use step_parts::await_part;
 
-/// An operator, a property that is read or changed, or a call begins: its first part runs (sections 11.2 to 11.13).
+/// An operator, a property that is read or changed, or a call begins with a first part that is not read at once (sections 11.2 to 11.13).
 pub fn begin_first(state: &State, spot: Spot, meter: &Meter) -> Result<Next, OutOfMemory>
     requires { begins_first (family_of (kind_of (spot_node spot))) ≡ true }
     ensures { IfOk result (λ n. Opens spot state.now meter.now n state.now meter.now) }
 {
+    let number = spot.part(0);
     let got = Values::new(state.alloc());
-    run_part(state, spot, 0, got, 0, meter)
+    await_part(state.alloc(), spot, 0, got, number)
 }

@@ -10,4 +10,4 @@ mod parts;
 pub use ends::{give, signal_of, take_step};
 pub use family::Family;
 pub use operands::plain;
-pub use parts::{await_statement, enter_part, run_part, run_statement};
+pub use parts::{await_part, await_statement, enter_part, run_part, run_statement};

@@ -37,17 +37,22 @@ fn value_of(
     ensures { IfOk result (λ o.
         IfSome o (Reads spot.now (spot_node (numbered spot.now number)) state.now)) }
 {
+    if nesting == 0 {
+        return leaf(state, spot, number);
+    }
     match spot.kind_at(number) {
-        Kind::Binary(_) | Kind::Member(_) | Kind::Index => {
-            if nesting == 0 {
-                return Ok(None);
+        Kind::Member(name) => {
+            match value_of(state, spot, spot.part_at(number, 0), nesting - 1)? {
+                None => Ok(None),
+                Some(base) => member(state, &base, name),
             }
-            let node = spot.at(number)?;
-            let Some(first) = value_of(state, &node, node.part(0), nesting - 1)? else {
+        }
+        Kind::Binary(_) | Kind::Index => {
+            let Some(first) = value_of(state, spot, spot.part_at(number, 0), nesting - 1)? else {
                 return Ok(None);
             };
-            let second = value_of(state, &node, node.part(1), nesting - 1)?;
-            combined(state, &node, &first, &second)
+            let second = value_of(state, spot, spot.part_at(number, 1), nesting - 1)?;
+            combined(state, spot, number, &first, &second)
         }
         _ => leaf(state, spot, number),
     }
@@ -69,19 +74,20 @@ fn leaf(state: &State, spot: &Spot, number: u32) -> Result<Option<Value>, OutOfM
     }
 }
 
-// What a node makes of the values of its operands. A property by its name has no second one.
+// What an operator or a property in brackets makes of the values of its operands.
 fn combined(
     state: &State,
-    node: &Spot,
+    spot: &Spot,
+    number: u32,
     first: &Value,
     second: &Option<Value>,
 ) -> Result<Option<Value>, OutOfMemory>
-    requires first { Operand node.now 0 state.now first.now }
-    requires second { IfSome second.now (Operand node.now 1 state.now) }
-    ensures { IfOk result (λ o. IfSome o (Reads node.now (spot_node node.now) state.now)) }
+    requires first { Operand (numbered spot.now number) 0 state.now first.now }
+    requires second { IfSome second.now (Operand (numbered spot.now number) 1 state.now) }
+    ensures { IfOk result (λ o.
+        IfSome o (Reads spot.now (spot_node (numbered spot.now number)) state.now)) }
 {
-    match (node.kind(), second) {
-        (Kind::Member(name), _) => member(state, first, name),
+    match (spot.kind_at(number), second) {
         (Kind::Binary(op), Some(second)) => Ok(operated(*op, first, second)),
         (Kind::Index, Some(second)) => element(state, first, second),
         _ => Ok(None),

@@ -1,7 +1,8 @@
 //! How the parts of a node run. What can be read at once is no frame.
 
-ghost use Rattle.std.specs.Prelude.{◌≡◌, IfOk};
+ghost use Rattle.std.specs.Prelude.{◌≡◌, IfOk, ℕ};
 ghost use Rattle.code_table.specs.Kind.{kind_of};
+ghost use Rattle.code_table.specs.Node.{and_child};
 ghost use Rattle.page_meaning.specs.Store.{Store};
 ghost use Rattle.page_frames.specs.declared.meter.Meter.{Meter as Metered};
 ghost use Rattle.page_frames.specs.Step.{Goes};
@@ -35,13 +36,26 @@ pub fn run_part(
             let boxed = BoxedFrame::of(state.alloc(), frame)?;
             Ok(Next::Go(boxed, Signal::Value(value)))
         }
-        None => {
-            let part = spot.at(number)?;
-            let frame = Frame::Expr(ExprFrame { spot, turn, got });
-            let boxed = BoxedFrame::of(state.alloc(), frame)?;
-            Ok(Next::Then(boxed, Begin::Node(part)))
-        }
+        None => await_part(state.alloc(), spot, turn, got, number),
     }
+}
+
+/// The node of this number begins, and then the expression goes on with what it has got.
+pub fn await_part(
+    alloc: Global,
+    spot: Spot,
+    turn: u64,
+    got: Values,
+    number: u32,
+) -> Result<Next, OutOfMemory>
+    ensures { (k : ℕ) (w : Store) (m : Metered) →
+        spot_node (numbered spot number) ≡ and_child (spot_node spot) k →
+        IfOk result (λ next. Goes spot (kind_of (spot_node spot)) turn got k w m next) }
+{
+    let part = spot.at(number)?;
+    let frame = Frame::Expr(ExprFrame { spot, turn, got });
+    let boxed = BoxedFrame::of(alloc, frame)?;
+    Ok(Next::Then(boxed, Begin::Node(part)))
 }
 
 /// The kth part runs, and then the statement goes on from its end.

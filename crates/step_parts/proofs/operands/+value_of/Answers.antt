@@ -1,4 +1,9 @@
+use Rattle.std.proofs.Common.{sym, ◌∙◌}
+use Rattle.page_frames.specs.Where.{numbered}
+use Rattle.step_parts.proofs.Combining.{reads_member}
 use Rattle.step_parts.proofs.operands.+value_of.Goals as goal
 
-pub returns-in_ok-second-in-Binary : goal.returns-in_ok-second-in-Binary
-returns-in_ok-second-in-Binary t c = rw c.in_ok-node-in-Binary.ensures at c.combined.ensures
+pub returns-in-Some : goal.returns-in-Some
+returns-in-Some t c =
+    reads_member c.member.result (numbered c.args.spot.now c.args.number) c.in-Member.name c.args.state.now c.in-Some.base (sym c.kind_at.ensures ∙ c.in-Member.is)
+    (rw c.part_at.ensures at (rw c.in-Some.is at c.in_ok-value_of-in-Member.ensures)) c.member.ensures
