@@ -37,32 +37,6 @@ fn value_of(
     ensures { IfOk result (λ o.
         IfSome o (Reads spot.now (spot_node (numbered spot.now number)) state.now)) }
 {
-    if nesting == 0 {
-        return leaf(state, spot, number);
-    }
-    match spot.kind_at(number) {
-        Kind::Member(name) => {
-            match value_of(state, spot, spot.part_at(number, 0), nesting - 1)? {
-                None => Ok(None),
-                Some(base) => member(state, &base, name),
-            }
-        }
-        Kind::Binary(_) | Kind::Index => {
-            let Some(first) = value_of(state, spot, spot.part_at(number, 0), nesting - 1)? else {
-                return Ok(None);
-            };
-            let second = value_of(state, spot, spot.part_at(number, 1), nesting - 1)?;
-            combined(state, spot, number, &first, &second)
-        }
-        _ => leaf(state, spot, number),
-    }
-}
-
-// The value of a name that means something, of a literal or of `this`.
-fn leaf(state: &State, spot: &Spot, number: u32) -> Result<Option<Value>, OutOfMemory>
-    ensures { IfOk result (λ o.
-        IfSome o (Reads spot.now (spot_node (numbered spot.now number)) state.now)) }
-{
     match spot.kind_at(number) {
         Kind::Name(name) => state.known(spot.env(), name),
         Kind::Num(number) => Ok(Some(Value::Num(*number))),
@@ -70,6 +44,25 @@ fn leaf(state: &State, spot: &Spot, number: u32) -> Result<Option<Value>, OutOfM
         Kind::Bool(truth) => Ok(Some(Value::Bool(*truth))),
         Kind::Null => Ok(Some(Value::Null)),
         Kind::This => Ok(Some(spot.this().clone()?)),
+        Kind::Member(name) => {
+            if nesting == 0 {
+                return Ok(None);
+            }
+            match value_of(state, spot, spot.part_at(number, 0), nesting - 1)? {
+                None => Ok(None),
+                Some(base) => member(state, &base, name),
+            }
+        }
+        Kind::Binary(_) | Kind::Index => {
+            if nesting == 0 {
+                return Ok(None);
+            }
+            let Some(first) = value_of(state, spot, spot.part_at(number, 0), nesting - 1)? else {
+                return Ok(None);
+            };
+            let second = value_of(state, spot, spot.part_at(number, 1), nesting - 1)?;
+            combined(state, spot, number, &first, &second)
+        }
         _ => Ok(None),
     }
 }
