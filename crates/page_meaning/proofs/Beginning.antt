@@ -1,5 +1,5 @@
 -- A page before its scripts has a sound heap: its built-in objects can be made one after another.
-use Rattle.std.specs.Prelude.{◌≡◌, refl, ℕ, Bool, true, false, not, ◌&&◌, List, [], ◌∷◌, ◌++◌, Option, Some, None, bytes_eq, codes, map}
+use Rattle.std.specs.Prelude.{◌≡◌, refl, ℕ, Bool, true, false, not, ◌&&◌, List, [], ◌∷◌, ◌++◌, Option, Some, None, bytes_eq, map}
 use Rattle.std.specs.List.{AllByRecursion, IsDistinct}
 use Rattle.std.specs.Map.{keys_of}
 use Rattle.std.proofs.Common.{subst, arith}
@@ -9,7 +9,7 @@ use Rattle.js_values.specs.declared.ids.ObjId.{ObjId}
 use Rattle.js_values.specs.declared.throw.ErrorKind.{ErrorKind}
 use Rattle.js_values.specs.declared.throw.ErrorKind.TheVariants as kind
 use Rattle.object_heap.specs.declared.object.Class.{Class}
-use Rattle.object_heap.specs.declared.object.Class.TheVariants.{Plain, List as Array, Native, Fault, Window}
+use Rattle.object_heap.specs.declared.object.Class.TheVariants.{Plain, List as Array, Native, Fault, Math, Window}
 use Rattle.object_heap.specs.Define.{length_name, number}
 use Rattle.object_heap.specs.Array.{IsArray}
 use Rattle.object_heap.specs.Heap.{IsFit, IsSound, empty}
@@ -17,8 +17,8 @@ use Rattle.object_heap.specs.Laws.{Step, after_steps, makes}
 use Rattle.object_heap.specs.Object.{Object, is_list, whole_object, with_closed}
 use Rattle.object_heap.specs.Property.{Props, fixed, lasting}
 use Rattle.object_heap.proofs.Callers.{ordinary_fit, sound_empty, sound_steps}
-use Rattle.page_meaning.specs.Places.{at_place, array_prototype_place, boolean_prototype_place, console_place, error_prototype, error_prototype_place, function_place, function_prototype, object_prototype, range_error_prototype_place, reference_error_prototype_place, type_error_prototype_place}
-use Rattle.page_meaning.specs.Pristine.{array_props, array_prototype_props, boolean_prototype_props, built, constructor_is, error_prototype_props, global_props, method, object_props, object_prototype_props, pristine, prototype_is}
+use Rattle.page_meaning.specs.Places.{array_prototype, array_prototype_place, at_place, boolean_prototype_place, console_place, error_prototype, error_prototype_place, function_place, function_prototype, math_place, number_prototype_place, object_prototype, range_error_prototype_place, reference_error_prototype_place, string_prototype_place, type_error_prototype_place}
+use Rattle.page_meaning.specs.Pristine.{Method, array_functions, array_prototype_functions, array_prototype_props, boolean_prototype_functions, built, console_functions, constructor_is, error_prototype_props, function_prototype_functions, function_prototype_props, global_functions, global_props, math_functions, methods, number_prototype_functions, object_functions, object_prototype_functions, object_prototype_props, pristine, prototype_is, string_functions, string_prototype_functions}
 
 -- names that differ, by a test
 abbrev is_apart : List ℕ → List (List ℕ) → Bool
@@ -66,42 +66,28 @@ made class proto props list names =
 function_made : (which : BuiltIn) (formals : ℕ) (props : Props) → do_differ (length_name ∷ keys_of props) ≡ true → Step
 function_made which formals props names = made (Native which) (Some function_prototype) ((length_name, fixed (number formals)) ∷ props) refl names
 
-method_made : BuiltIn → ℕ → Step
-method_made which formals = function_made which formals [] refl
+native_made : BuiltIn → ℕ → Step
+native_made which formals = function_made which formals [] refl
 
-error_steps : (which : BuiltIn) (k : ErrorKind) (proto : ObjId) → List Step
-error_steps which k proto = function_made which 1 (prototype_is (error_prototype k) ∷ []) refl ∷ made Fault (Some proto) (error_prototype_props which k) refl refl ∷ []
+method_made : Method → Step
+method_made m = native_made m.1 m.2
 
-base_steps : List Step
-base_steps =
+all_functions : List Method → List Step
+all_functions ms = map method_made ms
+
+first_steps : List Step
+first_steps =
     makes (whole_object Window None global_props) (ordinary Window None global_props refl refl)
     ∷ made Plain None object_prototype_props refl refl
-    ∷ made (Native built_in.FunctionPrototype) (Some object_prototype) ((length_name, fixed (number 0)) ∷ constructor_is built_in.Function ∷ []) refl refl
-    ∷ made Plain (Some object_prototype) (method (codes "log") built_in.ConsoleLog ∷ []) refl refl
-    ∷ method_made built_in.ConsoleLog 0
-    ∷ method_made built_in.Alert 1 ∷ []
-
-object_steps : List Step
-object_steps =
-    function_made built_in.Object 1 object_props refl
-    ∷ method_made built_in.ObjectPrototypeToString 0
-    ∷ method_made built_in.ObjectPrototypeValueOf 0
-    ∷ method_made built_in.ObjectPrototypeHasOwnProperty 1
-    ∷ method_made built_in.ObjectPrototypeIsPrototypeOf 1
-    ∷ method_made built_in.ObjectPrototypePropertyIsEnumerable 1
-    ∷ method_made built_in.ObjectGetPrototypeOf 1
-    ∷ method_made built_in.ObjectGetOwnPropertyDescriptor 2
-    ∷ method_made built_in.ObjectGetOwnPropertyNames 1
-    ∷ method_made built_in.ObjectCreate 2
-    ∷ method_made built_in.ObjectDefineProperty 3
-    ∷ method_made built_in.ObjectDefineProperties 2
-    ∷ method_made built_in.ObjectSeal 1
-    ∷ method_made built_in.ObjectFreeze 1
-    ∷ method_made built_in.ObjectPreventExtensions 1
-    ∷ method_made built_in.ObjectIsSealed 1
-    ∷ method_made built_in.ObjectIsFrozen 1
-    ∷ method_made built_in.ObjectIsExtensible 1
-    ∷ method_made built_in.ObjectKeys 1 ∷ []
+    ∷ made (Native built_in.FunctionPrototype) (Some object_prototype) function_prototype_props refl refl
+    ∷ made Plain (Some object_prototype) (methods console_functions) refl refl
+    ∷ (all_functions console_functions
+    ++ native_made built_in.Alert 1
+    ∷ function_made built_in.Object 1 (prototype_is object_prototype ∷ methods object_functions) refl
+    ∷ (all_functions object_prototype_functions
+    ++ (all_functions object_functions
+    ++ function_made built_in.Function 1 (prototype_is function_prototype ∷ []) refl
+    ∷ all_functions function_prototype_functions)))
 
 -- the prototype of arrays is one itself
 array_prototype_is : IsArray array_prototype_props
@@ -115,27 +101,36 @@ array_prototype_is = record {
 array_prototype_fit : IsFit (built Array object_prototype array_prototype_props)
 array_prototype_fit = record { array = λ list. array_prototype_is; names = distinct (keys_of array_prototype_props) refl }
 
-value_steps : List Step
-value_steps =
-    function_made built_in.Function 1 (prototype_is function_prototype ∷ []) refl
-    ∷ function_made built_in.Array 1 array_props refl
-    ∷ makes (built Array object_prototype array_prototype_props) array_prototype_fit
-    ∷ method_made built_in.ArrayIsArray 1
-    ∷ function_made built_in.Boolean 1 (prototype_is (at_place boolean_prototype_place) ∷ []) refl
-    ∷ made Plain (Some object_prototype) boolean_prototype_props refl refl
-    ∷ method_made built_in.BooleanPrototypeToString 0
-    ∷ method_made built_in.BooleanPrototypeValueOf 0 ∷ []
+-- a constructor with its prototype, and what they hold
+constructor_steps : (which : BuiltIn) (p : ObjId) (prototype : Step) (inherited own : List Method)
+    → do_differ (length_name ∷ keys_of (prototype_is p ∷ methods own)) ≡ true → List Step
+constructor_steps which p prototype inherited own names =
+    function_made which 1 (prototype_is p ∷ methods own) names ∷ prototype ∷ (all_functions inherited ++ all_functions own)
+
+value_steps : (which : BuiltIn) (p : ObjId) (inherited own : List Method) → do_differ (keys_of (constructor_is which ∷ methods inherited)) ≡ true
+    → do_differ (length_name ∷ keys_of (prototype_is p ∷ methods own)) ≡ true → List Step
+value_steps which p inherited own below above =
+    constructor_steps which p (made Plain (Some object_prototype) (constructor_is which ∷ methods inherited) refl below) inherited own above
+
+error_steps : (which : BuiltIn) (k : ErrorKind) (proto : ObjId) → List Step
+error_steps which k proto = function_made which 1 (prototype_is (error_prototype k) ∷ []) refl ∷ made Fault (Some proto) (error_prototype_props which k) refl refl ∷ []
 
 steps : List Step
 steps =
-    base_steps ++ object_steps ++ value_steps
+    first_steps
+    ++ constructor_steps built_in.Array array_prototype (makes (built Array object_prototype array_prototype_props) array_prototype_fit) array_prototype_functions array_functions refl
+    ++ value_steps built_in.String (at_place string_prototype_place) string_prototype_functions string_functions refl refl
+    ++ value_steps built_in.Number (at_place number_prototype_place) number_prototype_functions [] refl refl
+    ++ value_steps built_in.Boolean (at_place boolean_prototype_place) boolean_prototype_functions [] refl refl
+    ++ (made Math (Some object_prototype) (methods math_functions) refl refl ∷ all_functions math_functions)
     ++ error_steps built_in.Error kind.Plain object_prototype
     ++ error_steps built_in.TypeError kind.Type (error_prototype kind.Plain)
     ++ error_steps built_in.RangeError kind.Range (error_prototype kind.Plain)
     ++ error_steps built_in.ReferenceError kind.Reference (error_prototype kind.Plain)
+    ++ all_functions global_functions
 
 all_made : after_steps empty steps ≡ pristine.heap
-unfolding array_prototype_place boolean_prototype_place console_place error_prototype_place type_error_prototype_place range_error_prototype_place reference_error_prototype_place function_place steps base_steps object_steps value_steps error_steps made function_made method_made
+unfolding array_prototype_place string_prototype_place number_prototype_place boolean_prototype_place math_place console_place error_prototype_place type_error_prototype_place range_error_prototype_place reference_error_prototype_place function_place steps first_steps constructor_steps value_steps error_steps all_functions method_made native_made made function_made
 all_made = refl
 
 pub pristine_sound : IsSound pristine.heap

@@ -8,7 +8,7 @@ use Rattle.object_heap.specs.Heap.{add_property, define_own, delete, lookup, pre
 use Rattle.whole_ops.specs.Numeral.{decimal_of, goes_on_as_decimal, hexadecimal_of, is_decimal, is_exponent, literal_of, to_whole}
 use Rattle.whole_ops.specs.WhiteSpace.{trimmed}
 use Rattle.page_meaning.specs.Operators.{text_limit}
-use Rattle.page_meaning.specs.Places.{array_prototype_place, boolean_prototype_place, console_place, function_place, error_prototype_place, type_error_prototype_place, range_error_prototype_place, reference_error_prototype_place}
+use Rattle.page_meaning.specs.Places.{array_prototype_place, string_prototype_place, number_prototype_place, boolean_prototype_place, math_place, console_place, function_place, error_prototype_place, type_error_prototype_place, range_error_prototype_place, reference_error_prototype_place}
 use Rattle.page_meaning.specs.Tasks.{depth_limit, step_limit}
 use Rattle.page_meaning.specs.Worked.{PutOut}
 use Rattle.page_meaning.specs.WorkedExpressions as expressions
@@ -16,41 +16,41 @@ use Rattle.page_meaning.specs.WorkedObjects as made
 use Rattle.page_meaning.specs.WorkedStatements as statements
 
 pub references_put_out : PutOut expressions.references
-unfolding array_prototype_place error_prototype_place type_error_prototype_place range_error_prototype_place reference_error_prototype_place console_place function_place boolean_prototype_place step_limit depth_limit text_limit global_names digits put define_own delete prevent_extensions lookup can_put get_property set add_property to_whole literal_of decimal_of hexadecimal_of is_decimal goes_on_as_decimal is_exponent trimmed is_white_space is_line_end
+unfolding array_prototype_place error_prototype_place type_error_prototype_place range_error_prototype_place reference_error_prototype_place console_place function_place string_prototype_place number_prototype_place boolean_prototype_place math_place step_limit depth_limit text_limit global_names digits put define_own delete prevent_extensions lookup can_put get_property set add_property to_whole literal_of decimal_of hexadecimal_of is_decimal goes_on_as_decimal is_exponent trimmed is_white_space is_line_end
 references_put_out = (refl, (refl, (refl, (refl, (refl, (refl, (refl, (refl, (refl, tt)))))))))
 
 pub operators_put_out : PutOut expressions.operators
-unfolding array_prototype_place error_prototype_place type_error_prototype_place range_error_prototype_place reference_error_prototype_place console_place function_place boolean_prototype_place step_limit depth_limit text_limit global_names digits put define_own delete prevent_extensions lookup can_put get_property set add_property to_whole literal_of decimal_of hexadecimal_of is_decimal goes_on_as_decimal is_exponent trimmed is_white_space is_line_end
+unfolding array_prototype_place error_prototype_place type_error_prototype_place range_error_prototype_place reference_error_prototype_place console_place function_place string_prototype_place number_prototype_place boolean_prototype_place math_place step_limit depth_limit text_limit global_names digits put define_own delete prevent_extensions lookup can_put get_property set add_property to_whole literal_of decimal_of hexadecimal_of is_decimal goes_on_as_decimal is_exponent trimmed is_white_space is_line_end
 operators_put_out = (refl, (refl, (refl, (refl, (refl, (refl, (refl, tt)))))))
 
 pub objects_put_out : PutOut expressions.objects
-unfolding array_prototype_place error_prototype_place type_error_prototype_place range_error_prototype_place reference_error_prototype_place console_place function_place boolean_prototype_place step_limit depth_limit text_limit global_names digits put define_own delete prevent_extensions lookup can_put get_property set add_property to_whole literal_of decimal_of hexadecimal_of is_decimal goes_on_as_decimal is_exponent trimmed is_white_space is_line_end
+unfolding array_prototype_place error_prototype_place type_error_prototype_place range_error_prototype_place reference_error_prototype_place console_place function_place string_prototype_place number_prototype_place boolean_prototype_place math_place step_limit depth_limit text_limit global_names digits put define_own delete prevent_extensions lookup can_put get_property set add_property to_whole literal_of decimal_of hexadecimal_of is_decimal goes_on_as_decimal is_exponent trimmed is_white_space is_line_end
 objects_put_out = (refl, (refl, (refl, (refl, (refl, tt)))))
 
 pub functions_put_out : PutOut expressions.functions
-unfolding array_prototype_place error_prototype_place type_error_prototype_place range_error_prototype_place reference_error_prototype_place console_place function_place boolean_prototype_place step_limit depth_limit text_limit global_names digits put define_own delete prevent_extensions lookup can_put get_property set add_property to_whole literal_of decimal_of hexadecimal_of is_decimal goes_on_as_decimal is_exponent trimmed is_white_space is_line_end
+unfolding array_prototype_place error_prototype_place type_error_prototype_place range_error_prototype_place reference_error_prototype_place console_place function_place string_prototype_place number_prototype_place boolean_prototype_place math_place step_limit depth_limit text_limit global_names digits put define_own delete prevent_extensions lookup can_put get_property set add_property to_whole literal_of decimal_of hexadecimal_of is_decimal goes_on_as_decimal is_exponent trimmed is_white_space is_line_end
 functions_put_out = (refl, (refl, (refl, (refl, (refl, tt)))))
 
 pub loops_put_out : PutOut statements.loops
-unfolding array_prototype_place error_prototype_place type_error_prototype_place range_error_prototype_place reference_error_prototype_place console_place function_place boolean_prototype_place step_limit depth_limit text_limit global_names digits put define_own delete prevent_extensions lookup can_put get_property set add_property to_whole literal_of decimal_of hexadecimal_of is_decimal goes_on_as_decimal is_exponent trimmed is_white_space is_line_end
+unfolding array_prototype_place error_prototype_place type_error_prototype_place range_error_prototype_place reference_error_prototype_place console_place function_place string_prototype_place number_prototype_place boolean_prototype_place math_place step_limit depth_limit text_limit global_names digits put define_own delete prevent_extensions lookup can_put get_property set add_property to_whole literal_of decimal_of hexadecimal_of is_decimal goes_on_as_decimal is_exponent trimmed is_white_space is_line_end
 loops_put_out = (refl, (refl, (refl, (refl, (refl, tt)))))
 
 pub exceptions_put_out : PutOut statements.exceptions
-unfolding array_prototype_place error_prototype_place type_error_prototype_place range_error_prototype_place reference_error_prototype_place console_place function_place boolean_prototype_place step_limit depth_limit text_limit global_names digits put define_own delete prevent_extensions lookup can_put get_property set add_property to_whole literal_of decimal_of hexadecimal_of is_decimal goes_on_as_decimal is_exponent trimmed is_white_space is_line_end
+unfolding array_prototype_place error_prototype_place type_error_prototype_place range_error_prototype_place reference_error_prototype_place console_place function_place string_prototype_place number_prototype_place boolean_prototype_place math_place step_limit depth_limit text_limit global_names digits put define_own delete prevent_extensions lookup can_put get_property set add_property to_whole literal_of decimal_of hexadecimal_of is_decimal goes_on_as_decimal is_exponent trimmed is_white_space is_line_end
 exceptions_put_out = (refl, (refl, (refl, (refl, (refl, tt)))))
 
 pub switches_put_out : PutOut statements.switches
-unfolding array_prototype_place error_prototype_place type_error_prototype_place range_error_prototype_place reference_error_prototype_place console_place function_place boolean_prototype_place step_limit depth_limit text_limit global_names digits put define_own delete prevent_extensions lookup can_put get_property set add_property to_whole literal_of decimal_of hexadecimal_of is_decimal goes_on_as_decimal is_exponent trimmed is_white_space is_line_end
+unfolding array_prototype_place error_prototype_place type_error_prototype_place range_error_prototype_place reference_error_prototype_place console_place function_place string_prototype_place number_prototype_place boolean_prototype_place math_place step_limit depth_limit text_limit global_names digits put define_own delete prevent_extensions lookup can_put get_property set add_property to_whole literal_of decimal_of hexadecimal_of is_decimal goes_on_as_decimal is_exponent trimmed is_white_space is_line_end
 switches_put_out = (refl, (refl, tt))
 
 pub declarations_put_out : PutOut statements.declarations
-unfolding array_prototype_place error_prototype_place type_error_prototype_place range_error_prototype_place reference_error_prototype_place console_place function_place boolean_prototype_place step_limit depth_limit text_limit global_names digits put define_own delete prevent_extensions lookup can_put get_property set add_property to_whole literal_of decimal_of hexadecimal_of is_decimal goes_on_as_decimal is_exponent trimmed is_white_space is_line_end
+unfolding array_prototype_place error_prototype_place type_error_prototype_place range_error_prototype_place reference_error_prototype_place console_place function_place string_prototype_place number_prototype_place boolean_prototype_place math_place step_limit depth_limit text_limit global_names digits put define_own delete prevent_extensions lookup can_put get_property set add_property to_whole literal_of decimal_of hexadecimal_of is_decimal goes_on_as_decimal is_exponent trimmed is_white_space is_line_end
 declarations_put_out = (refl, (refl, (refl, tt)))
 
 pub made_objects_put_out : PutOut made.objects
-unfolding array_prototype_place error_prototype_place type_error_prototype_place range_error_prototype_place reference_error_prototype_place console_place function_place boolean_prototype_place step_limit depth_limit text_limit global_names digits put define_own delete prevent_extensions lookup can_put get_property set add_property to_whole literal_of decimal_of hexadecimal_of is_decimal goes_on_as_decimal is_exponent trimmed is_white_space is_line_end
+unfolding array_prototype_place error_prototype_place type_error_prototype_place range_error_prototype_place reference_error_prototype_place console_place function_place string_prototype_place number_prototype_place boolean_prototype_place math_place step_limit depth_limit text_limit global_names digits put define_own delete prevent_extensions lookup can_put get_property set add_property to_whole literal_of decimal_of hexadecimal_of is_decimal goes_on_as_decimal is_exponent trimmed is_white_space is_line_end
 made_objects_put_out = (refl, (refl, (refl, (refl, (refl, tt)))))
 
 pub constructors_put_out : PutOut made.constructors
-unfolding array_prototype_place error_prototype_place type_error_prototype_place range_error_prototype_place reference_error_prototype_place console_place function_place boolean_prototype_place step_limit depth_limit text_limit global_names digits put define_own delete prevent_extensions lookup can_put get_property set add_property to_whole literal_of decimal_of hexadecimal_of is_decimal goes_on_as_decimal is_exponent trimmed is_white_space is_line_end
+unfolding array_prototype_place error_prototype_place type_error_prototype_place range_error_prototype_place reference_error_prototype_place console_place function_place string_prototype_place number_prototype_place boolean_prototype_place math_place step_limit depth_limit text_limit global_names digits put define_own delete prevent_extensions lookup can_put get_property set add_property to_whole literal_of decimal_of hexadecimal_of is_decimal goes_on_as_decimal is_exponent trimmed is_white_space is_line_end
 constructors_put_out = (refl, (refl, (refl, tt)))

@@ -1,5 +1,5 @@
 -- Meaning: property descriptors as objects, and definitions by them (sections 8.10 and 15.2.3).
-use Rattle.std.specs.Prelude.{refl, ℕ, Bool, true, false, ◌||◌, List, [], ◌∷◌, Option, Some, None, codes, if◌then◌else◌}
+use Rattle.std.specs.Prelude.{refl, ℕ, Bool, true, ◌||◌, List, [], ◌∷◌, Option, Some, None, codes, if◌then◌else◌}
 use Rattle.std.specs.Option.{option_map}
 use Rattle.js_values.specs.declared.ids.ObjId.{ObjId}
 use Rattle.js_values.specs.declared.value.Value.{Value}

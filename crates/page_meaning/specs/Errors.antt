@@ -1,11 +1,10 @@
 -- Meaning: how an error is thrown, as a new object (section 15.11).
-use Rattle.std.specs.Prelude.{refl, ℕ, pos, true, false, [], ◌∷◌, Option, Some, None, Result, Ok, Err, codes}
+use Rattle.std.specs.Prelude.{refl, ℕ, pos, [], ◌∷◌, Option, Some, None, Result, Ok, Err, codes}
 use Rattle.js_values.specs.declared.throw.Throw.{Throw}
 use Rattle.js_values.specs.declared.value.Value.{Value}
 use Rattle.js_values.specs.declared.value.Value.TheVariants as value
 use Rattle.js_values.specs.Throw.{message_of, kind_of, code_of}
 use Rattle.object_heap.specs.declared.object.Class.TheVariants.{Fault}
-use Rattle.object_heap.specs.declared.property.Prop.{Prop}
 use Rattle.object_heap.specs.Heap.{IsFit}
 use Rattle.object_heap.specs.Object.{Object, whole_object}
 use Rattle.object_heap.specs.Property.{Props, hidden}

@@ -1,6 +1,6 @@
 -- Meaning: a page before its scripts (section 15). The built-in objects by age: `window`, `Object.prototype`, `Function.prototype`, and
 -- then those that a walk from `window` meets: it goes through own properties in order, and into an object at once.
-use Rattle.std.specs.Prelude.{ℕ, List, [], ◌∷◌, ◌++◌, Option, Some, None, codes}
+use Rattle.std.specs.Prelude.{ℕ, List, [], ◌∷◌, ◌++◌, Some, None, codes, map}
 use Rattle.js_values.specs.declared.built_in.BuiltIn.{BuiltIn}
 use Rattle.js_values.specs.declared.built_in.BuiltIn.TheVariants as built_in
 use Rattle.js_values.specs.declared.ids.ObjId.{ObjId}
@@ -10,12 +10,12 @@ use Rattle.js_values.specs.declared.value.Value.TheVariants as value
 use Rattle.js_values.specs.Throw.{kind_name}
 use Rattle.js_core.specs.Whole.{nan}
 use Rattle.object_heap.specs.declared.object.Class.{Class}
-use Rattle.object_heap.specs.declared.object.Class.TheVariants.{Plain, List as Array, Native, Fault, Window}
+use Rattle.object_heap.specs.declared.object.Class.TheVariants.{Plain, List as Array, Native, Fault, Math, Window}
 use Rattle.object_heap.specs.declared.property.Prop.{Prop}
 use Rattle.object_heap.specs.Define.{length_name, number}
 use Rattle.object_heap.specs.Object.{Object, whole_object, with_closed}
 use Rattle.object_heap.specs.Property.{Props, fixed, hidden, lasting}
-use Rattle.page_meaning.specs.Places.{at_place, window, array_prototype, boolean_prototype_place, console_place, error_prototype, function_at, function_prototype, object_prototype}
+use Rattle.page_meaning.specs.Places.{at_place, window, array_prototype, boolean_prototype_place, console_place, error_prototype, function_at, function_prototype, math_place, number_prototype_place, object_prototype, string_prototype_place}
 use Rattle.page_meaning.specs.Store.{Store}
 
 -- a property that holds a built-in function
@@ -28,76 +28,6 @@ constructor_is which = method (codes "constructor") which
 abbrev pub prototype_is : ObjId → List ℕ × Prop
 prototype_is p = (codes "prototype", fixed (value.Object p))
 
--- the properties of the global object (15.1)
-abbrev pub global_props : Props
-global_props =
-    (codes "window", fixed (value.Object window))
-    ∷ (codes "console", hidden (value.Object (at_place console_place)))
-    ∷ method (codes "alert") built_in.Alert
-    ∷ method (codes "Object") built_in.Object
-    ∷ method (codes "Function") built_in.Function
-    ∷ method (codes "Array") built_in.Array
-    ∷ method (codes "Boolean") built_in.Boolean
-    ∷ method (codes "Error") built_in.Error
-    ∷ method (codes "TypeError") built_in.TypeError
-    ∷ method (codes "RangeError") built_in.RangeError
-    ∷ method (codes "ReferenceError") built_in.ReferenceError
-    ∷ (codes "undefined", fixed value.Undefined)
-    ∷ (codes "NaN", fixed (value.Num nan)) ∷ []
-
--- 15.2.4
-abbrev pub object_prototype_props : Props
-object_prototype_props =
-    constructor_is built_in.Object
-    ∷ method (codes "toString") built_in.ObjectPrototypeToString
-    ∷ method (codes "valueOf") built_in.ObjectPrototypeValueOf
-    ∷ method (codes "hasOwnProperty") built_in.ObjectPrototypeHasOwnProperty
-    ∷ method (codes "isPrototypeOf") built_in.ObjectPrototypeIsPrototypeOf
-    ∷ method (codes "propertyIsEnumerable") built_in.ObjectPrototypePropertyIsEnumerable ∷ []
-
--- 15.2.3: on prototypes and properties, and on what may be added
-abbrev pub property_methods : Props
-property_methods =
-    method (codes "getPrototypeOf") built_in.ObjectGetPrototypeOf
-    ∷ method (codes "getOwnPropertyDescriptor") built_in.ObjectGetOwnPropertyDescriptor
-    ∷ method (codes "getOwnPropertyNames") built_in.ObjectGetOwnPropertyNames
-    ∷ method (codes "create") built_in.ObjectCreate
-    ∷ method (codes "defineProperty") built_in.ObjectDefineProperty
-    ∷ method (codes "defineProperties") built_in.ObjectDefineProperties ∷ []
-
-abbrev pub extension_methods : Props
-extension_methods =
-    method (codes "seal") built_in.ObjectSeal
-    ∷ method (codes "freeze") built_in.ObjectFreeze
-    ∷ method (codes "preventExtensions") built_in.ObjectPreventExtensions
-    ∷ method (codes "isSealed") built_in.ObjectIsSealed
-    ∷ method (codes "isFrozen") built_in.ObjectIsFrozen
-    ∷ method (codes "isExtensible") built_in.ObjectIsExtensible
-    ∷ method (codes "keys") built_in.ObjectKeys ∷ []
-
-abbrev pub object_props : Props
-object_props = prototype_is object_prototype ∷ (property_methods ++ extension_methods)
-
--- 15.4.3
-abbrev pub array_props : Props
-array_props = prototype_is array_prototype ∷ method (codes "isArray") built_in.ArrayIsArray ∷ []
-
--- 15.4.4
-abbrev pub array_prototype_props : Props
-array_prototype_props = (length_name, lasting (number 0)) ∷ constructor_is built_in.Array ∷ []
-
--- 15.6.4
-abbrev pub boolean_prototype_props : Props
-boolean_prototype_props =
-    constructor_is built_in.Boolean
-    ∷ method (codes "toString") built_in.BooleanPrototypeToString
-    ∷ method (codes "valueOf") built_in.BooleanPrototypeValueOf ∷ []
-
--- 15.11.4 and 15.11.7
-abbrev pub error_prototype_props : BuiltIn → ErrorKind → Props
-error_prototype_props which k =
-    constructor_is which ∷ (codes "name", hidden (value.Text (kind_name k))) ∷ (codes "message", hidden (value.Text [])) ∷ []
-
 -- a built-in object, which is closed
 abbrev pub built : Class → ObjId → Props → Object
 built class proto props = with_closed (whole_object class (Some proto) props)
@@ -109,75 +39,243 @@ native_with which formals props = built (Native which) function_prototype ((leng
 abbrev pub native : BuiltIn → ℕ → Object
 native which formals = native_with which formals []
 
-abbrev pub error_constructor : BuiltIn → ErrorKind → Object
-error_constructor which k = native_with which 1 (prototype_is (error_prototype k) ∷ [])
+-- a function that an object holds: its name there, which it is, and its number of formals
+abbrev pub Method : Type 0
+Method = List ℕ × BuiltIn × ℕ
 
--- `Object`, and what its prototype and it hold
-abbrev pub object_prototype_functions : List Object
+abbrev pub method_of : Method → List ℕ × Prop
+method_of m = method m.0 m.1
+
+abbrev pub native_of : Method → Object
+native_of m = native m.1 m.2
+
+-- an object's properties that hold these, and the functions themselves
+abbrev pub methods : List Method → Props
+methods ms = map method_of ms
+
+abbrev pub natives : List Method → List Object
+natives ms = map native_of ms
+
+-- 15.2.4
+abbrev pub object_prototype_functions : List Method
 object_prototype_functions =
-    native built_in.ObjectPrototypeToString 0
-    ∷ native built_in.ObjectPrototypeValueOf 0
-    ∷ native built_in.ObjectPrototypeHasOwnProperty 1
-    ∷ native built_in.ObjectPrototypeIsPrototypeOf 1
-    ∷ native built_in.ObjectPrototypePropertyIsEnumerable 1 ∷ []
+    (codes "toString", built_in.ObjectPrototypeToString, 0)
+    ∷ (codes "valueOf", built_in.ObjectPrototypeValueOf, 0)
+    ∷ (codes "hasOwnProperty", built_in.ObjectPrototypeHasOwnProperty, 1)
+    ∷ (codes "isPrototypeOf", built_in.ObjectPrototypeIsPrototypeOf, 1)
+    ∷ (codes "propertyIsEnumerable", built_in.ObjectPrototypePropertyIsEnumerable, 1) ∷ []
 
-abbrev pub property_functions : List Object
-property_functions =
-    native built_in.ObjectGetPrototypeOf 1
-    ∷ native built_in.ObjectGetOwnPropertyDescriptor 2
-    ∷ native built_in.ObjectGetOwnPropertyNames 1
-    ∷ native built_in.ObjectCreate 2
-    ∷ native built_in.ObjectDefineProperty 3
-    ∷ native built_in.ObjectDefineProperties 2 ∷ []
+-- 15.2.3
+abbrev pub object_functions : List Method
+object_functions =
+    (codes "getPrototypeOf", built_in.ObjectGetPrototypeOf, 1)
+    ∷ (codes "getOwnPropertyDescriptor", built_in.ObjectGetOwnPropertyDescriptor, 2)
+    ∷ (codes "getOwnPropertyNames", built_in.ObjectGetOwnPropertyNames, 1)
+    ∷ (codes "create", built_in.ObjectCreate, 2)
+    ∷ (codes "defineProperty", built_in.ObjectDefineProperty, 3)
+    ∷ (codes "defineProperties", built_in.ObjectDefineProperties, 2)
+    ∷ (codes "seal", built_in.ObjectSeal, 1)
+    ∷ (codes "freeze", built_in.ObjectFreeze, 1)
+    ∷ (codes "preventExtensions", built_in.ObjectPreventExtensions, 1)
+    ∷ (codes "isSealed", built_in.ObjectIsSealed, 1)
+    ∷ (codes "isFrozen", built_in.ObjectIsFrozen, 1)
+    ∷ (codes "isExtensible", built_in.ObjectIsExtensible, 1)
+    ∷ (codes "keys", built_in.ObjectKeys, 1) ∷ []
 
-abbrev pub extension_functions : List Object
-extension_functions =
-    native built_in.ObjectSeal 1
-    ∷ native built_in.ObjectFreeze 1
-    ∷ native built_in.ObjectPreventExtensions 1
-    ∷ native built_in.ObjectIsSealed 1
-    ∷ native built_in.ObjectIsFrozen 1
-    ∷ native built_in.ObjectIsExtensible 1
-    ∷ native built_in.ObjectKeys 1 ∷ []
+-- 15.3.4
+abbrev pub function_prototype_functions : List Method
+function_prototype_functions =
+    (codes "call", built_in.FunctionPrototypeCall, 1)
+    ∷ (codes "apply", built_in.FunctionPrototypeApply, 2)
+    ∷ (codes "bind", built_in.FunctionPrototypeBind, 1) ∷ []
 
+-- 15.4.4
+abbrev pub array_prototype_functions : List Method
+array_prototype_functions =
+    (codes "toString", built_in.ArrayPrototypeToString, 0)
+    ∷ (codes "concat", built_in.ArrayPrototypeConcat, 1)
+    ∷ (codes "join", built_in.ArrayPrototypeJoin, 1)
+    ∷ (codes "pop", built_in.ArrayPrototypePop, 0)
+    ∷ (codes "push", built_in.ArrayPrototypePush, 1)
+    ∷ (codes "reverse", built_in.ArrayPrototypeReverse, 0)
+    ∷ (codes "shift", built_in.ArrayPrototypeShift, 0)
+    ∷ (codes "slice", built_in.ArrayPrototypeSlice, 2)
+    ∷ (codes "splice", built_in.ArrayPrototypeSplice, 2)
+    ∷ (codes "unshift", built_in.ArrayPrototypeUnshift, 1)
+    ∷ (codes "indexOf", built_in.ArrayPrototypeIndexOf, 1)
+    ∷ (codes "lastIndexOf", built_in.ArrayPrototypeLastIndexOf, 1)
+    ∷ (codes "every", built_in.ArrayPrototypeEvery, 1)
+    ∷ (codes "some", built_in.ArrayPrototypeSome, 1)
+    ∷ (codes "forEach", built_in.ArrayPrototypeForEach, 1)
+    ∷ (codes "map", built_in.ArrayPrototypeMap, 1)
+    ∷ (codes "filter", built_in.ArrayPrototypeFilter, 1)
+    ∷ (codes "reduce", built_in.ArrayPrototypeReduce, 1) ∷ []
+
+-- 15.4.3
+abbrev pub array_functions : List Method
+array_functions = (codes "isArray", built_in.ArrayIsArray, 1) ∷ []
+
+-- 15.5.4
+abbrev pub string_prototype_functions : List Method
+string_prototype_functions =
+    (codes "toString", built_in.StringPrototypeToString, 0)
+    ∷ (codes "valueOf", built_in.StringPrototypeValueOf, 0)
+    ∷ (codes "charAt", built_in.StringPrototypeCharAt, 1)
+    ∷ (codes "charCodeAt", built_in.StringPrototypeCharCodeAt, 1)
+    ∷ (codes "concat", built_in.StringPrototypeConcat, 1)
+    ∷ (codes "indexOf", built_in.StringPrototypeIndexOf, 1)
+    ∷ (codes "lastIndexOf", built_in.StringPrototypeLastIndexOf, 1)
+    ∷ (codes "slice", built_in.StringPrototypeSlice, 2)
+    ∷ (codes "split", built_in.StringPrototypeSplit, 2)
+    ∷ (codes "substring", built_in.StringPrototypeSubstring, 2)
+    ∷ (codes "toLowerCase", built_in.StringPrototypeToLowerCase, 0)
+    ∷ (codes "toUpperCase", built_in.StringPrototypeToUpperCase, 0)
+    ∷ (codes "trim", built_in.StringPrototypeTrim, 0) ∷ []
+
+-- 15.5.3
+abbrev pub string_functions : List Method
+string_functions = (codes "fromCharCode", built_in.StringFromCharCode, 1) ∷ []
+
+-- 15.7.4
+abbrev pub number_prototype_functions : List Method
+number_prototype_functions =
+    (codes "toString", built_in.NumberPrototypeToString, 1)
+    ∷ (codes "valueOf", built_in.NumberPrototypeValueOf, 0) ∷ []
+
+-- 15.6.4
+abbrev pub boolean_prototype_functions : List Method
+boolean_prototype_functions =
+    (codes "toString", built_in.BooleanPrototypeToString, 0)
+    ∷ (codes "valueOf", built_in.BooleanPrototypeValueOf, 0) ∷ []
+
+-- 15.8.2
+abbrev pub math_functions : List Method
+math_functions =
+    (codes "abs", built_in.MathAbs, 1)
+    ∷ (codes "ceil", built_in.MathCeil, 1)
+    ∷ (codes "floor", built_in.MathFloor, 1)
+    ∷ (codes "max", built_in.MathMax, 2)
+    ∷ (codes "min", built_in.MathMin, 2)
+    ∷ (codes "pow", built_in.MathPow, 2)
+    ∷ (codes "round", built_in.MathRound, 1) ∷ []
+
+abbrev pub console_functions : List Method
+console_functions = (codes "log", built_in.ConsoleLog, 0) ∷ []
+
+-- 15.1.2
+abbrev pub global_functions : List Method
+global_functions = (codes "isNaN", built_in.IsNaN, 1) ∷ (codes "isFinite", built_in.IsFinite, 1) ∷ (codes "parseInt", built_in.ParseInt, 2) ∷ []
+
+-- the properties of the global object (15.1): the host's, the constructors and Math, the errors, and the rest
+abbrev pub global_host : Props
+global_host =
+    (codes "window", fixed (value.Object window)) ∷ (codes "console", hidden (value.Object (at_place console_place))) ∷ method (codes "alert") built_in.Alert ∷ []
+
+abbrev pub global_constructors : Props
+global_constructors =
+    method (codes "Object") built_in.Object
+    ∷ method (codes "Function") built_in.Function
+    ∷ method (codes "Array") built_in.Array
+    ∷ method (codes "String") built_in.String
+    ∷ method (codes "Number") built_in.Number
+    ∷ method (codes "Boolean") built_in.Boolean
+    ∷ (codes "Math", hidden (value.Object (at_place math_place))) ∷ []
+
+abbrev pub global_errors : Props
+global_errors =
+    method (codes "Error") built_in.Error
+    ∷ method (codes "TypeError") built_in.TypeError
+    ∷ method (codes "RangeError") built_in.RangeError
+    ∷ method (codes "ReferenceError") built_in.ReferenceError ∷ []
+
+abbrev pub global_values : Props
+global_values = (codes "undefined", fixed value.Undefined) ∷ (codes "NaN", fixed (value.Num nan)) ∷ []
+
+abbrev pub global_props : Props
+global_props = global_host ++ (global_constructors ++ (global_errors ++ (methods global_functions ++ global_values)))
+
+abbrev pub object_prototype_props : Props
+object_prototype_props = constructor_is built_in.Object ∷ methods object_prototype_functions
+
+abbrev pub function_prototype_props : Props
+function_prototype_props = (length_name, fixed (number 0)) ∷ constructor_is built_in.Function ∷ methods function_prototype_functions
+
+abbrev pub array_prototype_props : Props
+array_prototype_props = (length_name, lasting (number 0)) ∷ constructor_is built_in.Array ∷ methods array_prototype_functions
+
+-- 15.11.4 and 15.11.7
+abbrev pub error_prototype_props : BuiltIn → ErrorKind → Props
+error_prototype_props which k =
+    constructor_is which ∷ (codes "name", hidden (value.Text (kind_name k))) ∷ (codes "message", hidden (value.Text [])) ∷ []
+
+-- a constructor with one formal, which has this prototype and these functions
+abbrev pub constructor : BuiltIn → ObjId → List Method → Object
+constructor which p own = native_with which 1 (prototype_is p ∷ methods own)
+
+-- it with its prototype, which is this object, and what they hold
+abbrev pub constructor_built_ins : BuiltIn → ObjId → Object → List Method → List Method → List Object
+constructor_built_ins which p prototype inherited own = constructor which p own ∷ prototype ∷ (natives inherited ++ natives own)
+
+-- a constructor whose prototype is an ordinary object
+abbrev pub value_prototype : BuiltIn → List Method → Object
+value_prototype which inherited = built Plain object_prototype (constructor_is which ∷ methods inherited)
+
+abbrev pub value_built_ins : BuiltIn → ObjId → List Method → List Method → List Object
+value_built_ins which p inherited own = constructor_built_ins which p (value_prototype which inherited) inherited own
+
+-- the constructor of errors of a kind, and its prototype below this object
+abbrev pub error_pair : BuiltIn → ErrorKind → ObjId → List Object
+error_pair which k above = constructor which (error_prototype k) [] ∷ built Fault above (error_prototype_props which k) ∷ []
+
+-- the global object and the two prototypes that stand before the walk
+abbrev pub root_objects : List Object
+root_objects =
+    whole_object Window None global_props
+    ∷ with_closed (whole_object Plain None object_prototype_props)
+    ∷ built (Native built_in.FunctionPrototype) object_prototype function_prototype_props ∷ []
+
+abbrev pub host_built_ins : List Object
+host_built_ins = built Plain object_prototype (methods console_functions) ∷ (natives console_functions ++ native built_in.Alert 1 ∷ [])
+
+-- `Object`, `Function` and what their prototypes and they hold; the prototypes stand before
 abbrev pub object_built_ins : List Object
-object_built_ins = native_with built_in.Object 1 object_props ∷ (object_prototype_functions ++ (property_functions ++ extension_functions))
+object_built_ins = constructor built_in.Object object_prototype object_functions ∷ (natives object_prototype_functions ++ natives object_functions)
 
--- the constructors of functions, arrays and truth values, with their prototypes
-abbrev pub value_built_ins : List Object
-value_built_ins =
-    native_with built_in.Function 1 (prototype_is function_prototype ∷ [])
-    ∷ native_with built_in.Array 1 array_props
-    ∷ built Array object_prototype array_prototype_props
-    ∷ native built_in.ArrayIsArray 1
-    ∷ native_with built_in.Boolean 1 (prototype_is (at_place boolean_prototype_place) ∷ [])
-    ∷ built Plain object_prototype boolean_prototype_props
-    ∷ native built_in.BooleanPrototypeToString 0
-    ∷ native built_in.BooleanPrototypeValueOf 0 ∷ []
+abbrev pub function_built_ins : List Object
+function_built_ins = constructor built_in.Function function_prototype [] ∷ natives function_prototype_functions
+
+abbrev pub array_built_ins : List Object
+array_built_ins =
+    constructor_built_ins built_in.Array array_prototype (built Array object_prototype array_prototype_props) array_prototype_functions array_functions
+
+abbrev pub string_built_ins : List Object
+string_built_ins = value_built_ins built_in.String (at_place string_prototype_place) string_prototype_functions string_functions
+
+abbrev pub number_built_ins : List Object
+number_built_ins = value_built_ins built_in.Number (at_place number_prototype_place) number_prototype_functions []
+
+abbrev pub boolean_built_ins : List Object
+boolean_built_ins = value_built_ins built_in.Boolean (at_place boolean_prototype_place) boolean_prototype_functions []
+
+abbrev pub math_built_ins : List Object
+math_built_ins = built Math object_prototype (methods math_functions) ∷ natives math_functions
 
 abbrev pub error_built_ins : List Object
 error_built_ins =
-    error_constructor built_in.Error kind.Plain
-    ∷ built Fault object_prototype (error_prototype_props built_in.Error kind.Plain)
-    ∷ error_constructor built_in.TypeError kind.Type
-    ∷ built Fault (error_prototype kind.Plain) (error_prototype_props built_in.TypeError kind.Type)
-    ∷ error_constructor built_in.RangeError kind.Range
-    ∷ built Fault (error_prototype kind.Plain) (error_prototype_props built_in.RangeError kind.Range)
-    ∷ error_constructor built_in.ReferenceError kind.Reference
-    ∷ built Fault (error_prototype kind.Plain) (error_prototype_props built_in.ReferenceError kind.Reference) ∷ []
+    error_pair built_in.Error kind.Plain object_prototype
+    ++ (error_pair built_in.TypeError kind.Type (error_prototype kind.Plain)
+    ++ (error_pair built_in.RangeError kind.Range (error_prototype kind.Plain)
+    ++ error_pair built_in.ReferenceError kind.Reference (error_prototype kind.Plain)))
 
--- the global object and the two prototypes that stand before the walk, and what it meets at once
-abbrev pub base_built_ins : List Object
-base_built_ins =
-    whole_object Window None global_props
-    ∷ with_closed (whole_object Plain None object_prototype_props)
-    ∷ built (Native built_in.FunctionPrototype) object_prototype ((length_name, fixed (number 0)) ∷ constructor_is built_in.Function ∷ [])
-    ∷ built Plain object_prototype (method (codes "log") built_in.ConsoleLog ∷ [])
-    ∷ native built_in.ConsoleLog 0
-    ∷ native built_in.Alert 1 ∷ []
+-- what the walk meets, in its order
+abbrev pub first_built_ins : List Object
+first_built_ins = root_objects ++ (host_built_ins ++ (object_built_ins ++ function_built_ins))
+
+abbrev pub value_kinds : List Object
+value_kinds = array_built_ins ++ (string_built_ins ++ (number_built_ins ++ (boolean_built_ins ++ math_built_ins)))
 
 abbrev pub built_ins : List Object
-built_ins = base_built_ins ++ (object_built_ins ++ (value_built_ins ++ error_built_ins))
+built_ins = first_built_ins ++ (value_kinds ++ (error_built_ins ++ natives global_functions))
 
 abbrev pub pristine : Store
 pristine = record { heap = record { objects = built_ins; environments = [] }; lines = [] }

@@ -1,5 +1,5 @@
 -- Meaning: the constructors of arrays, truth values and errors, and what a truth value's prototype has (sections 15.4, 15.6 and 15.11).
-use Rattle.std.specs.Prelude.{refl, ℕ, ℤ, suc, Bool, true, false, List, [], ◌∷◌, Option, Some, None, codes}
+use Rattle.std.specs.Prelude.{refl, ℕ, suc, Bool, false, List, [], ◌∷◌, Option, Some, None, codes}
 use Rattle.std.specs.Fmt.{decimal}
 use Rattle.js_values.specs.declared.ids.ObjId.{ObjId}
 use Rattle.js_values.specs.declared.throw.ErrorKind.{ErrorKind}

@@ -17,7 +17,7 @@ objects =
     -- try{Object.seal(Object);}catch(e){console.log(e.message);}try{Object.keys(1);}catch(e){console.log(e.message);}try{Object.create(1);}catch(e){console.log(e.message);}try{new Object("a");}catch(e){console.log(e.message);}console.log(new Object(undefined)===Object(null),Object(console)===console);
     (((try (stmts_of ((expr (call (member (name (codes "Object")) (codes "seal")) (exprs_of ((name (codes "Object")) ∷ [])))) ∷ [])) (one_catch (codes "e") (stmts_of ((expr (call (member (name (codes "console")) (codes "log")) (exprs_of ((member (name (codes "e")) (codes "message")) ∷ [])))) ∷ []))) no_body) ∷ (try (stmts_of ((expr (call (member (name (codes "Object")) (codes "keys")) (exprs_of ((num (Some (pos 1))) ∷ [])))) ∷ [])) (one_catch (codes "e") (stmts_of ((expr (call (member (name (codes "console")) (codes "log")) (exprs_of ((member (name (codes "e")) (codes "message")) ∷ [])))) ∷ []))) no_body) ∷ (try (stmts_of ((expr (call (member (name (codes "Object")) (codes "create")) (exprs_of ((num (Some (pos 1))) ∷ [])))) ∷ [])) (one_catch (codes "e") (stmts_of ((expr (call (member (name (codes "console")) (codes "log")) (exprs_of ((member (name (codes "e")) (codes "message")) ∷ [])))) ∷ []))) no_body) ∷ (try (stmts_of ((expr (construct (name (codes "Object")) (exprs_of ((text (codes "a")) ∷ [])))) ∷ [])) (one_catch (codes "e") (stmts_of ((expr (call (member (name (codes "console")) (codes "log")) (exprs_of ((member (name (codes "e")) (codes "message")) ∷ [])))) ∷ []))) no_body) ∷ (expr (call (member (name (codes "console")) (codes "log")) (exprs_of ((binary op.Same (construct (name (codes "Object")) (exprs_of ((name (codes "undefined")) ∷ []))) (call (name (codes "Object")) (exprs_of (null ∷ [])))) ∷ (binary op.Same (call (name (codes "Object")) (exprs_of ((name (codes "console")) ∷ []))) (name (codes "console"))) ∷ [])))) ∷ []), (logged (codes "cannot define") ∷ logged (codes "wrong argument") ∷ logged (codes "wrong argument") ∷ logged (codes "wrong argument") ∷ logged (codes "false true") ∷ [])) ∷
     -- console.log([].toString===Object.prototype.toString,({}).toString(),[].toString(),(function(){}).toString(),true.toString(),true.constructor===Boolean,"a".length);
-    (((expr (call (member (name (codes "console")) (codes "log")) (exprs_of ((binary op.Same (member (list (holes_of ([]))) (codes "toString")) (member (member (name (codes "Object")) (codes "prototype")) (codes "toString"))) ∷ (call (member (literal no_fields) (codes "toString")) (exprs_of [])) ∷ (call (member (list (holes_of ([]))) (codes "toString")) (exprs_of [])) ∷ (call (member (func (code None [] no_stmts)) (codes "toString")) (exprs_of [])) ∷ (call (member (bool true) (codes "toString")) (exprs_of [])) ∷ (binary op.Same (member (bool true) (codes "constructor")) (name (codes "Boolean"))) ∷ (member (text (codes "a")) (codes "length")) ∷ [])))) ∷ []), (logged (codes "true [object Object] [object Array] [object Function] true true 1") ∷ [])) ∷
+    (((expr (call (member (name (codes "console")) (codes "log")) (exprs_of ((binary op.Same (member (list (holes_of ([]))) (codes "toString")) (member (member (name (codes "Object")) (codes "prototype")) (codes "toString"))) ∷ (call (member (literal no_fields) (codes "toString")) (exprs_of [])) ∷ (call (member (list (holes_of ([]))) (codes "toString")) (exprs_of [])) ∷ (call (member (func (code None [] no_stmts)) (codes "toString")) (exprs_of [])) ∷ (call (member (bool true) (codes "toString")) (exprs_of [])) ∷ (binary op.Same (member (bool true) (codes "constructor")) (name (codes "Boolean"))) ∷ (member (text (codes "a")) (codes "length")) ∷ [])))) ∷ []), (logged (codes "false [object Object]  [object Function] true true 1") ∷ [])) ∷
     []
 
 -- what constructors make (sections 15.4, 15.6 and 15.11)

@@ -2,6 +2,8 @@
 //! expression, statement, call and task as definitions over pure trees (ECMA-262 5.1 sections 8 to 15).
 #![tactic(auto)]
 
+pub mod family;
 pub mod laws;
 pub mod reference;
 pub mod signal;
+pub mod visit;
