@@ -4,12 +4,15 @@ pub mod Callers
 pub mod Chains
 pub mod Does
 pub mod Entering
+pub mod FunctionTables
+pub mod InTurn
 pub mod Joined
 pub mod LineTexts
 pub mod NewFunctions
 pub mod OtherKinds
 pub mod Passing
 pub mod Rests
+pub mod Taking
 pub mod TopNames
 pub mod Values
 pub mod Visits

@@ -1,5 +1,5 @@
 -- What a loop over names visits.
-use Rattle.std.proofs.Common.{◌≡◌, refl, sym, ap, subst, ◌∙◌, ℕ, zero, suc, ◌+◌, ◌<◌, Bool, true, false, not, ◌&&◌, ◌||◌, List, [], ◌∷◌, ◌++◌, length, drop, get_or, take, add-one, Option, Some, None, IfSome, bytes_eq, append_assoc, arith, if◌then◌else◌}
+use Rattle.std.proofs.Common.{◌≡◌, refl, sym, ap, subst, ◌∙◌, ℕ, zero, suc, ◌+◌, ◌<◌, Bool, true, false, not, ◌&&◌, ◌||◌, List, [], ◌∷◌, ◌++◌, length, drop, get_or, map, take, add-one, Option, Some, None, IfSome, bytes_eq, append_assoc, arith, if◌then◌else◌}
 use Rattle.std.proofs.Math.Seq.{drop-cons}
 use Rattle.std.proofs.lemmas.List.{append-nil, length-map}
 use Rattle.std.proofs.lemmas.List.Folds.{list_any-append, list_any_more}
@@ -14,7 +14,7 @@ use Rattle.object_heap.specs.Chain.{object_at}
 use Rattle.object_heap.specs.Property.{Props}
 use Rattle.page_meaning.specs.Loops.{Listed, listed_from, listed_own, listed_up, unit_names}
 use Rattle.page_meaning.specs.Store.{Store}
-use Rattle.page_state.specs.Listing.{is_seen_at}
+use Rattle.page_state.specs.Listing.{AlsoSeen, is_seen_at}
 use Rattle.page_state.proofs.Bindings.{any_inserted}
 
 -- ---- the names of units
@@ -66,23 +66,35 @@ any_next x ks ks' first keys i k key before there is same put =
     ap (list_any (bytes_eq x)) put ∙ any_inserted ks k x ∙ ap (λ q. list_any (bytes_eq x) ks || bytes_eq x q) same ∙ ap (λ b. b || bytes_eq x key) before
     ∙ or_moved (list_any (bytes_eq x) first) (list_any (bytes_eq x) (take i keys)) (bytes_eq x key) ∙ ap (λ b. list_any (bytes_eq x) first || b) (sym more)
 
+-- the names of these were seen
+pub named : (names : Listed) (k : ℕ) (p : Option ObjId × List ℕ) → p ≡ get_or names k p → p.1 ≡ get_or (map (λ q. q.1) names) k p.1
+named [] k p e = refl
+named (q ∷ qs) zero p e = ap (λ r. r.1) e
+named (q ∷ qs) (suc k) p e = named qs k p e
+
+pub many_named : (names : Listed) (k : ℕ) → k < length names → k < length (map (λ q. q.1) names)
+many_named names k h = omega (arith, h, length-map names (λ (q : Option ObjId × List ℕ). q.1))
+
+pub units_seen : (names us : Listed) (start keys : List (List ℕ)) → start ≡ [] → names ≡ us → AlsoSeen start (map (λ q. q.1) names) keys → AlsoSeen [] (map (λ q. q.1) us) keys
+units_seen names us start keys e f h = rw (e, f) at h
+
 -- ---- up the chain
 
--- what was listed so far, with what is listed from here up
-pub record Walk (s : Store) (from : ObjId) (seen : List (List ℕ)) (names : Listed) (next : Option ObjId) : Type 0 where
+-- what was listed so far, with what is listed from here up, comes to all
+pub record Walk (s : Store) (all : Listed) (seen : List (List ℕ)) (names : Listed) (next : Option ObjId) : Type 0 where
   pub fuel : ℕ
   pub enough : ForSome next (λ at. at.0 < fuel)
   pub before : List (List ℕ)
   pub same : (x : List ℕ) → list_any (bytes_eq x) seen ≡ list_any (bytes_eq x) before
-  pub whole : names ++ listed_from s.heap.objects fuel before next ≡ listed_up s [] (Some from)
+  pub whole : names ++ listed_from s.heap.objects fuel before next ≡ all
 
-pub walk_begins : (s : Store) (from : ObjId) (seen : List (List ℕ)) (names : Listed) → seen ≡ [] → names ≡ [] → Walk s from seen names (Some from)
-walk_begins s from seen names e f = record {
+pub walk_begins : (s : Store) (from : ObjId) (seen before : List (List ℕ)) (names : Listed) → AlsoSeen [] before seen → Walk s (names ++ listed_up s before (Some from)) seen names (Some from)
+walk_begins s from seen before names seen_before = record {
   fuel = suc from.0;
   enough = λ at g. (let same : from ≡ at = cc in omega (arith, ap (λ (o : ObjId). o.0) same));
-  before = [];
-  same = λ x. rw e refl;
-  whole = rw f refl;
+  before = before;
+  same = seen_before;
+  whole = refl;
 }
 
 for_some : {A : Type 0} (P : A → Type 0) (o : Option A) → IfSome o P → ForSome o P
@@ -98,14 +110,14 @@ pub above_falls : (at : ObjId) (next up : Option ObjId) → next ≡ Some at →
 above_falls at next None is h = rw is (omega arith)
 above_falls at next (Some p) is h = rw is (omega (arith, h))
 
-pub walk_on : (s : Store) (from : ObjId) (seen seen' keys : List (List ℕ)) (names names' : Listed) (here : Option ObjId) (at : ObjId) (next : Option ObjId) → Walk s from seen names here → here ≡ Some at
+pub walk_on : (s : Store) (all : Listed) (seen seen' keys : List (List ℕ)) (names names' : Listed) (here : Option ObjId) (at : ObjId) (next : Option ObjId) → Walk s all seen names here → here ≡ Some at
     → keys ≡ keys_of (object_at s.heap.objects at.0).props → names' ≡ names ++ listed_own at seen (object_at s.heap.objects at.0).props
     → ((x : List ℕ) → list_any (bytes_eq x) seen' ≡ (list_any (bytes_eq x) seen || list_any (bytes_eq x) keys))
-    → next ≡ (object_at s.heap.objects at.0).proto → IfSome next (λ p. p.0 < at.0) → Walk s from seen' names' next
-walk_on s from seen seen' keys names names' here at next w is own pushed put up older =
+    → next ≡ (object_at s.heap.objects at.0).proto → IfSome next (λ p. p.0 < at.0) → Walk s all seen' names' next
+walk_on s all seen seen' keys names names' here at next w is own pushed put up older =
     by_fuel w.fuel (w.enough at is) (ap (λ h. names ++ listed_from s.heap.objects w.fuel w.before h) (sym is) ∙ w.whole)
   where
-    by_fuel : (n : ℕ) → at.0 < n → names ++ listed_from s.heap.objects n w.before (Some at) ≡ listed_up s [] (Some from) → Walk s from seen' names' next
+    by_fuel : (n : ℕ) → at.0 < n → names ++ listed_from s.heap.objects n w.before (Some at) ≡ all → Walk s all seen' names' next
     by_fuel zero h e = absurd (omega arith)
     by_fuel (suc n) h e =
         let props = (object_at s.heap.objects at.0).props in
@@ -121,8 +133,8 @@ walk_on s from seen seen' keys names names' here at next w is own pushed put up 
               ∙ ap (λ p. names ++ (listed_own at w.before props ++ listed_from s.heap.objects n after p)) up ∙ e;
         }
 
-pub walk_ends : (s : Store) (from : ObjId) (seen : List (List ℕ)) (names : Listed) (here : Option ObjId) → Walk s from seen names here → here ≡ None → names ≡ listed_up s [] (Some from)
-walk_ends s from seen names here w is =
+pub walk_ends : (s : Store) (all : Listed) (seen : List (List ℕ)) (names : Listed) (here : Option ObjId) → Walk s all seen names here → here ≡ None → names ≡ all
+walk_ends s all seen names here w is =
     sym (append-nil names) ∙ ap (λ r. names ++ r) (sym (none_from w.fuel)) ∙ ap (λ h. names ++ listed_from s.heap.objects w.fuel w.before h) (sym is) ∙ w.whole
   where
     none_from : (n : ℕ) → listed_from s.heap.objects n w.before None ≡ []

@@ -4,18 +4,15 @@ use Rattle.std.specs.Prelude.{OnOk, codes, slice_set}
 use Rattle.std.proofs.lemmas.Bool.{lt-ltb}
 use Rattle.js_values.specs.declared.built_in.BuiltIn.TheVariants as built_in
 use Rattle.js_values.specs.declared.ids.ObjId.{ObjId}
-use Rattle.js_values.specs.declared.value.Value.TheVariants as value
 use Rattle.object_heap.specs.declared.object.Class.{Class}
 use Rattle.object_heap.specs.declared.object.Class.TheVariants.{List as Array}
-use Rattle.object_heap.specs.Attempt.{done}
 use Rattle.object_heap.specs.Chain.{object_at}
-use Rattle.object_heap.specs.Define as object
-use Rattle.object_heap.specs.Heap.{Contents, at_object, close, define_own, first_props, made, new_object, with_new_object, with_object, with_objects}
-use Rattle.object_heap.specs.Object.{Object, class_at, older, whole_object, with_closed, with_props}
+use Rattle.object_heap.specs.Heap.{Contents, close, first_props, made, new_object, with_new_object, with_object, with_objects}
+use Rattle.object_heap.specs.Object.{Object, class_at, older, whole_object, with_closed}
 use Rattle.object_heap.specs.Property.{Props}
-use Rattle.page_meaning.specs.Places.{function_at, object_prototype}
-use Rattle.page_meaning.specs.Pristine.{array_prototype_props, built}
-use Rattle.page_state.specs.BuiltIns.{array_prototype_object, beside, hidden_change}
+use Rattle.page_meaning.specs.Places.{object_prototype}
+use Rattle.page_meaning.specs.Pristine.{array_prototype_functions, built}
+use Rattle.page_state.specs.BuiltIns.{array_prototype_object, beside, method_given, methods_given, with_method, with_methods}
 
 youngest_at : (os : List Object) (o : Object) → object_at (os ++ o ∷ []) (length os) ≡ o
 youngest_at [] o = refl
@@ -45,25 +42,37 @@ pub closed_youngest : (h h1 h2 : Contents) (class : Class) (p at : ObjId) (props
     → at.0 ≡ length h.objects → h1 ≡ made h (whole_object class (Some p) props) → h2 ≡ close h1 at.0 → h2 ≡ beside h (built class p props ∷ [])
 closed_youngest h h1 h2 class p at props e l i m c = closed h h1 h2 (whole_object class (Some p) props) at i (made_whole h h1 class p props e l m) c
 
+-- the youngest object, once it is changed
+changed : (h h1 h2 : Contents) (o p : Object) (at : ObjId) → at.0 ≡ length h.objects → h1 ≡ with_new_object h o → h2 ≡ with_object h1 at.0 p → h2 ≡ with_new_object h p
+changed h h1 h2 o p at i m c = c ∙ rw (i, m) (youngest_becomes h o p)
+
 -- an array before its second property, and with it
-abbrev array_start : Object
+abbrev pub array_start : Object
 array_start = new_object Array (Some object_prototype)
 
-abbrev array_defined : Object
-array_defined = with_props array_start array_prototype_props
+abbrev pub array_begun : Object
+array_begun = with_method array_start (codes "constructor") built_in.Array
 
-pub array_defines : (h h1 : Contents) (at : ObjId) → 1 < length h.objects → at.0 ≡ length h.objects → h1 ≡ made h (new_object Array (Some object_prototype))
-    → define_own h1 at.0 (codes "constructor") (hidden_change (value.Object (function_at built_in.Array))) ≡ done (with_new_object h (with_props (new_object Array (Some object_prototype)) array_prototype_props))
-unfolding define_own
-array_defines h h1 at l i m =
-    rw (i, made_whole h h1 Array object_prototype (first_props Array) refl l m)
-    (ap (λ x. at_object (with_new_object h array_start) (length h.objects) (object.define_own x (codes "constructor") (hidden_change (value.Object (function_at built_in.Array)))))
-    (youngest_at h.objects array_start) ∙ ap done (youngest_becomes h array_start array_defined))
+-- it is there when it is made, and when it has its constructor
+pub array_made : (h h1 : Contents) (at : ObjId) → 1 < length h.objects → at.0 ≡ length h.objects → h1 ≡ made h array_start → object_at h1.objects at.0 ≡ array_start
+array_made h h1 at l i m = rw (i, made_whole h h1 Array object_prototype (first_props Array) refl l m) (youngest_at h.objects array_start)
 
-pub array_youngest : (h h1 h2 h3 : Contents) (at : ObjId) → 1 < length h.objects → at.0 ≡ length h.objects → h1 ≡ made h (new_object Array (Some object_prototype))
-    → h2 ≡ (define_own h1 at.0 (codes "constructor") (hidden_change (value.Object (function_at built_in.Array)))).after → h3 ≡ close h2 at.0
-    → h3 ≡ beside h (array_prototype_object ∷ [])
-array_youngest h h1 h2 h3 at l i m d c = closed h h2 h3 array_defined at i (d ∙ ap (λ a. a.after) (array_defines h h1 at l i m)) c
+new_begun : (h h1 h2 : Contents) (at : ObjId) → 1 < length h.objects → at.0 ≡ length h.objects → h1 ≡ made h array_start → h2 ≡ method_given h1 at (codes "constructor") built_in.Array
+    → h2 ≡ with_new_object h array_begun
+new_begun h h1 h2 at l i m d =
+    changed h h1 h2 array_start array_begun at i (made_whole h h1 Array object_prototype (first_props Array) refl l m)
+    (d ∙ ap (λ o. with_object h1 at.0 (with_method o (codes "constructor") built_in.Array)) (array_made h h1 at l i m))
+
+pub array_has_begun : (h h1 h2 : Contents) (at : ObjId) → 1 < length h.objects → at.0 ≡ length h.objects → h1 ≡ made h array_start → h2 ≡ method_given h1 at (codes "constructor") built_in.Array
+    → object_at h2.objects at.0 ≡ array_begun
+array_has_begun h h1 h2 at l i m d = rw (i, new_begun h h1 h2 at l i m d) (youngest_at h.objects array_begun)
+
+pub array_youngest : (h h1 h2 h3 h4 : Contents) (at : ObjId) → 1 < length h.objects → at.0 ≡ length h.objects → h1 ≡ made h array_start
+    → h2 ≡ method_given h1 at (codes "constructor") built_in.Array → h3 ≡ methods_given h2 at array_prototype_functions → h4 ≡ close h3 at.0 → h4 ≡ beside h (array_prototype_object ∷ [])
+array_youngest h h1 h2 h3 h4 at l i m d e c =
+    closed h h3 h4 (with_methods array_begun array_prototype_functions) at i
+    (changed h h2 h3 array_begun (with_methods array_begun array_prototype_functions) at i (new_begun h h1 h2 at l i m d)
+    (e ∙ ap (λ o. with_object h2 at.0 (with_methods o array_prototype_functions)) (array_has_begun h h1 h2 at l i m d))) c
 
 -- more objects beside those that were pushed
 pub then_beside : {A E : Type 0} (r : Result A E) (h h1 h2 : Contents) (os ps : List Object) → h1 ≡ beside h os → OnOk r (h2 ≡ beside h1 ps) → OnOk r (h2 ≡ beside h (os ++ ps))

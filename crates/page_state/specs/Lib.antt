@@ -8,4 +8,5 @@ pub mod LineTexts
 pub mod Listing
 pub mod Operating
 pub mod Refusals
+pub mod Turns
 pub mod Updates

@@ -88,9 +88,9 @@ pub fn error_prototype(kind: ErrorKind) -> ObjId
     ensures { result ≡ spec_prototype kind }
 {
     match kind {
-        ErrorKind::Plain => ObjId(34),
-        ErrorKind::Type => ObjId(36),
-        ErrorKind::Range => ObjId(38),
-        ErrorKind::Reference => ObjId(40),
+        ErrorKind::Plain => ObjId(83),
+        ErrorKind::Type => ObjId(85),
+        ErrorKind::Range => ObjId(87),
+        ErrorKind::Reference => ObjId(89),
     }
 }

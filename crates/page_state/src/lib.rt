@@ -1,7 +1,9 @@
 //! A page while it runs, and what is done to it at once: properties, names, conversions, errors.
 #![tactic(auto)]
 
+mod arguments;
 mod convert;
+mod elements;
 mod entry;
 mod errors;
 mod fault;
@@ -20,14 +22,20 @@ mod primitives;
 mod pristine;
 mod properties;
 mod state;
+mod tables;
+mod turns;
 mod types;
 mod updates;
 
+pub use arguments::{argument, arguments_from, values_of};
 pub use convert::{number_of, text_of};
+pub use elements::{further, index_name, index_value};
 pub use errors::error_prototype;
 pub use fault::Fault;
 pub use functions::{built, object_or};
 pub use lines::class_name;
-pub use places::{OBJECT_PROTOTYPE, WINDOW};
+pub use places::{FUNCTION_PROTOTYPE, OBJECT_PROTOTYPE, WINDOW, function_at};
 pub use properties::own_of_text;
+pub use primitives::{TEXT_LIMIT, are_short};
 pub use state::State;
+pub use turns::{Halt, take_turn};

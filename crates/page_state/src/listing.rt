@@ -1,12 +1,13 @@
 //! What a loop over names visits (ECMA-262 5.1 section 12.6.4).
 
-ghost use Rattle.std.specs.Prelude.{◌≡◌, ◌++◌, ◌<◌, [], IfOk, IfSome, OnOk, Some};
+ghost use Rattle.std.specs.Prelude.{◌≡◌, ◌++◌, ◌<◌, [], IfOk, IfSome, List, OnOk, Some, map, ℕ};
 ghost use Rattle.std.specs.Map.{keys_of};
+ghost use Rattle.js_values.specs.declared.value.Value.TheVariants.{Text};
 ghost use Rattle.object_heap.specs.Chain.{object_at};
 ghost use Rattle.page_meaning.specs.Loops as spec;
 ghost use Rattle.page_state.specs.Listing.{AlsoSeen, is_listed_at, is_seen_at, props_at, with_listed};
 
-use crate::places::BOOLEAN_PROTOTYPE;
+use crate::places::{BOOLEAN_PROTOTYPE, NUMBER_PROTOTYPE, STRING_PROTOTYPE};
 use crate::state::State;
 use indexmap::IndexSet;
 use itoa::Buffer;
@@ -27,9 +28,21 @@ impl State {
         match value {
             Value::Object(at) => self.listed_up(*at),
             Value::Bool(_) => self.listed_up(BOOLEAN_PROTOTYPE),
-            Value::Text(text) => unit_names(self.alloc(), text.as_slice()),
-            Value::Undefined | Value::Null | Value::Num(_) => Ok(Vec::new(self.alloc())),
+            Value::Num(_) => self.listed_up(NUMBER_PROTOTYPE),
+            Value::Text(text) => self.listed_of_text(text),
+            Value::Undefined | Value::Null => Ok(Vec::new(self.alloc())),
         }
+    }
+
+    // The units of a text, and the enumerable names that it inherits.
+    fn listed_of_text(&self, text: &Units) -> Result<Vec<(Option<ObjId>, Units)>, OutOfMemory>
+        ensures { IfOk result (λ names. names.items ≡ spec.listed_of self.now (Text text.now)) }
+    {
+        let mut names = unit_names(self.alloc(), text.as_slice())?;
+        let mut seen = IndexSet::new(self.alloc());
+        add_units(names.as_slice(), &mut seen)?;
+        self.push_up(STRING_PROTOTYPE, seen, &mut names)?;
+        Ok(names)
     }
 
     // The enumerable names of an object and of those that it inherits from.
@@ -37,15 +50,30 @@ impl State {
         ensures { IfOk result (λ names. names.items ≡ spec.listed_up self.now [] (Some from)) }
     {
         let mut names = Vec::new(self.alloc());
-        let mut seen = IndexSet::new(self.alloc());
+        self.push_up(from, IndexSet::new(self.alloc()), &mut names)?;
+        Ok(names)
+    }
+
+    // The same behind other names, which were seen.
+    fn push_up(
+        &self,
+        from: ObjId,
+        seen: IndexSet<Units>,
+        names: &mut Vec<(Option<ObjId>, Units)>,
+    ) -> Result<(), OutOfMemory>
+        ensures { (before : List (List ℕ)) → AlsoSeen [] before seen.keys →
+            OnOk result
+            (names.new.items ≡ names.old.items ++ spec.listed_up self.now before (Some from)) }
+    {
+        let mut seen = seen;
         let mut next = Some(from);
         while let Some(at) = next {
             let keys = self.own_keys(at)?;
-            self.push_own(at, keys.as_slice(), &seen, &mut names)?;
+            self.push_own(at, keys.as_slice(), &seen, names)?;
             add_seen(keys.as_slice(), &mut seen)?;
             next = self.older_proto(at);
         }
-        Ok(names)
+        Ok(())
     }
 
     // An object's own enumerable names that were not seen. These are all its own names.
@@ -124,6 +152,20 @@ fn add_seen(keys: &[Units], seen: &mut IndexSet<Units>) -> Result<(), OutOfMemor
     ensures { OnOk result (AlsoSeen seen.old.keys keys.now seen.new.keys) }
 {
     for name in keys {
+        seen.insert(name.clone()?)?;
+    }
+    Ok(())
+}
+
+// These names of units were seen, too.
+fn add_units(
+    names: &[(Option<ObjId>, Units)],
+    seen: &mut IndexSet<Units>,
+) -> Result<(), OutOfMemory>
+    ensures { OnOk result
+        (AlsoSeen seen.old.keys (map (λ p. p.1) names.now) seen.new.keys) }
+{
+    for (_, name) in names {
         seen.insert(name.clone()?)?;
     }
     Ok(())

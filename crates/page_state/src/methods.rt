@@ -1,26 +1,17 @@
 //! The properties of the built-in objects that a page begins with (ECMA-262 5.1 section 15).
 
-ghost use Rattle.std.specs.Prelude.{◌≡◌, ◌∷◌, ◌++◌, [], IfOk, None, OnOk, codes};
-ghost use Rattle.js_values.specs.declared.built_in.BuiltIn.TheVariants as built_in;
+ghost use Rattle.std.specs.Prelude.{◌≡◌, ◌∷◌, ◌++◌, [], IfOk, None, OnOk, codes, true};
 ghost use Rattle.js_values.specs.declared.value.Value.TheVariants as value;
 ghost use Rattle.js_values.specs.Throw.{kind_name};
 ghost use Rattle.object_heap.specs.Define.{length_name, number};
 ghost use Rattle.object_heap.specs.Property.{fixed, hidden, own_property};
 ghost use Rattle.page_meaning.specs.Pristine as spec;
 ghost use Rattle.page_meaning.specs.Pristine.{method};
-ghost use Rattle.page_state.specs.BuiltIns.{
-  closing_methods,
-  global_constructors,
-  global_errors,
-  global_host,
-  object_conversions,
-  object_front,
-};
+ghost use Rattle.page_state.specs.BuiltIns.{are_new, constructor_front, function_front, rows};
 
 use crate::errors::small;
-use crate::places::{
-    ARRAY_PROTOTYPE, BOOLEAN_PROTOTYPE, CONSOLE, OBJECT_PROTOTYPE, WINDOW, function_place,
-};
+use crate::places::{CONSOLE, MATH, WINDOW, function_place};
+use crate::tables::{FUNCTION_PROTOTYPE_FUNCTIONS, GLOBAL_FUNCTIONS, Method};
 use js_core::ascii::ascii_text;
 use js_core::memory::OutOfMemory;
 use js_core::whole::Whole;
@@ -32,8 +23,8 @@ use object_heap::properties::Properties;
 use object_heap::property::Prop;
 use std::alloc::Global;
 
-/// One more property, which holds a built-in function.
-pub(crate) fn add_method(
+// One more property, which holds a built-in function.
+fn add_method(
     alloc: Global,
     props: &mut Properties,
     name: &[u8],
@@ -61,9 +52,30 @@ fn add_property(
     Ok(())
 }
 
+// More properties, which hold these functions.
+fn add_methods(alloc: Global, props: &mut Properties, methods: &[Method]) -> Result<(), OutOfMemory>
+    requires { are_new props.old (rows methods.now) ≡ true }
+    ensures { OnOk result (props.new ≡ props.old ++ spec.methods (rows methods.now)) }
+{
+    for method in methods {
+        add_method(alloc, props, method.0, method.1)?;
+    }
+    Ok(())
+}
+
+/// Properties that hold these functions, and no others.
+pub(crate) fn table_props(alloc: Global, methods: &[Method]) -> Result<Properties, OutOfMemory>
+    requires { are_new [] (rows methods.now) ≡ true }
+    ensures { IfOk result (λ props. props ≡ spec.methods (rows methods.now)) }
+{
+    let mut props = Properties::new(alloc);
+    add_methods(alloc, &mut props, methods)?;
+    Ok(props)
+}
+
 /// The properties of a function with so many formals.
 pub(crate) fn function_props(alloc: Global, formals: u8) -> Result<Properties, OutOfMemory>
-    ensures { IfOk result (λ props. props ≡ (length_name, fixed (number formals)) ∷ []) }
+    ensures { IfOk result (λ props. props ≡ function_front formals) }
 {
     let mut props = Properties::new(alloc);
     add_property(
@@ -75,9 +87,15 @@ pub(crate) fn function_props(alloc: Global, formals: u8) -> Result<Properties, O
     Ok(props)
 }
 
-/// The properties of a constructor with one formal and this `prototype`.
-pub(crate) fn constructor_props(alloc: Global, prototype: ObjId) -> Result<Properties, OutOfMemory>
-    ensures { IfOk result (λ props. props ≡ (length_name, fixed (number 1)) ∷ spec.prototype_is prototype ∷ []) }
+/// The properties of a constructor with one formal, this `prototype` and these functions.
+pub(crate) fn constructor_props(
+    alloc: Global,
+    prototype: ObjId,
+    own: &[Method],
+) -> Result<Properties, OutOfMemory>
+    requires { are_new (constructor_front prototype) (rows own.now) ≡ true }
+    ensures { IfOk result (λ props. props ≡ constructor_front prototype ++ spec.methods (rows
+        own.now)) }
 {
     let mut props = function_props(alloc, 1)?;
     add_property(
@@ -86,6 +104,33 @@ pub(crate) fn constructor_props(alloc: Global, prototype: ObjId) -> Result<Prope
         b"prototype",
         Prop::fixed(Value::Object(prototype)),
     )?;
+    add_methods(alloc, &mut props, own)?;
+    Ok(props)
+}
+
+/// The properties of an ordinary object that is the prototype of a constructor: it, and these functions.
+pub(crate) fn prototype_props(
+    alloc: Global,
+    which: BuiltIn,
+    inherited: &[Method],
+) -> Result<Properties, OutOfMemory>
+    requires { are_new (spec.constructor_is which ∷ []) (rows inherited.now) ≡ true }
+    ensures { IfOk result (λ props. props ≡ spec.constructor_is which ∷ spec.methods (rows
+        inherited.now)) }
+{
+    let mut props = Properties::new(alloc);
+    add_method(alloc, &mut props, b"constructor", which)?;
+    add_methods(alloc, &mut props, inherited)?;
+    Ok(props)
+}
+
+/// The properties of `Function.prototype` (section 15.3.4).
+pub(crate) fn function_prototype_props(alloc: Global) -> Result<Properties, OutOfMemory>
+    ensures { IfOk result (λ props. props ≡ spec.function_prototype_props) }
+{
+    let mut props = function_props(alloc, 0)?;
+    add_method(alloc, &mut props, b"constructor", BuiltIn::Function)?;
+    add_methods(alloc, &mut props, &FUNCTION_PROTOTYPE_FUNCTIONS)?;
     Ok(props)
 }
 
@@ -96,6 +141,7 @@ pub(crate) fn global_props(alloc: Global) -> Result<Properties, OutOfMemory>
     let mut props = global_host(alloc)?;
     add_constructors(alloc, &mut props)?;
     add_errors(alloc, &mut props)?;
+    add_methods(alloc, &mut props, &GLOBAL_FUNCTIONS)?;
     add_property(
         alloc,
         &mut props,
@@ -113,7 +159,7 @@ pub(crate) fn global_props(alloc: Global) -> Result<Properties, OutOfMemory>
 
 #[tactic(auto, unfolding(page_meaning::specs::Places::console_place))]
 fn global_host(alloc: Global) -> Result<Properties, OutOfMemory>
-    ensures { IfOk result (λ props. props ≡ global_host) }
+    ensures { IfOk result (λ props. props ≡ spec.global_host) }
 {
     let mut props = Properties::new(alloc);
     add_property(
@@ -132,173 +178,29 @@ fn global_host(alloc: Global) -> Result<Properties, OutOfMemory>
     Ok(props)
 }
 
+#[tactic(auto, unfolding(page_meaning::specs::Places::math_place))]
 fn add_constructors(alloc: Global, props: &mut Properties) -> Result<(), OutOfMemory>
-    requires { props.old ≡ global_host }
-    ensures { OnOk result (props.new ≡ global_host ++ global_constructors) }
+    requires { props.old ≡ spec.global_host }
+    ensures { OnOk result (props.new ≡ spec.global_host ++ spec.global_constructors) }
 {
     add_method(alloc, props, b"Object", BuiltIn::Object)?;
     add_method(alloc, props, b"Function", BuiltIn::Function)?;
     add_method(alloc, props, b"Array", BuiltIn::Array)?;
-    add_method(alloc, props, b"Boolean", BuiltIn::Boolean)
+    add_method(alloc, props, b"String", BuiltIn::String)?;
+    add_method(alloc, props, b"Number", BuiltIn::Number)?;
+    add_method(alloc, props, b"Boolean", BuiltIn::Boolean)?;
+    add_property(alloc, props, b"Math", Prop::hidden(Value::Object(MATH)))
 }
 
 fn add_errors(alloc: Global, props: &mut Properties) -> Result<(), OutOfMemory>
-    requires { props.old ≡ global_host ++ global_constructors }
-    ensures { OnOk result (props.new ≡ global_host ++ (global_constructors ++ global_errors)) }
+    requires { props.old ≡ spec.global_host ++ spec.global_constructors }
+    ensures { OnOk result (props.new ≡ spec.global_host ++ (spec.global_constructors ++
+        spec.global_errors)) }
 {
     add_method(alloc, props, b"Error", BuiltIn::Error)?;
     add_method(alloc, props, b"TypeError", BuiltIn::TypeError)?;
     add_method(alloc, props, b"RangeError", BuiltIn::RangeError)?;
     add_method(alloc, props, b"ReferenceError", BuiltIn::ReferenceError)
-}
-
-/// The properties of `Object.prototype` (section 15.2.4).
-pub(crate) fn object_prototype_props(alloc: Global) -> Result<Properties, OutOfMemory>
-    ensures { IfOk result (λ props. props ≡ spec.object_prototype_props) }
-{
-    let mut props = Properties::new(alloc);
-    add_method(alloc, &mut props, b"constructor", BuiltIn::Object)?;
-    add_method(
-        alloc,
-        &mut props,
-        b"toString",
-        BuiltIn::ObjectPrototypeToString,
-    )?;
-    add_method(
-        alloc,
-        &mut props,
-        b"valueOf",
-        BuiltIn::ObjectPrototypeValueOf,
-    )?;
-    add_tests(alloc, &mut props)?;
-    Ok(props)
-}
-
-fn add_tests(alloc: Global, props: &mut Properties) -> Result<(), OutOfMemory>
-    requires { props.old ≡ object_conversions }
-    ensures { OnOk result (props.new ≡ spec.object_prototype_props) }
-{
-    add_method(
-        alloc,
-        props,
-        b"hasOwnProperty",
-        BuiltIn::ObjectPrototypeHasOwnProperty,
-    )?;
-    add_method(
-        alloc,
-        props,
-        b"isPrototypeOf",
-        BuiltIn::ObjectPrototypeIsPrototypeOf,
-    )?;
-    add_method(
-        alloc,
-        props,
-        b"propertyIsEnumerable",
-        BuiltIn::ObjectPrototypePropertyIsEnumerable,
-    )
-}
-
-/// The properties of `Object` (section 15.2.3).
-pub(crate) fn object_props(alloc: Global) -> Result<Properties, OutOfMemory>
-    ensures { IfOk result (λ props. props ≡ (length_name, fixed (number 1)) ∷ spec.object_props) }
-{
-    let mut props = constructor_props(alloc, OBJECT_PROTOTYPE)?;
-    add_property_methods(alloc, &mut props)?;
-    add_closing_methods(alloc, &mut props)?;
-    add_closed_tests(alloc, &mut props)?;
-    Ok(props)
-}
-
-fn add_property_methods(alloc: Global, props: &mut Properties) -> Result<(), OutOfMemory>
-    requires { props.old ≡ object_front }
-    ensures { OnOk result (props.new ≡ object_front ++ spec.property_methods) }
-{
-    add_method(
-        alloc,
-        props,
-        b"getPrototypeOf",
-        BuiltIn::ObjectGetPrototypeOf,
-    )?;
-    add_method(
-        alloc,
-        props,
-        b"getOwnPropertyDescriptor",
-        BuiltIn::ObjectGetOwnPropertyDescriptor,
-    )?;
-    add_method(
-        alloc,
-        props,
-        b"getOwnPropertyNames",
-        BuiltIn::ObjectGetOwnPropertyNames,
-    )?;
-    add_method(alloc, props, b"create", BuiltIn::ObjectCreate)?;
-    add_method(
-        alloc,
-        props,
-        b"defineProperty",
-        BuiltIn::ObjectDefineProperty,
-    )?;
-    add_method(
-        alloc,
-        props,
-        b"defineProperties",
-        BuiltIn::ObjectDefineProperties,
-    )
-}
-
-fn add_closing_methods(alloc: Global, props: &mut Properties) -> Result<(), OutOfMemory>
-    requires { props.old ≡ object_front ++ spec.property_methods }
-    ensures { OnOk result (props.new ≡ object_front ++ (spec.property_methods ++ closing_methods)) }
-{
-    add_method(alloc, props, b"seal", BuiltIn::ObjectSeal)?;
-    add_method(alloc, props, b"freeze", BuiltIn::ObjectFreeze)?;
-    add_method(
-        alloc,
-        props,
-        b"preventExtensions",
-        BuiltIn::ObjectPreventExtensions,
-    )
-}
-
-fn add_closed_tests(alloc: Global, props: &mut Properties) -> Result<(), OutOfMemory>
-    requires { props.old ≡ object_front ++ (spec.property_methods ++ closing_methods) }
-    ensures { OnOk result (props.new ≡ object_front ++ (spec.property_methods ++ spec.extension_methods)) }
-{
-    add_method(alloc, props, b"isSealed", BuiltIn::ObjectIsSealed)?;
-    add_method(alloc, props, b"isFrozen", BuiltIn::ObjectIsFrozen)?;
-    add_method(alloc, props, b"isExtensible", BuiltIn::ObjectIsExtensible)?;
-    add_method(alloc, props, b"keys", BuiltIn::ObjectKeys)
-}
-
-/// The properties of `Array` (section 15.4.3).
-#[tactic(auto, unfolding(page_meaning::specs::Places::array_prototype_place))]
-pub(crate) fn array_props(alloc: Global) -> Result<Properties, OutOfMemory>
-    ensures { IfOk result (λ props. props ≡ (length_name, fixed (number 1)) ∷ spec.array_props) }
-{
-    let mut props = constructor_props(alloc, ARRAY_PROTOTYPE)?;
-    add_method(alloc, &mut props, b"isArray", BuiltIn::ArrayIsArray)?;
-    Ok(props)
-}
-
-/// The properties of `Boolean.prototype` (section 15.6.4).
-pub(crate) fn boolean_prototype_props(alloc: Global) -> Result<Properties, OutOfMemory>
-    ensures { IfOk result (λ props. props ≡ spec.boolean_prototype_props) }
-{
-    let mut props = Properties::new(alloc);
-    add_method(alloc, &mut props, b"constructor", BuiltIn::Boolean)?;
-    add_method(
-        alloc,
-        &mut props,
-        b"toString",
-        BuiltIn::BooleanPrototypeToString,
-    )?;
-    add_method(
-        alloc,
-        &mut props,
-        b"valueOf",
-        BuiltIn::BooleanPrototypeValueOf,
-    )?;
-    Ok(props)
 }
 
 /// The properties of the prototype of errors of a kind (sections 15.11.4 and 15.11.7).

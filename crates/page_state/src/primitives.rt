@@ -24,7 +24,7 @@ use whole_ops::fault::LooseFault;
 use whole_ops::order::text_less;
 
 /// How many units a text may have.
-const TEXT_LIMIT: usize = 1_048_576;
+pub const TEXT_LIMIT: usize = 1_048_576;
 
 /// The operators whose sides both become primitive before either becomes more.
 #[derive(Clone, Copy)]
@@ -166,9 +166,9 @@ fn join(alloc: Global, left: &[u16], right: &[u16]) -> Result<Result<Value, Thro
     }
 }
 
-// Whether two texts may be joined.
+/// Whether two texts may be joined: how many units a text may have.
 #[tactic(auto, using(crate::proofs::Joined::both_short), unfolding(page_meaning::specs::Operators::text_limit))]
-fn are_short(left: &[u16], right: &[u16]) -> bool
+pub fn are_short(left: &[u16], right: &[u16]) -> bool
     ensures { result ≡ nat_le (length (left.now ++ right.now)) text_limit }
 {
     if left.len() > TEXT_LIMIT {

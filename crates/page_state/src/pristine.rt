@@ -1,33 +1,42 @@
 //! A page before its scripts: the built-in objects by age (ECMA-262 5.1 section 15).
 
-ghost use Rattle.std.specs.Prelude.{◌≡◌, ◌∷◌, ◌<◌, ◌≤◌, [], IfOk, OnOk, false, length, map};
+ghost use Rattle.std.specs.Prelude.{◌≡◌, ◌∷◌, ◌<◌, ◌≤◌, ◌++◌, [], IfOk, OnOk, false, true, length};
 ghost use Rattle.object_heap.specs.declared.object.Class.TheVariants.{Native};
+ghost use Rattle.object_heap.specs.Chain.{object_at};
 ghost use Rattle.object_heap.specs.Heap.{empty};
 ghost use Rattle.object_heap.specs.Object.{class_at, is_list};
 ghost use Rattle.page_meaning.specs.Pristine as spec;
 ghost use Rattle.page_meaning.specs.Places.{function_prototype};
 ghost use Rattle.page_state.specs.BuiltIns.{
-  array_built_ins,
+  are_new,
   array_prototype_object,
   beside,
-  boolean_built_ins,
-  boolean_prototype_built_ins,
-  console_object,
-  error_pair,
-  function_prototype_object,
+  constructor_front,
   hidden_change as spec_hidden,
+  method_given,
+  methods_given,
   native_errors,
-  native_of,
-  root_objects,
+  rows,
+  takes,
+  takes_all,
 };
 
 use crate::errors::error_prototype;
 use crate::methods::{
-    add_method, array_props, boolean_prototype_props, constructor_props, error_prototype_props,
-    function_props, global_props, object_props, object_prototype_props,
+    constructor_props, error_prototype_props, function_props, function_prototype_props,
+    global_props, prototype_props, table_props,
 };
-use crate::places::{BOOLEAN_PROTOTYPE, FUNCTION_PROTOTYPE, OBJECT_PROTOTYPE, function_place};
+use crate::places::{
+    ARRAY_PROTOTYPE, BOOLEAN_PROTOTYPE, FUNCTION_PROTOTYPE, NUMBER_PROTOTYPE, OBJECT_PROTOTYPE,
+    STRING_PROTOTYPE, function_place,
+};
 use crate::state::State;
+use crate::tables::{
+    ARRAY_FUNCTIONS, ARRAY_PROTOTYPE_FUNCTIONS, BOOLEAN_PROTOTYPE_FUNCTIONS, CONSOLE_FUNCTIONS,
+    FUNCTION_PROTOTYPE_FUNCTIONS, GLOBAL_FUNCTIONS, MATH_FUNCTIONS, Method,
+    NUMBER_PROTOTYPE_FUNCTIONS, OBJECT_FUNCTIONS, OBJECT_PROTOTYPE_FUNCTIONS, STRING_FUNCTIONS,
+    STRING_PROTOTYPE_FUNCTIONS,
+};
 use js_core::ascii::ascii_text;
 use js_core::memory::OutOfMemory;
 use js_values::built_in::BuiltIn;
@@ -47,10 +56,10 @@ impl State {
         ensures { IfOk result (λ s. s ≡ spec.pristine) }
     {
         let mut heap = Heap::new(alloc);
-        push_base(alloc, &mut heap)?;
-        push_objects(alloc, &mut heap)?;
-        push_values(alloc, &mut heap)?;
+        push_first(alloc, &mut heap)?;
+        push_value_kinds(alloc, &mut heap)?;
         push_errors(alloc, &mut heap)?;
+        push_natives(alloc, &mut heap, &GLOBAL_FUNCTIONS)?;
         Ok(State {
             heap,
             lines: Vec::new(alloc),
@@ -79,7 +88,8 @@ fn push_built(
 // A built-in function with these properties.
 fn push_function(heap: &mut Heap, which: BuiltIn, props: Properties) -> Result<(), OutOfMemory>
     requires { 2 < length heap.old.objects }
-    ensures { OnOk result (heap.new ≡ beside heap.old (spec.built (Native which) function_prototype props ∷ [])) }
+    ensures { OnOk result (heap.new ≡ beside heap.old (spec.built (Native which)
+        function_prototype props ∷ [])) }
 {
     push_built(heap, Class::Native(which), FUNCTION_PROTOTYPE, props)
 }
@@ -98,62 +108,106 @@ fn push_native(
     push_function(heap, which, props)
 }
 
-// Built-in functions, each with its number of formals.
-fn push_natives(
-    alloc: Global,
-    heap: &mut Heap,
-    functions: &[(BuiltIn, u8)],
-) -> Result<(), OutOfMemory>
+// These built-in functions.
+fn push_natives(alloc: Global, heap: &mut Heap, methods: &[Method]) -> Result<(), OutOfMemory>
     requires { 2 < length heap.old.objects }
-    ensures { OnOk result (heap.new ≡ beside heap.old (map native_of functions.now)) }
+    ensures { OnOk result (heap.new ≡ beside heap.old (spec.natives (rows methods.now))) }
 {
-    for function in functions {
-        push_native(alloc, heap, function.0, function.1)?;
+    for method in methods {
+        push_native(alloc, heap, method.1, method.2)?;
     }
     Ok(())
 }
 
-// The global object and the two prototypes that stand before the walk, and what it meets at once.
-fn push_base(alloc: Global, heap: &mut Heap) -> Result<(), OutOfMemory>
+// A constructor with one formal, which has this `prototype` and these functions.
+fn push_constructor(
+    alloc: Global,
+    heap: &mut Heap,
+    which: BuiltIn,
+    prototype: ObjId,
+    own: &[Method],
+) -> Result<(), OutOfMemory>
+    requires room { 2 < length heap.old.objects }
+    requires own { are_new (constructor_front prototype) (rows own.now) ≡ true }
+    ensures { OnOk result (heap.new ≡ beside heap.old (spec.constructor which prototype (rows
+        own.now) ∷ [])) }
+{
+    let props = constructor_props(alloc, prototype, own)?;
+    push_function(heap, which, props)
+}
+
+// An ordinary object that is the prototype of a constructor, and has these functions.
+fn push_prototype(
+    alloc: Global,
+    heap: &mut Heap,
+    which: BuiltIn,
+    inherited: &[Method],
+) -> Result<(), OutOfMemory>
+    requires room { 1 < length heap.old.objects }
+    requires inherited { are_new (spec.constructor_is which ∷ []) (rows inherited.now) ≡ true }
+    ensures { OnOk result (heap.new ≡ beside heap.old (spec.value_prototype which (rows
+        inherited.now) ∷ [])) }
+{
+    let props = prototype_props(alloc, which, inherited)?;
+    push_built(heap, Class::Plain, OBJECT_PROTOTYPE, props)
+}
+
+// A constructor with such a prototype, and what they hold.
+fn push_value(
+    alloc: Global,
+    heap: &mut Heap,
+    which: BuiltIn,
+    prototype: ObjId,
+    inherited: &[Method],
+    own: &[Method],
+) -> Result<(), OutOfMemory>
+    requires room { 2 < length heap.old.objects }
+    requires inherited { are_new (spec.constructor_is which ∷ []) (rows inherited.now) ≡ true }
+    requires own { are_new (constructor_front prototype) (rows own.now) ≡ true }
+    ensures { OnOk result (heap.new ≡ beside heap.old (spec.value_built_ins which prototype (rows
+        inherited.now) (rows own.now))) }
+{
+    push_constructor(alloc, heap, which, prototype, own)?;
+    push_prototype(alloc, heap, which, inherited)?;
+    push_natives(alloc, heap, inherited)?;
+    push_natives(alloc, heap, own)
+}
+
+// What the walk meets before the kinds of values.
+fn push_first(alloc: Global, heap: &mut Heap) -> Result<(), OutOfMemory>
     requires { heap.old ≡ empty }
-    ensures { OnOk result (heap.new ≡ beside empty spec.base_built_ins) }
+    ensures { OnOk result (heap.new ≡ beside empty spec.first_built_ins) }
 {
     push_roots(alloc, heap)?;
-    push_console(alloc, heap)?;
-    push_native(alloc, heap, BuiltIn::ConsoleLog, 0)?;
-    push_native(alloc, heap, BuiltIn::Alert, 1)
+    push_host(alloc, heap)?;
+    push_objects(alloc, heap)?;
+    push_functions(alloc, heap)
 }
 
 // The global object, and the prototypes of objects and of functions.
 fn push_roots(alloc: Global, heap: &mut Heap) -> Result<(), OutOfMemory>
     requires { heap.old ≡ empty }
-    ensures { OnOk result (heap.new ≡ beside empty root_objects) }
+    ensures { OnOk result (heap.new ≡ beside empty spec.root_objects) }
 {
     let props = global_props(alloc)?;
     heap.alloc_whole(Class::Window, None, props)?;
-    let props = object_prototype_props(alloc)?;
+    let props = prototype_props(alloc, BuiltIn::Object, &OBJECT_PROTOTYPE_FUNCTIONS)?;
     let at = heap.alloc_whole(Class::Plain, None, props)?;
     heap.close(at);
-    push_function_prototype(alloc, heap)
-}
-
-fn push_function_prototype(alloc: Global, heap: &mut Heap) -> Result<(), OutOfMemory>
-    requires { 1 < length heap.old.objects }
-    ensures { OnOk result (heap.new ≡ beside heap.old (function_prototype_object ∷ [])) }
-{
-    let mut props = function_props(alloc, 0)?;
-    add_method(alloc, &mut props, b"constructor", BuiltIn::Function)?;
+    let props = function_prototype_props(alloc)?;
     let class = Class::Native(BuiltIn::FunctionPrototype);
     push_built(heap, class, OBJECT_PROTOTYPE, props)
 }
 
-fn push_console(alloc: Global, heap: &mut Heap) -> Result<(), OutOfMemory>
-    requires { 1 < length heap.old.objects }
-    ensures { OnOk result (heap.new ≡ beside heap.old (console_object ∷ [])) }
+// `console` and `alert`.
+fn push_host(alloc: Global, heap: &mut Heap) -> Result<(), OutOfMemory>
+    requires { 2 < length heap.old.objects }
+    ensures { OnOk result (heap.new ≡ beside heap.old spec.host_built_ins) }
 {
-    let mut props = Properties::new(alloc);
-    add_method(alloc, &mut props, b"log", BuiltIn::ConsoleLog)?;
-    push_built(heap, Class::Plain, OBJECT_PROTOTYPE, props)
+    let props = table_props(alloc, &CONSOLE_FUNCTIONS)?;
+    push_built(heap, Class::Plain, OBJECT_PROTOTYPE, props)?;
+    push_natives(alloc, heap, &CONSOLE_FUNCTIONS)?;
+    push_native(alloc, heap, BuiltIn::Alert, 1)
 }
 
 // `Object`, and what its prototype and it hold.
@@ -161,123 +215,147 @@ fn push_objects(alloc: Global, heap: &mut Heap) -> Result<(), OutOfMemory>
     requires { 2 < length heap.old.objects }
     ensures { OnOk result (heap.new ≡ beside heap.old spec.object_built_ins) }
 {
-    let props = object_props(alloc)?;
-    push_function(heap, BuiltIn::Object, props)?;
-    push_object_prototype_functions(alloc, heap)?;
-    push_property_functions(alloc, heap)?;
-    push_extension_functions(alloc, heap)
+    push_constructor(
+        alloc,
+        heap,
+        BuiltIn::Object,
+        OBJECT_PROTOTYPE,
+        &OBJECT_FUNCTIONS,
+    )?;
+    push_natives(alloc, heap, &OBJECT_PROTOTYPE_FUNCTIONS)?;
+    push_natives(alloc, heap, &OBJECT_FUNCTIONS)
 }
 
-fn push_object_prototype_functions(alloc: Global, heap: &mut Heap) -> Result<(), OutOfMemory>
+// `Function`, and what its prototype holds.
+fn push_functions(alloc: Global, heap: &mut Heap) -> Result<(), OutOfMemory>
     requires { 2 < length heap.old.objects }
-    ensures { OnOk result (heap.new ≡ beside heap.old spec.object_prototype_functions) }
+    ensures { OnOk result (heap.new ≡ beside heap.old spec.function_built_ins) }
 {
-    let functions = [
-        (BuiltIn::ObjectPrototypeToString, 0),
-        (BuiltIn::ObjectPrototypeValueOf, 0),
-        (BuiltIn::ObjectPrototypeHasOwnProperty, 1),
-        (BuiltIn::ObjectPrototypeIsPrototypeOf, 1),
-        (BuiltIn::ObjectPrototypePropertyIsEnumerable, 1),
-    ];
-    push_natives(alloc, heap, &functions)
+    push_constructor(alloc, heap, BuiltIn::Function, FUNCTION_PROTOTYPE, &[])?;
+    push_natives(alloc, heap, &FUNCTION_PROTOTYPE_FUNCTIONS)
 }
 
-fn push_property_functions(alloc: Global, heap: &mut Heap) -> Result<(), OutOfMemory>
+// The constructors of arrays, texts, numbers and truth values, with their prototypes, and `Math`.
+fn push_value_kinds(alloc: Global, heap: &mut Heap) -> Result<(), OutOfMemory>
     requires { 2 < length heap.old.objects }
-    ensures { OnOk result (heap.new ≡ beside heap.old spec.property_functions) }
+    ensures { OnOk result (heap.new ≡ beside heap.old spec.value_kinds) }
 {
-    let functions = [
-        (BuiltIn::ObjectGetPrototypeOf, 1),
-        (BuiltIn::ObjectGetOwnPropertyDescriptor, 2),
-        (BuiltIn::ObjectGetOwnPropertyNames, 1),
-        (BuiltIn::ObjectCreate, 2),
-        (BuiltIn::ObjectDefineProperty, 3),
-        (BuiltIn::ObjectDefineProperties, 2),
-    ];
-    push_natives(alloc, heap, &functions)
-}
-
-fn push_extension_functions(alloc: Global, heap: &mut Heap) -> Result<(), OutOfMemory>
-    requires { 2 < length heap.old.objects }
-    ensures { OnOk result (heap.new ≡ beside heap.old spec.extension_functions) }
-{
-    let functions = [
-        (BuiltIn::ObjectSeal, 1),
-        (BuiltIn::ObjectFreeze, 1),
-        (BuiltIn::ObjectPreventExtensions, 1),
-        (BuiltIn::ObjectIsSealed, 1),
-        (BuiltIn::ObjectIsFrozen, 1),
-        (BuiltIn::ObjectIsExtensible, 1),
-        (BuiltIn::ObjectKeys, 1),
-    ];
-    push_natives(alloc, heap, &functions)
-}
-
-// The constructors of functions, arrays and truth values, with their prototypes.
-fn push_values(alloc: Global, heap: &mut Heap) -> Result<(), OutOfMemory>
-    requires { 2 < length heap.old.objects }
-    ensures { OnOk result (heap.new ≡ beside heap.old spec.value_built_ins) }
-{
-    let props = constructor_props(alloc, FUNCTION_PROTOTYPE)?;
-    push_function(heap, BuiltIn::Function, props)?;
     push_array(alloc, heap)?;
-    push_boolean(alloc, heap)
+    push_primitives(alloc, heap)?;
+    push_math(alloc, heap)
 }
 
+#[tactic(auto, unfolding(page_meaning::specs::Places::array_prototype_place))]
 fn push_array(alloc: Global, heap: &mut Heap) -> Result<(), OutOfMemory>
     requires { 2 < length heap.old.objects }
-    ensures { OnOk result (heap.new ≡ beside heap.old array_built_ins) }
+    ensures { OnOk result (heap.new ≡ beside heap.old spec.array_built_ins) }
 {
-    let props = array_props(alloc)?;
-    push_function(heap, BuiltIn::Array, props)?;
+    push_constructor(
+        alloc,
+        heap,
+        BuiltIn::Array,
+        ARRAY_PROTOTYPE,
+        &ARRAY_FUNCTIONS,
+    )?;
     push_array_prototype(alloc, heap)?;
-    push_native(alloc, heap, BuiltIn::ArrayIsArray, 1)
+    push_natives(alloc, heap, &ARRAY_PROTOTYPE_FUNCTIONS)?;
+    push_natives(alloc, heap, &ARRAY_FUNCTIONS)
 }
 
-// An array that has its constructor as its second property.
+// An array that has its constructor and its functions after its length.
 fn push_array_prototype(alloc: Global, heap: &mut Heap) -> Result<(), OutOfMemory>
     requires { 1 < length heap.old.objects }
     ensures { OnOk result (heap.new ≡ beside heap.old (array_prototype_object ∷ [])) }
 {
     let at = heap.alloc(Class::List, Some(OBJECT_PROTOTYPE))?;
-    let name = ascii_text(alloc, b"constructor")?;
-    let change = hidden_change(Value::Object(ObjId(function_place(BuiltIn::Array))));
+    define_method(alloc, heap, at, b"constructor", BuiltIn::Array)?;
+    define_methods(alloc, heap, at, &ARRAY_PROTOTYPE_FUNCTIONS)?;
+    heap.close(at);
+    Ok(())
+}
+
+// An open array gets these functions.
+fn define_methods(
+    alloc: Global,
+    heap: &mut Heap,
+    at: ObjId,
+    methods: &[Method],
+) -> Result<(), OutOfMemory>
+    requires there { at.0 < length heap.old.objects }
+    requires takes { takes_all (object_at heap.old.objects at.0) (rows methods.now) ≡ true }
+    ensures { OnOk result (heap.new ≡ methods_given heap.old at (rows methods.now)) }
+{
+    for method in methods {
+        define_method(alloc, heap, at, method.0, method.1)?;
+    }
+    Ok(())
+}
+
+// An open array gets one more property, which holds a built-in function.
+fn define_method(
+    alloc: Global,
+    heap: &mut Heap,
+    at: ObjId,
+    name: &[u8],
+    which: BuiltIn,
+) -> Result<(), OutOfMemory>
+    requires { takes (object_at heap.old.objects at.0) name.now ≡ true }
+    ensures { OnOk result (heap.new ≡ method_given heap.old at name.now which) }
+{
+    let name = ascii_text(alloc, name)?;
+    let change = hidden_change(Value::Object(ObjId(function_place(which))));
     match heap.define_own(at, &name, &change) {
-        Ok(()) => {
-            heap.close(at);
-            Ok(())
-        }
+        Ok(()) => Ok(()),
         Err(HeapFault::OutOfMemory) => Err(OutOfMemory),
         Err(HeapFault::Throw(_)) => unreachable!(),
     }
 }
 
-#[tactic(auto, unfolding(page_meaning::specs::Places::boolean_prototype_place))]
-fn push_boolean(alloc: Global, heap: &mut Heap) -> Result<(), OutOfMemory>
+// The constructors of texts, numbers and truth values, with their prototypes.
+#[tactic(auto, unfolding(page_meaning::specs::Places::string_prototype_place, page_meaning::specs::Places::number_prototype_place, page_meaning::specs::Places::boolean_prototype_place))]
+fn push_primitives(alloc: Global, heap: &mut Heap) -> Result<(), OutOfMemory>
     requires { 2 < length heap.old.objects }
-    ensures { OnOk result (heap.new ≡ beside heap.old boolean_built_ins) }
+    ensures { OnOk result (heap.new ≡ beside heap.old (spec.string_built_ins ++
+        (spec.number_built_ins ++ spec.boolean_built_ins))) }
 {
-    let props = constructor_props(alloc, BOOLEAN_PROTOTYPE)?;
-    push_function(heap, BuiltIn::Boolean, props)?;
-    push_boolean_prototype(alloc, heap)
+    push_value(
+        alloc,
+        heap,
+        BuiltIn::String,
+        STRING_PROTOTYPE,
+        &STRING_PROTOTYPE_FUNCTIONS,
+        &STRING_FUNCTIONS,
+    )?;
+    push_value(
+        alloc,
+        heap,
+        BuiltIn::Number,
+        NUMBER_PROTOTYPE,
+        &NUMBER_PROTOTYPE_FUNCTIONS,
+        &[],
+    )?;
+    push_value(
+        alloc,
+        heap,
+        BuiltIn::Boolean,
+        BOOLEAN_PROTOTYPE,
+        &BOOLEAN_PROTOTYPE_FUNCTIONS,
+        &[],
+    )
 }
 
-fn push_boolean_prototype(alloc: Global, heap: &mut Heap) -> Result<(), OutOfMemory>
+fn push_math(alloc: Global, heap: &mut Heap) -> Result<(), OutOfMemory>
     requires { 2 < length heap.old.objects }
-    ensures { OnOk result (heap.new ≡ beside heap.old boolean_prototype_built_ins) }
+    ensures { OnOk result (heap.new ≡ beside heap.old spec.math_built_ins) }
 {
-    let props = boolean_prototype_props(alloc)?;
-    push_built(heap, Class::Plain, OBJECT_PROTOTYPE, props)?;
-    let functions = [
-        (BuiltIn::BooleanPrototypeToString, 0),
-        (BuiltIn::BooleanPrototypeValueOf, 0),
-    ];
-    push_natives(alloc, heap, &functions)
+    let props = table_props(alloc, &MATH_FUNCTIONS)?;
+    push_built(heap, Class::Math, OBJECT_PROTOTYPE, props)?;
+    push_natives(alloc, heap, &MATH_FUNCTIONS)
 }
 
 // The constructors of errors, each with its prototype.
 fn push_errors(alloc: Global, heap: &mut Heap) -> Result<(), OutOfMemory>
-    requires { 33 ≤ length heap.old.objects }
+    requires { 82 ≤ length heap.old.objects }
     ensures { OnOk result (heap.new ≡ beside heap.old spec.error_built_ins) }
 {
     push_error(
@@ -293,7 +371,7 @@ fn push_errors(alloc: Global, heap: &mut Heap) -> Result<(), OutOfMemory>
 // Those whose prototypes inherit from that of Error.
 #[tactic(auto, unfolding(page_meaning::specs::Places::error_prototype_place))]
 fn push_native_errors(alloc: Global, heap: &mut Heap) -> Result<(), OutOfMemory>
-    requires { 35 ≤ length heap.old.objects }
+    requires { 84 ≤ length heap.old.objects }
     ensures { OnOk result (heap.new ≡ beside heap.old native_errors) }
 {
     let above = error_prototype(ErrorKind::Plain);
@@ -318,10 +396,9 @@ fn push_error(
 ) -> Result<(), OutOfMemory>
     requires function { 2 < length heap.old.objects }
     requires older { above.0 < length heap.old.objects }
-    ensures { OnOk result (heap.new ≡ beside heap.old (error_pair which kind above)) }
+    ensures { OnOk result (heap.new ≡ beside heap.old (spec.error_pair which kind above)) }
 {
-    let props = constructor_props(alloc, error_prototype(kind))?;
-    push_function(heap, which, props)?;
+    push_constructor(alloc, heap, which, error_prototype(kind), &[])?;
     let props = error_prototype_props(alloc, which, kind)?;
     push_built(heap, Class::Fault, above, props)
 }

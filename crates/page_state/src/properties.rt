@@ -12,7 +12,7 @@ ghost use Rattle.page_state.specs.Does.{Gives, itself};
 
 use crate::convert::number_of;
 use crate::fault::Fault;
-use crate::places::BOOLEAN_PROTOTYPE;
+use crate::places::{BOOLEAN_PROTOTYPE, NUMBER_PROTOTYPE, STRING_PROTOTYPE};
 use crate::state::State;
 use js_core::memory::OutOfMemory;
 use js_core::units::Units;
@@ -37,7 +37,14 @@ impl State {
     }
 
     /// The property of a value that can have some, or undefined (section 8.7.1).
-    #[tactic(auto, unfolding(page_meaning::specs::Places::boolean_prototype_place))]
+    #[tactic(
+        auto,
+        unfolding(
+            page_meaning::specs::Places::boolean_prototype_place,
+            page_meaning::specs::Places::number_prototype_place,
+            page_meaning::specs::Places::string_prototype_place,
+        ),
+    )]
     pub fn read_property(&self, base: &Value, name: &Units) -> Result<Value, OutOfMemory>
         ensures { IfOk result (λ v. v ≡ spec.property_of self.now base.now name.now) }
     {
@@ -45,10 +52,11 @@ impl State {
             Value::Object(at) => value_or_undefined(self.get(*at, name)),
             Value::Text(text) => match own_of_text(self.alloc(), text, name)? {
                 Some(own) => Ok(own),
-                None => Ok(Value::Undefined),
+                None => value_or_undefined(self.get(STRING_PROTOTYPE, name)),
             },
+            Value::Num(_) => value_or_undefined(self.get(NUMBER_PROTOTYPE, name)),
             Value::Bool(_) => value_or_undefined(self.get(BOOLEAN_PROTOTYPE, name)),
-            Value::Num(_) | Value::Undefined | Value::Null => Ok(Value::Undefined),
+            Value::Undefined | Value::Null => Ok(Value::Undefined),
         }
     }
 
@@ -64,7 +72,8 @@ impl State {
 
     /// The name that a value in brackets gives: first the base is tested (section 11.2.1).
     pub fn key_of(&mut self, base: &Value, key: &Value) -> Result<Units, Fault>
-        ensures { Gives Text (λ calls. spec.key_of calls base.now key.now) self.old self.new result }
+        ensures { Gives Text (λ calls. spec.key_of calls base.now key.now) self.old self.new
+            result }
     {
         match base {
             Value::Undefined | Value::Null => Err(self.raise(Throw::NoProperties)),
@@ -75,7 +84,8 @@ impl State {
     /// `base[key]` as a value.
     #[tactic(auto, using(crate::proofs::Does::also_gives, crate::proofs::Does::also_raises))]
     pub fn get_index(&mut self, base: &Value, key: &Value) -> Result<Value, Fault>
-        ensures { Gives itself (λ calls. spec.get_index calls base.now key.now) self.old self.new result }
+        ensures { Gives itself (λ calls. spec.get_index calls base.now key.now) self.old self.new
+            result }
     {
         let name = self.key_of(base, key)?;
         Ok(self.read_property(base, &name)?)
@@ -103,7 +113,8 @@ impl State {
     // An array's length takes the value, which is made a number.
     #[tactic(auto, using(crate::proofs::Does::also_gives, crate::proofs::Does::also_raises))]
     fn store_length(&mut self, at: ObjId, name: &Units, value: &Value) -> Result<Value, Fault>
-        ensures { Gives itself (λ _. also (settle (spec_number value.now)) (spec.stored at name.now)) self.old self.new result }
+        ensures { Gives itself (λ _. also (settle (spec_number value.now)) (spec.stored at
+            name.now)) self.old self.new result }
     {
         match number_of(value) {
             Ok(number) => self.stored(at, name, Value::Num(number)),
@@ -125,7 +136,8 @@ impl State {
 
     /// A reference to a property takes the value (section 8.7.2).
     pub fn put_member(&mut self, base: &Value, name: &Units, value: Value) -> Result<Value, Fault>
-        ensures { Gives itself (λ _. spec.put_member base.now name.now value) self.old self.new result }
+        ensures { Gives itself (λ _. spec.put_member base.now name.now value) self.old self.new
+            result }
     {
         match base {
             Value::Object(at) => self.put_in(*at, name, value),
@@ -136,7 +148,8 @@ impl State {
     // Deletes a property of an object.
     #[tactic(auto, using(crate::proofs::Does::passed, crate::proofs::Does::refused))]
     fn delete_in(&mut self, at: ObjId, name: &Units) -> Result<bool, Fault>
-        ensures { Gives Truth (λ _. spec.delete_member (Object at) name.now) self.old self.new result }
+        ensures { Gives Truth (λ _. spec.delete_member (Object at) name.now) self.old self.new
+            result }
     {
         match self.delete_at(at, name)? {
             None => Ok(true),
@@ -157,7 +170,8 @@ impl State {
 
     /// `delete` of a reference to a property (section 11.4.1).
     pub fn delete_member(&mut self, base: &Value, name: &Units) -> Result<bool, Fault>
-        ensures { Gives Truth (λ _. spec.delete_member base.now name.now) self.old self.new result }
+        ensures { Gives Truth (λ _. spec.delete_member base.now name.now) self.old self.new result
+            }
     {
         match base {
             Value::Object(at) => self.delete_in(*at, name),
@@ -169,7 +183,8 @@ impl State {
     /// An own property that a literal makes (section 11.1.5).
     #[tactic(auto, using(crate::proofs::Does::passed, crate::proofs::Does::refused))]
     pub fn define_member(&mut self, at: ObjId, name: &Units, value: Value) -> Result<Value, Fault>
-        ensures { Gives itself (λ _. spec.define_member at name.now value) self.old self.new result }
+        ensures { Gives itself (λ _. spec.define_member at name.now value) self.old self.new
+            result }
     {
         let change = whole_property(value.clone()?);
         match self.define_at(at, name, &change)? {

@@ -2,7 +2,7 @@ use Rattle.std.proofs.Common.{◌++◌}
 use Rattle.js_values.specs.declared.built_in.BuiltIn.TheVariants as built_in
 use Rattle.js_values.specs.declared.throw.ErrorKind.TheVariants as kind
 use Rattle.page_meaning.specs.Places.{error_prototype}
-use Rattle.page_state.specs.BuiltIns.{error_pair}
+use Rattle.page_meaning.specs.Pristine.{error_pair}
 use Rattle.page_state.proofs.Youngest.{then_beside}
 use Rattle.page_state.proofs.pristine.push_native_errors.Goals as goal
 

@@ -1,6 +1,7 @@
-use Rattle.std.proofs.Common.{◌≡◌, map, take}
-use Rattle.page_state.specs.BuiltIns.{beside, native_of}
+use Rattle.std.proofs.Common.{◌≡◌, take}
+use Rattle.page_meaning.specs.Pristine.{natives}
+use Rattle.page_state.specs.BuiltIns.{beside, rows}
 use Rattle.page_state.proofs.pristine.push_natives.Given as goal
 
-abbrev pub invariant-loop-function : goal.invariant-loop-function
-invariant-loop-function l = l.heap ≡ beside l.initial.heap (map native_of (take l.function-index l.functions))
+abbrev pub invariant-loop-method : goal.invariant-loop-method
+invariant-loop-method l = l.heap ≡ beside l.initial.heap (natives (rows (take l.method-index l.methods)))
