@@ -2,7 +2,6 @@
 //! 15.4.3, 15.6 and 15.11), and those that put out lines.
 #![tactic(auto)]
 
-mod arguments;
 mod definitions;
 mod descriptors;
 mod errors;
@@ -14,4 +13,5 @@ mod prototype;
 mod rows;
 mod values;
 
+pub use lists::new_texts;
 pub use rows::row;

@@ -1,6 +1,6 @@
 //! Arrays that are made (ECMA-262 5.1 sections 15.4.2, 15.2.3.4 and 15.2.3.14).
 
-ghost use Rattle.std.specs.Prelude.{◌≡◌, IfOk};
+ghost use Rattle.std.specs.Prelude.{◌≡◌};
 ghost use Rattle.std.specs.Fmt.{decimal};
 ghost use Rattle.js_values.specs.declared.value.Value.TheVariants.{Num, Object, Text};
 ghost use Rattle.object_heap.specs.Define.{length_name, valid_length};
@@ -12,17 +12,14 @@ ghost use Rattle.page_meaning.specs.ValueRows as spec;
 ghost use Rattle.page_state.specs.Does.{Gives};
 ghost use Rattle.builtin_object.specs.Lists.{for_object, is_a_length as spec_length, lone_number as spec_lone};
 
-use itoa::Buffer;
 use js_core::ascii::ascii_text;
-use js_core::memory::OutOfMemory;
 use js_core::units::Units;
 use js_core::whole::Whole;
 use js_values::ids::ObjId;
 use js_values::throw::Throw;
 use js_values::value::Value;
 use object_heap::property::Change;
-use page_state::{Fault, State};
-use std::alloc::Global;
+use page_state::{Fault, State, index_name};
 
 // A property that may be written, listed and configured.
 fn define_whole(state: &mut State, at: ObjId, name: &Units, value: Value) -> Result<(), Fault>
@@ -53,12 +50,6 @@ fn define_text(state: &mut State, list: ObjId, index: u64, text: &Units) -> Resu
 {
     let name = index_name(state.alloc(), index)?;
     define_whole(state, list, &name, Value::Text(text.clone()?))
-}
-
-fn index_name(alloc: Global, index: u64) -> Result<Units, OutOfMemory>
-    ensures { IfOk result (λ name. name ≡ decimal index) }
-{
-    ascii_text(alloc, Buffer::new().format(index).as_bytes())
 }
 
 // The values become the elements of an array from its start.

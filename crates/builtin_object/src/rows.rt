@@ -4,11 +4,10 @@ ghost use Rattle.std.specs.Prelude.{◌≡◌};
 ghost use Rattle.js_values.specs.declared.value.Value.TheVariants.{Bool as Truth, Object, Text as Words};
 ghost use Rattle.page_meaning.specs.Act.{Act, Calls};
 ghost use Rattle.page_meaning.specs.ObjectRows.{argument as spec_argument};
-ghost use Rattle.page_meaning.specs.Rows.{row_of};
+ghost use Rattle.page_meaning.specs.Rows.{object_row};
 ghost use Rattle.page_meaning.specs.Store.{Store};
 ghost use Rattle.page_state.specs.Does.{Gives, itself};
 
-use crate::arguments::argument;
 use crate::errors::error_from;
 use crate::lines::{alert, log};
 use crate::lists::list_from;
@@ -19,7 +18,7 @@ use js_values::built_in::BuiltIn;
 use js_values::ids::ObjId;
 use js_values::throw::{ErrorKind, Throw};
 use js_values::value::Value;
-use page_state::{Fault, State};
+use page_state::{Fault, State, argument};
 
 /// What a built-in function does when it is called or constructed with `this` and the arguments: its value, or what it throws.
 pub fn row(
@@ -29,7 +28,7 @@ pub fn row(
     this: &Value,
     args: &[Value],
 ) -> Result<Value, Fault>
-    ensures { Gives itself (λ calls. row_of calls construct which this.now args.now) state.old state.new result }
+    ensures { Gives itself (λ calls. object_row calls construct which this.now args.now) state.old state.new result }
 {
     let first = argument(args, 0)?;
     let second = argument(args, 1)?;
@@ -51,7 +50,7 @@ fn row_on(
     requires first { first.now ≡ spec_argument args.now 0 }
     requires second { second.now ≡ spec_argument args.now 1 }
     requires third { third.now ≡ spec_argument args.now 2 }
-    ensures { Gives itself (λ calls. row_of calls construct which this.now args.now) state.old state.new result }
+    ensures { Gives itself (λ calls. object_row calls construct which this.now args.now) state.old state.new result }
 {
     match which {
         BuiltIn::Alert => alert(state, first),

@@ -3,9 +3,8 @@ use Rattle.std.specs.Fmt.{decimal}
 use Rattle.js_values.specs.declared.value.Value.TheVariants.{Object, Text as Words}
 use Rattle.page_meaning.specs.ObjectRows as object
 use Rattle.page_meaning.specs.Properties.{define_member}
-use Rattle.page_state.proofs.Callers.{given}
+use Rattle.page_state.proofs.Callers.{given, one_fails, one_on}
 use Rattle.builtin_object.specs.Lists.{for_object}
-use Rattle.builtin_object.proofs.Told.{one_on, one_fails}
 use Rattle.std.proofs.Math.ListN.{drop_of_length-le}
 use Rattle.builtin_object.proofs.lists.fill_texts.Goals as goal
 

@@ -2,8 +2,7 @@ use Rattle.std.proofs.Common.{Ok}
 use Rattle.js_values.specs.declared.value.Value.TheVariants.{Object}
 use Rattle.page_meaning.specs.Expressions.{new_list}
 use Rattle.page_meaning.specs.ValueRows as value
-use Rattle.page_state.proofs.Callers.{bind_gives}
-use Rattle.builtin_object.proofs.Told.{handed}
+use Rattle.page_state.proofs.Callers.{bind_gives, handed}
 use Rattle.builtin_object.proofs.lists.list_of.Goals as goal
 
 pub returns-in_err-fill_values : goal.returns-in_err-fill_values

@@ -4,8 +4,7 @@ use Rattle.object_heap.specs.Define.{length_name}
 use Rattle.page_meaning.specs.Act.{also, give}
 use Rattle.page_meaning.specs.Expressions.{new_list}
 use Rattle.page_meaning.specs.Properties.{put_in}
-use Rattle.page_state.proofs.Callers.{bind_gives}
-use Rattle.builtin_object.proofs.Told.{handed}
+use Rattle.page_state.proofs.Callers.{bind_gives, handed}
 use Rattle.builtin_object.proofs.lists.sized_list.Goals as goal
 
 pub returns-in_err-set_length : goal.returns-in_err-set_length

@@ -3,8 +3,7 @@ use Rattle.js_values.specs.declared.value.Value.TheVariants.{Undefined}
 use Rattle.page_meaning.specs.Descriptors as descriptor
 use Rattle.page_meaning.specs.ObjectRows as object
 use Rattle.page_state.specs.Does.{no_value}
-use Rattle.page_state.proofs.Callers.{given}
-use Rattle.builtin_object.proofs.Told.{one_on, one_fails}
+use Rattle.page_state.proofs.Callers.{given, one_fails, one_on}
 use Rattle.std.proofs.Math.ListN.{drop_of_length-le}
 use Rattle.builtin_object.proofs.objects.change_each.Goals as goal
 

@@ -1,6 +1,6 @@
 use Rattle.js_values.specs.declared.value.Value.TheVariants.{Object}
 use Rattle.page_meaning.specs.ObjectRows as object
-use Rattle.builtin_object.proofs.Told.{handed}
+use Rattle.page_state.proofs.Callers.{handed}
 use Rattle.builtin_object.proofs.objects.define_properties_in.Goals as goal
 
 pub returns-in_err-define_from : goal.returns-in_err-define_from
