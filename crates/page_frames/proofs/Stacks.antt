@@ -7,7 +7,7 @@ use Rattle.page_meaning.specs.Calls.{calls_at}
 use Rattle.page_meaning.specs.Store.{Store}
 use Rattle.page_frames.specs.declared.frame.Begin.{Begin}
 use Rattle.page_frames.specs.declared.frame.Frame.{Frame}
-use Rattle.page_frames.specs.declared.frame.Frame.TheVariants.{Expr, Name, Target, Stmt, Each, Case, Called}
+use Rattle.page_frames.specs.declared.frame.Frame.TheVariants.{Expr, Name, Target, Stmt, Each, Case, Called, Visit}
 use Rattle.page_frames.specs.declared.meter.Meter.{Meter}
 use Rattle.page_frames.specs.declared.meter.Next.TheVariants.{Give, Go, Enter, Then, Stopped as Halt}
 use Rattle.page_frames.specs.Laws.{Before, StacksFall, StacksFollow}
@@ -22,6 +22,7 @@ then_assoc (Stopped w) f g = refl
 
 depth_rises : (f : Frame) (d : ℕ) → d ≤ depth_after f d
 depth_rises (Called f) d = omega arith
+depth_rises (Visit f) d = omega arith
 depth_rises (Expr f) d = omega arith
 depth_rises (Name f) d = omega arith
 depth_rises (Target f) d = omega arith

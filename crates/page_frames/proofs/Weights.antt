@@ -1,5 +1,5 @@
 -- What frames weigh.
-use Rattle.std.proofs.Common.{◌≡◌, ℕ, zero, suc, ◌+◌, ◌*◌, ◌≤◌, ◌<◌, ◌++◌, List, [], ◌∷◌, Option, Some, None, length, true, is_some, slice_get, refl, arith, le_trans, le_refl, length-append}
+use Rattle.std.proofs.Common.{◌≡◌, ℕ, zero, suc, ◌+◌, ◌*◌, ◌≤◌, ◌<◌, ◌++◌, List, [], ◌∷◌, Option, Some, None, length, true, is_some, slice_get, refl, arith, le_trans, le_refl, length-append, mul-le-mul_right}
 use Rattle.code_table.specs.Node.{Node, block_node, Parts, no_parts, then_part, then_none, part, parts_in, pick, and_child, inside, nodes_in, nodes_of, node_at, body_of, stmts_parts}
 use Rattle.js_core.specs.Tree as tree
 use Rattle.page_frames.specs.declared.meter.Meter.{Meter}
@@ -154,13 +154,27 @@ weigh_paid c k i l h = omega (arith, is_heavy, node_light c k h, weigh_small (no
 pub body_paid : (c : tree.Code) (k : ℕ) → HasFewNodes c → suc 0 + suc (cost (node_at c k)) ≤ heavy
 body_paid c k h = omega (arith, is_heavy, node_light c k h)
 
-paid_for : (n a w : ℕ) → w ≤ heavy → load n w ≤ load (suc n) a
-paid_for n a w h = omega (arith, h)
+paid_for : (n k a w : ℕ) → suc n ≤ k → w ≤ heavy → load n w ≤ load k a
+paid_for n k a w more h = omega (arith, h, mul-le-mul_right heavy more)
 
--- what a step pays for
+-- what a step pays for, or more than one
+pub steps_pay : (w a : ℕ) (m m1 : Meter) (next : Next) (m' : Meter) → suc m1.steps ≤ m.steps → w ≤ heavy → Lighter w m1 next m' → Lighter a m next m'
+steps_pay w a m m1 (Give s) m' e h l = omega (arith, e, l)
+steps_pay w a m m1 (Go f s) m' e h l = le_trans l (paid_for m1.steps m.steps a w e h)
+steps_pay w a m m1 (Enter x) m' e h l = le_trans l (paid_for m1.steps m.steps a w e h)
+steps_pay w a m m1 (Then f x) m' e h l = le_trans l (paid_for m1.steps m.steps a w e h)
+steps_pay w a m m1 Stopped m' e h l = l
+
 pub step_pays : (w a : ℕ) (m m1 : Meter) (next : Next) (m' : Meter) → m.steps ≡ suc m1.steps → w ≤ heavy → Lighter w m1 next m' → Lighter a m next m'
-step_pays w a m m1 (Give s) m' e h l = omega (arith, e, l)
-step_pays w a m m1 (Go f s) m' e h l = le_trans l (rw e (paid_for m1.steps a w h))
-step_pays w a m m1 (Enter x) m' e h l = le_trans l (rw e (paid_for m1.steps a w h))
-step_pays w a m m1 (Then f x) m' e h l = le_trans l (rw e (paid_for m1.steps a w h))
-step_pays w a m m1 Stopped m' e h l = l
+step_pays w a m m1 next m' e h l = steps_pay w a m m1 next m' (omega (arith, e)) h l
+
+fewer_load : (n k w : ℕ) → n ≤ k → load n w ≤ load k w
+fewer_load n k w less = omega (arith, mul-le-mul_right heavy less)
+
+-- where more steps are left
+pub lighter_before : (w : ℕ) (m m1 : Meter) (next : Next) (m' : Meter) → m1.steps ≤ m.steps → Lighter w m1 next m' → Lighter w m next m'
+lighter_before w m m1 (Give s) m' less l = le_trans l less
+lighter_before w m m1 (Go f s) m' less l = le_trans l (fewer_load m1.steps m.steps w less)
+lighter_before w m m1 (Enter x) m' less l = le_trans l (fewer_load m1.steps m.steps w less)
+lighter_before w m m1 (Then f x) m' less l = le_trans l (fewer_load m1.steps m.steps w less)
+lighter_before w m m1 Stopped m' less l = l

@@ -9,6 +9,7 @@ pub mod RestLiterals
 pub mod RestLoops
 pub mod RestProperties
 pub mod RestStatements
+pub mod RestVisits
 pub mod Stack
 pub mod Start
 pub mod Step

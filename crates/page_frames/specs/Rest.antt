@@ -24,6 +24,7 @@ use Rattle.page_frames.specs.RestLiterals.{rest_list, rest_literal}
 use Rattle.page_frames.specs.RestLoops.{rest_while, rest_do, rest_for, rest_for_in, rest_each, rest_switch, rest_case}
 use Rattle.page_frames.specs.RestProperties.{rest_index, rest_delete_member, rest_delete_index, rest_update_member, rest_update_index, rest_assign_member, rest_assign_index, rest_target_member, rest_target_index}
 use Rattle.page_frames.specs.RestStatements.{declarators_from, stmts_from, rest_if, rest_try}
+use Rattle.page_frames.specs.RestVisits.{rest_visit}
 use Rattle.page_frames.specs.Where.{here_of, spot_node}
 
 -- an expression, by its kind, from the value of the part that it waits for
@@ -88,6 +89,7 @@ rest_of calls (frame.Stmt f) s = rest_signal calls (here_of f.spot) (spot_node f
 rest_of calls (frame.Each f) s = rest_each calls (here_of f.spot) (spot_node f.spot) f.names f.index f.assigning s
 rest_of calls (frame.Case f) s = rest_case calls (here_of f.spot) (spot_node f.spot) f.value f.index f.testing s
 rest_of calls (frame.Called f) s = ret (ended f.body f.fresh s)
+rest_of calls (frame.Visit f) s = on_value (rest_visit calls f) s
 
 -- what begins
 abbrev pub mean_of : Calls → Begin → Act

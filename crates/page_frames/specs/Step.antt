@@ -4,12 +4,12 @@ use Rattle.code_table.specs.Node.{and_child}
 use Rattle.code_table.specs.declared.kind.Kind.{Kind}
 use Rattle.js_values.specs.declared.value.Value.{Value}
 use Rattle.page_meaning.specs.declared.signal.Signal.{Signal}
-use Rattle.page_meaning.specs.Act.{Act, Outcome, Ended, Stopped, then_on, also}
+use Rattle.page_meaning.specs.Act.{Act, Calls, Outcome, Ended, Stopped, then_on, also}
 use Rattle.page_meaning.specs.Calls.{calls_at}
 use Rattle.page_meaning.specs.Store.{Store}
 use Rattle.page_frames.specs.declared.frame.Begin.{Begin}
 use Rattle.page_frames.specs.declared.frame.Frame.{Frame}
-use Rattle.page_frames.specs.declared.frame.Frame.TheVariants.{Called}
+use Rattle.page_frames.specs.declared.frame.Frame.TheVariants.{Called, Visit}
 use Rattle.page_frames.specs.declared.meter.Meter.{Meter}
 use Rattle.page_frames.specs.declared.meter.Next.{Next}
 use Rattle.page_frames.specs.declared.meter.Next.TheVariants.{Give, Go, Enter, Then, Stopped as Halt}
@@ -26,9 +26,10 @@ after (Enter b) w m = (mean_of (calls_at m.depth) b).run w m.steps
 after (Then f b) w m = then_on ((mean_of (calls_at m.depth) b).run w m.steps) (rest_of (calls_at m.depth) f)
 after Halt w m = Stopped w
 
--- the depth that is left once a frame is done: a call that waits gives its level back
+-- the depth that is left once a frame is done: a call that waits gives its level back, and so does a visit
 abbrev pub depth_after : Frame → ℕ → ℕ
 depth_after (Called f) d = suc d
+depth_after (Visit f) d = suc d
 depth_after f d = d
 
 -- the depth comes back to this level
@@ -61,6 +62,10 @@ pub record LeadsTo (act : Act) (weight level : ℕ) (w : Store) (m : Meter) (nex
 -- the depth comes back to what it was
 abbrev pub Leads : Act → ℕ → Store → Meter → Next → Store → Meter → Type 0
 Leads act weight w m next w' m' = LeadsTo act weight m.depth w m next w' m'
+
+-- the act leads there with a level of depth less for its own calls
+abbrev pub Lowers : ℕ → (Calls → Act) → Store → Meter → Next → Store → Meter → Type 0
+Lowers weight act w m next w' m' = (d : ℕ) → m.depth ≡ suc d → Leads (act (calls_at d)) weight w m next w' m'
 
 -- a step of what begins
 abbrev pub Begins : Begin → Store → Meter → Next → Store → Meter → Type 0

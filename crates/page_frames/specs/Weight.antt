@@ -117,6 +117,7 @@ weigh_frame (frame.Stmt f) = weigh_signal (spot_node f.spot) (kind_of (spot_node
 weigh_frame (frame.Each f) = weigh_each (spot_node f.spot) f.assigning
 weigh_frame (frame.Case f) = weigh_case (spot_node f.spot) f.index f.testing
 weigh_frame (frame.Called f) = 0
+weigh_frame (frame.Visit f) = 0
 
 -- what begins, beside its own turn
 abbrev pub weigh_begin : Begin → ℕ

@@ -8,6 +8,7 @@ use js_values::value::Value;
 use object_heap::values::Values;
 use page_meaning::reference::Reference;
 use page_meaning::signal::Signal;
+use page_meaning::visit::Visit;
 use std::alloc::Global;
 use std::marker::Model;
 
@@ -114,6 +115,25 @@ pub struct CalledFrame {
     pub fresh: Option<Value>,
 }
 
+/// An array that is visited, as long as it was when the visit began, and the function that is called for its elements, with its `this`.
+#[derive(Drop)]
+pub struct Visited {
+    pub callback: Value,
+    pub this: Value,
+    pub list: ObjId,
+    pub length: u64,
+}
+
+/// A visit waits for what its function gives for the element of this index. It keeps the level of depth of the built-in function that began
+/// it.
+#[derive(Drop)]
+pub struct VisitFrame {
+    pub visited: Visited,
+    pub visit: Visit,
+    pub index: u64,
+    pub element: Value,
+}
+
 /// What waits for the end of another thing.
 #[derive(Drop)]
 pub enum Frame {
@@ -124,6 +144,7 @@ pub enum Frame {
     Each(EachFrame),
     Case(CaseFrame),
     Called(CalledFrame),
+    Visit(VisitFrame),
 }
 
 /// A frame where it lies in memory, so that it is small to hand on. Contracts see it as the frame.

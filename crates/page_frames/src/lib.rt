@@ -8,7 +8,7 @@ mod spot;
 
 pub use frame::{
     Begin, BoxedCall, BoxedFrame, CallFrame, CalledFrame, CaseFrame, EachFrame, ExprFrame, Frame,
-    Listed, NameFrame, StmtFrame, TargetFrame,
+    Listed, NameFrame, StmtFrame, TargetFrame, VisitFrame, Visited,
 };
 pub use laws::{law_loops, law_stacks, law_starts, law_weights};
 pub use meter::{Meter, Next};

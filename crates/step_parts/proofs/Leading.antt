@@ -1,5 +1,5 @@
 -- Steps that follow what was done at once, and ends that are handed on.
-use Rattle.std.proofs.Common.{◌≡◌, refl, ap, ◌∙◌, ℕ, suc, ◌+◌, ◌≤◌, List, Option, Some, None, true, is_some, Result, Ok, Err, IfOk, le_refl}
+use Rattle.std.proofs.Common.{◌≡◌, refl, ap, subst, ◌∙◌, ℕ, suc, ◌+◌, ◌≤◌, List, Option, Some, None, true, is_some, Result, Ok, Err, IfOk, le_refl}
 use Rattle.code_table.specs.Kind.{kind_of}
 use Rattle.code_table.specs.Node.{Node, and_child}
 use Rattle.code_table.specs.declared.kind.Kind.{Kind}
@@ -7,7 +7,7 @@ use Rattle.code_table.specs.declared.kind.Kind.TheVariants.{Nothing}
 use Rattle.js_values.specs.declared.value.Value.{Value}
 use Rattle.page_meaning.specs.declared.signal.Signal.{Signal}
 use Rattle.page_meaning.specs.declared.signal.Signal.TheVariants.{Value as Val, Thrown, Return, Break, Continue}
-use Rattle.page_meaning.specs.Act.{Act, Calls, also, on_value, ret}
+use Rattle.page_meaning.specs.Act.{Act, ActOf, Calls, Ended, LeadsTo, also, on_value, ret}
 use Rattle.page_meaning.specs.Calls.{calls_at}
 use Rattle.page_meaning.specs.Store.{Store}
 use Rattle.page_frames.specs.declared.meter.Meter.{Meter}
@@ -26,6 +26,10 @@ pub leads_as : {E : Type 0} (a b : Act) (u v : ℕ) (s t : Store) (m m1 : Meter)
     → IfOk r (λ n. Leads b u s m n t m1) → IfOk r (λ n. Leads a v s m n t m1)
 leads_as a b u v s t m m1 (Err x) e le h = h
 leads_as a b u v s t m m1 (Ok n) e le h = record { follows = e ∙ h.follows; levels = h.levels; lighter = no_heavier u v m n m1 le h.lighter }
+
+-- no more steps are left
+pub fewer : {A : Type 0} (act : ActOf A) (s t : Store) (n j : ℕ) (a : A) → act.run s n ≡ Ended a t j → j ≤ n
+fewer act s t n j a e = (subst (LeadsTo s n) e (act.leads s n)).0
 
 -- what is done at once gives a value, and then comes a step
 pub also_leads : {E : Type 0} (a : Calls → Act) (k : Value → Act) (v : Value) (weight : ℕ) (s t u : Store) (m m1 : Meter) (r : Result Next E) → Does a s (Val v) t
