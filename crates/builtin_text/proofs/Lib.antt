@@ -1,0 +1,9 @@
+pub mod Cuts
+pub mod DigitSizes
+pub mod Each
+pub mod Firsts
+pub mod Handed
+pub mod OtherRows
+pub mod Places
+pub mod ThisKinds
+pub mod Written
