@@ -1,0 +1,7 @@
+use Rattle.step_visit.proofs.telling.tell.Goals as goal
+
+pub returns-in-Map : goal.returns-in-Map
+returns-in-Map c = rw (c.in-Map.is) c.map.ensures
+
+pub returns-in-Filter : goal.returns-in-Filter
+returns-in-Filter c = rw (c.in-Filter.is) (rw c.is_true-in-Filter.ensures at c.filter.ensures)

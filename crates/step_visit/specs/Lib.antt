@@ -1,0 +1,4 @@
+pub mod Advancing
+pub mod Finding
+pub mod Stopping
+pub mod Telling
