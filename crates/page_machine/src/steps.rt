@@ -18,6 +18,7 @@ use step_call::{begin_call, go_call, go_called};
 use step_expr::{begin_first, begin_plain, begin_sequence, go_operator, go_property, go_sequence};
 use step_parts::{Family, plain};
 use step_stmt::{begin_statement, go_case, go_each, go_statement};
+use step_visit::go_visit;
 
 /// A step of what begins.
 pub(crate) fn begin(state: &mut State, what: Begin, meter: &mut Meter) -> Result<Next, OutOfMemory>
@@ -78,6 +79,7 @@ pub(crate) fn go(
         Frame::Each(frame) => go_each(state, frame, end, meter),
         Frame::Case(frame) => go_case(state, frame, end, meter),
         Frame::Called(frame) => go_called(state, frame, end, meter),
+        Frame::Visit(frame) => go_visit(state, frame, end, meter),
     }
 }
 

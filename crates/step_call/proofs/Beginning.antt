@@ -19,7 +19,7 @@ use Rattle.page_frames.specs.Weight.{heavy}
 use Rattle.page_frames.proofs.Callers.{step_pays}
 use Rattle.page_state.specs.declared.fault.Fault.{Fault}
 use Rattle.page_state.specs.Does.{Gives, itself}
-use Rattle.step_call.proofs.Descending.{IsGiven}
+use Rattle.step_parts.proofs.Callers.{IsGiven}
 use Rattle.step_call.specs.Callees.{Descends, may_run, runs, runs_at}
 
 judged : (d : ℕ) (construct : Bool) (f this : Value) (vs : List Value) (w : Store) (n : ℕ)

@@ -36,6 +36,7 @@ use Rattle.page_state.specs.Does.{Does, Gives, itself}
 use Rattle.page_state.specs.Entry.{entered}
 use Rattle.page_state.specs.Functions.{fresh_for}
 use Rattle.page_state.proofs.Callers.{build_goes, enter_goes}
+use Rattle.step_parts.proofs.Callers.{IsGiven, gives_lower}
 use Rattle.step_call.specs.Callees.{Descends, runs}
 
 -- ---- the body of a function
@@ -104,17 +105,8 @@ page_constructed at c env args made w s t m m1 (Ok n) d h = λ k lower.
 
 -- ---- what is done at once
 
-with_calls : (act : Calls → Act) (calls : Calls) (w t : Store) (answer : Result Value Fault) → Gives itself act w t answer → Gives itself (λ _. act calls) w t answer
-with_calls act calls w t (Ok v) g = record { is = λ _ n. g.is calls n }
-with_calls act calls w t (Err (fault.Thrown v)) g = record { is = λ _ n. g.is calls n }
-with_calls act calls w t (Err fault.OutOfMemory) g = tt
-
-abbrev pub IsGiven : {E : Type 0} → Result Value Fault → Result Next E → Type 0
-IsGiven answer r = (act : Calls → Act) (s t : Store) (weight : ℕ) (m : Meter) → Gives itself act s t answer → IfOk r (λ n. Leads (act (calls_at m.depth)) weight s m n t m)
-
 pub at_once : {E : Type 0} (act : Calls → Act) (answer : Result Value Fault) (w t : Store) (m : Meter) (r : Result Next E) → Gives itself act w t answer → IsGiven answer r → IfOk r (λ n. Descends act w m n t m)
-at_once act answer w t m (Err x) g h = tt
-at_once act answer w t m (Ok n) g h = λ k lower. h (λ _. act (calls_at k)) w t heavy m (with_calls act (calls_at k) w t answer g)
+at_once act answer w t m r g h = gives_lower act answer heavy w t m r g h
 
 -- ---- bound functions
 

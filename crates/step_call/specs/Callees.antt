@@ -10,7 +10,7 @@ use Rattle.page_meaning.specs.Properties.{is_function}
 use Rattle.page_meaning.specs.Store.{Store}
 use Rattle.page_frames.specs.declared.meter.Meter.{Meter}
 use Rattle.page_frames.specs.declared.meter.Next.{Next}
-use Rattle.page_frames.specs.Step.{Leads}
+use Rattle.page_frames.specs.Step.{Lowers}
 use Rattle.page_frames.specs.Weight.{heavy}
 
 -- whether it may be called, or constructed
@@ -30,4 +30,4 @@ runs_at (suc d) construct f this vs c = runs (calls_at d) construct f this vs c
 
 -- the act leads there with a level of depth less for its own calls, where a step has paid for what it weighs
 abbrev pub Descends : (Calls → Act) → Store → Meter → Next → Store → Meter → Type 0
-Descends act w m next w' m' = (d : ℕ) → m.depth ≡ suc d → Leads (act (calls_at d)) heavy w m next w' m'
+Descends = Lowers heavy

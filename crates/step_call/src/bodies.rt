@@ -5,23 +5,19 @@ ghost use Rattle.js_values.specs.declared.value.Value.TheVariants.{Object};
 ghost use Rattle.page_meaning.specs.Act.{bind, ret};
 ghost use Rattle.page_meaning.specs.Calls.{build};
 ghost use Rattle.page_meaning.specs.Functions.{enter};
-ghost use Rattle.page_meaning.specs.Rows.{row_of};
 ghost use Rattle.page_meaning.specs.Statements.{exec_all};
 ghost use Rattle.page_meaning.specs.Store.{Store};
 ghost use Rattle.page_frames.specs.RestCalls.{mean_call, with_fresh};
 ghost use Rattle.step_call.specs.Callees.{Descends};
 
-use builtin_object::row;
 use code_table::FunctionCode;
 use js_core::memory::OutOfMemory;
-use js_values::built_in::BuiltIn;
 use js_values::ids::{EnvId, ObjId};
 use js_values::value::Value;
 use object_heap::values::Values;
 use page_frames::{Begin, BoxedCall, BoxedFrame, CallFrame, CalledFrame, Frame, Meter, Next, Spot};
 use page_state::State;
 use std::alloc::Global;
-use step_parts::give;
 
 // The body of a function runs on `this` in a new environment, one level of depth down. A construction keeps its fresh object.
 fn enter_body(
@@ -83,22 +79,6 @@ pub(crate) fn construct_page(
     enter_body(state, code, env, Value::Object(made), args, fresh, meter)
 }
 
-/// A built-in function does all that it does at once.
-pub(crate) fn run_native(
-    state: &mut State,
-    construct: bool,
-    which: BuiltIn,
-    this: &Value,
-    args: &Values,
-    meter: &Meter,
-) -> Result<Next, OutOfMemory>
-    ensures { IfOk result (λ n.
-        Descends (λ calls. row_of calls construct which this.now args.now) state.old meter.now n
-        state.new meter.now) }
-{
-    give(row(state, construct, which, this, args.as_slice()))
-}
-
 /// A bound function calls or constructs its target, one level of depth down, with its own arguments before those that it got (sections
 /// 15.3.4.5.1 and 15.3.4.5.2).
 pub(crate) fn run_bound(
@@ -117,17 +97,32 @@ pub(crate) fn run_bound(
         n w meter.new) }
 {
     let args = joined(own, args)?;
-    meter.depth -= 1;
-    let frame = Frame::Called(CalledFrame {
-        body: false,
-        fresh: None,
-    });
     let call = CallFrame {
         construct,
         callee: Value::Object(target),
         this,
         args,
     };
+    run_call(alloc, call, meter)
+}
+
+/// Another call runs, one level of depth down, and what it gives is given.
+pub(crate) fn run_call(
+    alloc: Global,
+    call: CallFrame,
+    meter: &mut Meter,
+) -> Result<Next, OutOfMemory>
+    requires { meter.old.depth ≢ 0 }
+    ensures { (w : Store) →
+        IfOk result (λ n.
+        Descends (λ calls. mean_call calls call.construct call.callee call.this call.args) w
+        meter.old n w meter.new) }
+{
+    meter.depth -= 1;
+    let frame = Frame::Called(CalledFrame {
+        body: false,
+        fresh: None,
+    });
     let boxed = BoxedFrame::of(alloc, frame)?;
     let call = BoxedCall::of(alloc, call)?;
     Ok(Next::Then(boxed, Begin::Call(call)))

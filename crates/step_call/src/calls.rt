@@ -9,7 +9,8 @@ ghost use Rattle.page_meaning.specs.Properties.{class_at, class_of};
 ghost use Rattle.page_frames.specs.Step.{Begins, Leads};
 ghost use Rattle.step_call.specs.Callees.{Descends, may_run as spec_may, runs, runs_at};
 
-use crate::bodies::{call_page, construct_page, run_bound, run_native};
+use crate::bodies::{call_page, construct_page, run_bound};
+use crate::natives::run_native;
 use js_core::memory::OutOfMemory;
 use js_values::built_in::BuiltIn;
 use js_values::ids::ObjId;

@@ -6,6 +6,8 @@ mod bodies;
 mod callees;
 mod calls;
 mod ends;
+mod functions;
+mod natives;
 
 pub use callees::go_call;
 pub use calls::begin_call;

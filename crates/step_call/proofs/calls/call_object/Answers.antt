@@ -11,7 +11,7 @@ returns-in_ok-code-in-Page c =
 
 pub returns-in-Native : goal.returns-in-Native
 returns-in-Native c =
-    called_as c.args.this c.args.args (class_at c.args.state.now c.args.at) (Native c.in-Native.which) c.args.state.now c.run_native.new.state c.args.meter.now c.args.meter.now
+    called_as c.args.this c.args.args (class_at c.args.state.now c.args.at) (Native c.in-Native.which) c.args.state.now c.run_native.new.state c.args.meter.now c.run_native.new.meter
     c.run_native.result (sym c.class.ensures ∙ c.in-Native.is) c.run_native.ensures
 
 pub returns-in_ok-before-in-Bound : goal.returns-in_ok-before-in-Bound
