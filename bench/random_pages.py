@@ -3,7 +3,8 @@
 
 Makes COUNT random pages (10,000), runs each under `PROGRAM replay` with calls of its functions as events, and in a context of node, and
 compares the lines. Prints each page whose lines differ, and then how many were equal. A page keeps to what both mean alike: whole
-numbers that stay in range, no division, no object that is made a primitive value, names of properties that are no numbers. A name that hides one
+numbers that stay in range, no division, no object that is made a primitive value, names of properties that are no numbers. Later editions give `concat`, `slice` and the array of `splice` a length
+at their end, so these are taken of arrays without holes, or not looked at. A name that hides one
 of its prototype is not deleted: node's for-in then visits it still. No name that is nowhere is assigned to: node's contexts let that pass at times.
 """
 import json
@@ -65,8 +66,32 @@ class Page:
 
     # ---- expressions
 
+    def built_in_num(self, d):
+        """A number that a built-in function gives."""
+        lists = self.names("list")
+        pick = self.r.randrange(9)
+        if pick == 0:
+            return "Math.%s(%s, %s)" % (self.one("max", "min"), self.num(d - 1), self.num(d - 1))
+        if pick == 1:
+            return "Math.%s(%s)" % (self.one("abs", "round", "floor", "ceil"), self.num(d - 1))
+        if pick == 2:
+            return "(parseInt(%s, %d) | 0)" % (self.text(d - 1), self.r.randrange(2, 37))
+        if pick == 3:
+            return "%s.%s(%s)" % (self.text(d - 1), self.one("indexOf", "lastIndexOf"), self.text(0))
+        if pick == 4:
+            return "(%s.charCodeAt(%d) | 0)" % (self.text(d - 1), self.r.randrange(-1, 4))
+        if pick == 5 and lists:
+            return "%s.%s(%s)" % (self.r.choice(lists), self.one("indexOf", "lastIndexOf"), self.num(0))
+        if pick == 6 and lists:
+            return "%s.reduce(function (s, v, i) { return (s * 3 + v + i) %% 1000; }, %s)" % (self.r.choice(lists), self.num(0))
+        if pick == 7 and lists:
+            return "%s.%s(%s)" % (self.r.choice(lists), self.one("push", "unshift"), ", ".join(self.num(0) for _ in range(self.r.randrange(3))))
+        return "(isNaN(%s) ? 1 : Number(%s))" % (self.text(0), self.one('"12"', '" 7 "', '""'))
+
     def num(self, d):
         names = self.names("num")
+        if d > 0 and self.r.random() < 0.15:
+            return self.built_in_num(d)
         if d == 0 or self.r.random() < 0.2:
             return self.r.choice(names) if names and self.r.random() < 0.6 else str(self.r.randrange(20))
         pick = self.r.randrange(16)
@@ -96,8 +121,34 @@ class Page:
             return "(%s %s (%s << %d))" % (self.num(d - 1), self.one("+", "^"), self.num(0), self.r.randrange(5))
         return "(%s %s %s)" % (self.truth(d - 1), self.one("&&", "||"), self.num(d - 1)) + " * 1"
 
+    def built_in_text(self, d):
+        """A text that a built-in function gives."""
+        lists = self.names("list")
+        pick = self.r.randrange(9)
+        places = "%d, %d" % (self.r.randrange(-4, 6), self.r.randrange(-4, 6))
+        if pick == 0:
+            return "%s.%s(%s)" % (self.text(d - 1), self.one("slice", "substring"), places)
+        if pick == 1:
+            return "%s.%s()" % (self.text(d - 1), self.one("toUpperCase", "toLowerCase", "trim", "toString", "valueOf"))
+        if pick == 2:
+            return "%s.charAt(%d)" % (self.text(d - 1), self.r.randrange(-1, 4))
+        if pick == 3:
+            return '%s.split(%s).join("/")' % (self.text(d - 1), self.one('""', '"x"', '" "', self.text(0)))
+        if pick == 4:
+            return "%s.concat(%s, %s)" % (self.text(d - 1), self.num(0), self.truth(0))
+        if pick == 5:
+            return "(%s).toString(%d)" % (self.num(d - 1), self.r.randrange(2, 37))
+        if pick == 6 and lists:
+            return '%s.join("%s")' % (self.r.choice(lists), self.one("", "-", "ab"))
+        if pick == 7 and lists:
+            dense = "%s.filter(function (v) { return v %% 3 !== 0; })" % self.r.choice(lists)
+            return '%s.%s.join()' % (dense, self.one("slice(%s)" % places, "concat([1], 2)", "map(function (v, i) { return v + i; })", "reverse()"))
+        return "String(%s)" % self.one(self.num(0), self.truth(0), "null", "undefined")
+
     def text(self, d):
         names = self.names("text")
+        if d > 0 and self.r.random() < 0.2:
+            return self.built_in_text(d)
         if d <= 0 or self.r.random() < 0.3:
             return self.r.choice(names) if names and self.r.random() < 0.5 else '"%s"' % self.one("", "x", "yz", "w ", "7", "-3")
         pick = self.r.randrange(5)
@@ -113,6 +164,8 @@ class Page:
 
     def truth(self, d):
         pick = self.r.randrange(6)
+        if d > 0 and self.names("list") and self.r.random() < 0.1:
+            return "%s.%s(function (v, i) { return v > i; })" % (self.r.choice(self.names("list")), self.one("every", "some"))
         if d <= 0 or pick == 0:
             return self.one("true", "false", "(%s < %s)" % (self.num(0), self.num(0)))
         if pick == 1:
@@ -145,6 +198,11 @@ class Page:
     def change(self):
         pick = self.r.randrange(9)
         nums, texts, objects, lists = (self.names(kind) for kind in ("num", "text", "object", "list"))
+        if lists and self.r.random() < 0.2:
+            added = ", ".join(self.num(0) for _ in range(self.r.randrange(3)))
+            how = self.one("pop()", "shift()", "reverse()", "forEach(function (v, i, l) { l[i] = (v + i) % 1000; })",
+                           "splice(%d, %d%s)" % (self.r.randrange(-3, 5), self.r.randrange(4), ", " + added if added else ""))
+            return "%s.%s;" % (self.r.choice(lists), how)
         if pick == 0 and texts:
             return "%s = %s;" % (self.r.choice(texts), self.text(2))
         if pick == 1 and objects:
