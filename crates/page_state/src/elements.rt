@@ -66,7 +66,11 @@ impl State {
         ensures { result ≡ spec.list_in value.now self.now }
     {
         match value {
-            Value::Object(at) => if self.class(*at).is_list() { Some(*at) } else { None },
+            Value::Object(at) => if self.class(*at).is_list() {
+                Some(*at)
+            } else {
+                None
+            },
             Value::Undefined | Value::Null | Value::Bool(_) | Value::Num(_) | Value::Text(_) =>
                 None,
         }
@@ -142,8 +146,7 @@ impl State {
 
     /// The values are put one after another from an index on.
     pub fn put_each(&mut self, at: ObjId, start: u64, values: &[Value]) -> Result<(), Fault>
-        ensures { Gives no_value (λ _. spec.put_each at start values.now) self.old self.new result
-            }
+        ensures { Gives no_value (λ _. spec.put_each at start values.now) self.old self.new result }
     {
         for index in 0..values.len() {
             let place = further(start, index as u64)?;

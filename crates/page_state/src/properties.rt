@@ -37,14 +37,7 @@ impl State {
     }
 
     /// The property of a value that can have some, or undefined (section 8.7.1).
-    #[tactic(
-        auto,
-        unfolding(
-            page_meaning::specs::Places::boolean_prototype_place,
-            page_meaning::specs::Places::number_prototype_place,
-            page_meaning::specs::Places::string_prototype_place,
-        ),
-    )]
+    #[tactic(auto, unfolding(page_meaning::specs::Places::boolean_prototype_place, page_meaning::specs::Places::number_prototype_place, page_meaning::specs::Places::string_prototype_place,),)]
     pub fn read_property(&self, base: &Value, name: &Units) -> Result<Value, OutOfMemory>
         ensures { IfOk result (λ v. v ≡ spec.property_of self.now base.now name.now) }
     {
@@ -170,8 +163,7 @@ impl State {
 
     /// `delete` of a reference to a property (section 11.4.1).
     pub fn delete_member(&mut self, base: &Value, name: &Units) -> Result<bool, Fault>
-        ensures { Gives Truth (λ _. spec.delete_member base.now name.now) self.old self.new result
-            }
+        ensures { Gives Truth (λ _. spec.delete_member base.now name.now) self.old self.new result }
     {
         match base {
             Value::Object(at) => self.delete_in(*at, name),

@@ -205,12 +205,7 @@ fn apply_elements(
 }
 
 // The elements of an array; a hole is undefined.
-fn gather(
-    state: &State,
-    steps: &mut u64,
-    list: ObjId,
-    length: u64,
-) -> Result<Values, Halt>
+fn gather(state: &State, steps: &mut u64, list: ObjId, length: u64) -> Result<Values, Halt>
     ensures { Tells (λ _. spec.gather list [] 0 length) state.now steps.old state.now steps.new
         result }
 {

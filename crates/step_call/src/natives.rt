@@ -83,29 +83,55 @@ fn family_of(which: BuiltIn) -> RowFamily
     ensures { result ≡ row_family which }
 {
     match which {
-        BuiltIn::FunctionPrototypeCall | BuiltIn::FunctionPrototypeApply
-        | BuiltIn::FunctionPrototypeBind | BuiltIn::ArrayPrototypeToString => RowFamily::Function,
-        BuiltIn::ArrayPrototypeConcat | BuiltIn::ArrayPrototypeJoin
-        | BuiltIn::ArrayPrototypePop | BuiltIn::ArrayPrototypePush
-        | BuiltIn::ArrayPrototypeReverse | BuiltIn::ArrayPrototypeShift
-        | BuiltIn::ArrayPrototypeSlice | BuiltIn::ArrayPrototypeSplice
-        | BuiltIn::ArrayPrototypeUnshift | BuiltIn::ArrayPrototypeIndexOf
+        BuiltIn::FunctionPrototypeCall
+        | BuiltIn::FunctionPrototypeApply
+        | BuiltIn::FunctionPrototypeBind
+        | BuiltIn::ArrayPrototypeToString => RowFamily::Function,
+        BuiltIn::ArrayPrototypeConcat
+        | BuiltIn::ArrayPrototypeJoin
+        | BuiltIn::ArrayPrototypePop
+        | BuiltIn::ArrayPrototypePush
+        | BuiltIn::ArrayPrototypeReverse
+        | BuiltIn::ArrayPrototypeShift
+        | BuiltIn::ArrayPrototypeSlice
+        | BuiltIn::ArrayPrototypeSplice
+        | BuiltIn::ArrayPrototypeUnshift
+        | BuiltIn::ArrayPrototypeIndexOf
         | BuiltIn::ArrayPrototypeLastIndexOf => RowFamily::List,
-        BuiltIn::ArrayPrototypeEvery | BuiltIn::ArrayPrototypeSome
-        | BuiltIn::ArrayPrototypeForEach | BuiltIn::ArrayPrototypeMap
-        | BuiltIn::ArrayPrototypeFilter | BuiltIn::ArrayPrototypeReduce => RowFamily::Visit,
-        BuiltIn::String | BuiltIn::StringFromCharCode | BuiltIn::StringPrototypeToString
-        | BuiltIn::StringPrototypeValueOf | BuiltIn::StringPrototypeCharAt
-        | BuiltIn::StringPrototypeCharCodeAt | BuiltIn::StringPrototypeConcat
+        BuiltIn::ArrayPrototypeEvery
+        | BuiltIn::ArrayPrototypeSome
+        | BuiltIn::ArrayPrototypeForEach
+        | BuiltIn::ArrayPrototypeMap
+        | BuiltIn::ArrayPrototypeFilter
+        | BuiltIn::ArrayPrototypeReduce => RowFamily::Visit,
+        BuiltIn::String
+        | BuiltIn::StringFromCharCode
+        | BuiltIn::StringPrototypeToString
+        | BuiltIn::StringPrototypeValueOf
+        | BuiltIn::StringPrototypeCharAt
+        | BuiltIn::StringPrototypeCharCodeAt
+        | BuiltIn::StringPrototypeConcat
         | BuiltIn::StringPrototypeIndexOf => RowFamily::Text,
-        BuiltIn::StringPrototypeLastIndexOf | BuiltIn::StringPrototypeSlice
-        | BuiltIn::StringPrototypeSplit | BuiltIn::StringPrototypeSubstring
-        | BuiltIn::StringPrototypeToLowerCase | BuiltIn::StringPrototypeToUpperCase
+        BuiltIn::StringPrototypeLastIndexOf
+        | BuiltIn::StringPrototypeSlice
+        | BuiltIn::StringPrototypeSplit
+        | BuiltIn::StringPrototypeSubstring
+        | BuiltIn::StringPrototypeToLowerCase
+        | BuiltIn::StringPrototypeToUpperCase
         | BuiltIn::StringPrototypeTrim => RowFamily::Text,
-        BuiltIn::IsNaN | BuiltIn::IsFinite | BuiltIn::ParseInt | BuiltIn::Number
-        | BuiltIn::NumberPrototypeToString | BuiltIn::NumberPrototypeValueOf => RowFamily::Text,
-        BuiltIn::MathAbs | BuiltIn::MathCeil | BuiltIn::MathFloor | BuiltIn::MathMax
-        | BuiltIn::MathMin | BuiltIn::MathPow | BuiltIn::MathRound => RowFamily::Text,
+        BuiltIn::IsNaN
+        | BuiltIn::IsFinite
+        | BuiltIn::ParseInt
+        | BuiltIn::Number
+        | BuiltIn::NumberPrototypeToString
+        | BuiltIn::NumberPrototypeValueOf => RowFamily::Text,
+        BuiltIn::MathAbs
+        | BuiltIn::MathCeil
+        | BuiltIn::MathFloor
+        | BuiltIn::MathMax
+        | BuiltIn::MathMin
+        | BuiltIn::MathPow
+        | BuiltIn::MathRound => RowFamily::Text,
         _ => RowFamily::Object,
     }
 }

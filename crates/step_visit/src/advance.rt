@@ -36,8 +36,14 @@ pub(crate) fn advance(
     let found = next_element(state, &mut steps, visited.list, start, visited.length);
     meter.steps = steps;
     match found {
-        Ok(Some((index, element))) =>
-            call_for(state.alloc(), visited, visit, index, element, meter),
+        Ok(Some((index, element))) => call_for(
+            state.alloc(),
+            visited,
+            visit,
+            index,
+            element,
+            meter,
+        ),
         Ok(None) => Ok(Next::Give(Signal::Value(past_last(visit)))),
         Err(halt) => stop(halt),
     }

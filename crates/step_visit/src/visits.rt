@@ -119,11 +119,7 @@ fn begin_map(state: &mut State, visited: Visited, meter: &mut Meter) -> Result<N
 }
 
 // `filter` makes an empty array (section 15.4.4.20).
-fn begin_filter(
-    state: &mut State,
-    visited: Visited,
-    meter: &mut Meter,
-) -> Result<Next, OutOfMemory>
+fn begin_filter(state: &mut State, visited: Visited, meter: &mut Meter) -> Result<Next, OutOfMemory>
     requires { meter.old.depth ≢ 0 }
     ensures { IfOk result (λ n.
         Climbs (λ calls. spec.filter_all calls visited.callback visited.this visited.list
@@ -158,11 +154,7 @@ fn begin_reduce(
 }
 
 // The first element is accumulated; where there is none, it throws.
-fn reduce_from(
-    state: &mut State,
-    visited: Visited,
-    meter: &mut Meter,
-) -> Result<Next, OutOfMemory>
+fn reduce_from(state: &mut State, visited: Visited, meter: &mut Meter) -> Result<Next, OutOfMemory>
     requires depth { meter.old.depth ≢ 0 }
     requires this { visited.this ≡ Undefined }
     ensures { IfOk result (λ n.
@@ -174,8 +166,13 @@ fn reduce_from(
     let found = next_element(state, &mut steps, visited.list, 0, visited.length);
     meter.steps = steps;
     match found {
-        Ok(Some((index, element))) =>
-            advance(state, visited, Visit::Reduce(element), further(index, 1)?, meter),
+        Ok(Some((index, element))) => advance(
+            state,
+            visited,
+            Visit::Reduce(element),
+            further(index, 1)?,
+            meter,
+        ),
         Ok(None) => {
             let fault = state.raise(Throw::WrongArgument);
             give(Err(fault))
