@@ -8,21 +8,25 @@ use Rattle.builtin_list.proofs.copying.delete_last.Goals as goal
 pub returns-in_err-take_turn : goal.returns-in_err-take_turn
 returns-in_err-take_turn c =
     c.loop-left.invariant c.loop-left.state c.take_turn.new.steps c.from_residual.result
-    (down_stops (λ i. element.delete_element c.args.list (c.args.index + i)) no_value c.loop-left.left c.loop-left.state c.loop-left.steps c.take_turn.new.steps c.in_err-take_turn.field-0.0 c.from_residual.result
+    (down_stops (λ i. element.delete_element c.args.list (c.args.index + i)) no_value c.loop-left.left c.loop-left.state c.loop-left.steps c.take_turn.new.steps c.in_err-take_turn.field-0.0
+    c.from_residual.result
     c.loop-left-test.true c.in_err-take_turn.ensures c.from_residual.ensures)
 
 pub returns-in_err-delete_element : goal.returns-in_err-delete_element
 returns-in_err-delete_element c =
     c.loop-left.invariant c.delete_element.new.self c.take_turn.new.steps c.from_residual-in_err-delete_element.result
-    (down_fails (λ i. element.delete_element c.args.list (c.args.index + i)) no_value c.loop-left.left c.loop-left.state c.delete_element.new.self c.loop-left.steps c.take_turn.new.steps c.in_err-delete_element.field-0.0 c.from_residual-in_err-delete_element.result
+    (down_fails (λ i. element.delete_element c.args.list (c.args.index + i)) no_value c.loop-left.left c.loop-left.state c.delete_element.new.self c.loop-left.steps c.take_turn.new.steps
+    c.in_err-delete_element.field-0.0 c.from_residual-in_err-delete_element.result
     c.loop-left-test.true c.in_ok-take_turn.ensures (rw (c.in_ok-further.ensures) at c.in_err-delete_element.ensures) c.from_residual-in_err-delete_element.ensures)
 
 pub loop-left-preserved : goal.loop-left-preserved
 loop-left-preserved c t j r g =
     c.loop-left.invariant t j r
-    (down_on (λ i. element.delete_element c.args.list (c.args.index + i)) no_value c.loop-left.left Undefined c.loop-left.state c.delete_element.new.self t c.loop-left.steps c.take_turn.new.steps j r
+    (down_on (λ i. element.delete_element c.args.list (c.args.index + i)) no_value c.loop-left.left Undefined c.loop-left.state c.delete_element.new.self t c.loop-left.steps
+    c.take_turn.new.steps j r
     c.loop-left-test.true c.in_ok-take_turn.ensures (rw (c.in_ok-further.ensures) at c.in_ok-delete_element.ensures) g)
 
 pub returns : goal.returns
 returns c =
-    c.loop-left.invariant c.loop-left.state c.loop-left.steps (Ok tt) (down_ends (λ i. element.delete_element c.args.list (c.args.index + i)) c.loop-left.left c.loop-left.state c.loop-left.steps c.loop-left-test.false)
+    c.loop-left.invariant c.loop-left.state c.loop-left.steps (Ok tt)
+    (down_ends (λ i. element.delete_element c.args.list (c.args.index + i)) c.loop-left.left c.loop-left.state c.loop-left.steps c.loop-left-test.false)

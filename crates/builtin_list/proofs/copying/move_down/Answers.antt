@@ -13,21 +13,25 @@ loop-turn-init c t j r g =
 pub returns-in_err-take_turn : goal.returns-in_err-take_turn
 returns-in_err-take_turn c =
     c.loop-turn.invariant c.loop-turn.state c.take_turn.new.steps c.from_residual.result
-    (up_stops (λ i. spec.move c.args.list (c.args.from + i) (c.args.to + i)) no_value c.args.count c.loop-turn.turn c.loop-turn.state c.loop-turn.steps c.take_turn.new.steps c.in_err-take_turn.field-0.0 c.from_residual.result
+    (up_stops (λ i. spec.move c.args.list (c.args.from + i) (c.args.to + i)) no_value c.args.count c.loop-turn.turn c.loop-turn.state c.loop-turn.steps c.take_turn.new.steps
+    c.in_err-take_turn.field-0.0 c.from_residual.result
     c.loop-turn-test.true c.in_err-take_turn.ensures c.from_residual.ensures)
 
 pub returns-in_err-move_one : goal.returns-in_err-move_one
 returns-in_err-move_one c =
     c.loop-turn.invariant c.move_one.new.state c.take_turn.new.steps c.from_residual-in_err-move_one.result
-    (up_fails (λ i. spec.move c.args.list (c.args.from + i) (c.args.to + i)) no_value c.args.count c.loop-turn.turn c.loop-turn.state c.move_one.new.state c.loop-turn.steps c.take_turn.new.steps c.in_err-move_one.field-0.0 c.from_residual-in_err-move_one.result
+    (up_fails (λ i. spec.move c.args.list (c.args.from + i) (c.args.to + i)) no_value c.args.count c.loop-turn.turn c.loop-turn.state c.move_one.new.state c.loop-turn.steps
+    c.take_turn.new.steps c.in_err-move_one.field-0.0 c.from_residual-in_err-move_one.result
     c.loop-turn-test.true c.in_ok-take_turn.ensures (rw (c.in_ok-further.ensures, c.in_ok-further-2.ensures) at c.in_err-move_one.ensures) c.from_residual-in_err-move_one.ensures)
 
 pub loop-turn-preserved : goal.loop-turn-preserved
 loop-turn-preserved c t j r g =
     c.loop-turn.invariant t j r
-    (up_on (λ i. spec.move c.args.list (c.args.from + i) (c.args.to + i)) no_value c.args.count c.loop-turn.turn Undefined c.loop-turn.state c.move_one.new.state t c.loop-turn.steps c.take_turn.new.steps j r
+    (up_on (λ i. spec.move c.args.list (c.args.from + i) (c.args.to + i)) no_value c.args.count c.loop-turn.turn Undefined c.loop-turn.state c.move_one.new.state t c.loop-turn.steps
+    c.take_turn.new.steps j r
     c.loop-turn-test.true c.in_ok-take_turn.ensures (rw (c.in_ok-further.ensures, c.in_ok-further-2.ensures) at c.in_ok-move_one.ensures) g)
 
 pub returns : goal.returns
 returns c =
-    c.loop-turn.invariant c.loop-turn.state c.loop-turn.steps (Ok tt) (up_ends (λ i. spec.move c.args.list (c.args.from + i) (c.args.to + i)) c.args.count c.loop-turn.turn c.loop-turn.state c.loop-turn.steps c.loop-turn-test.false)
+    c.loop-turn.invariant c.loop-turn.state c.loop-turn.steps (Ok tt)
+    (up_ends (λ i. spec.move c.args.list (c.args.from + i) (c.args.to + i)) c.args.count c.loop-turn.turn c.loop-turn.state c.loop-turn.steps c.loop-turn-test.false)

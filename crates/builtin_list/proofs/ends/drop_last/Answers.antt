@@ -16,7 +16,8 @@ returns-in_err-set_length c =
     also_gives (λ _. element.delete_element c.args.list c.args.last) (λ _ _. also (element.set_length c.args.list c.args.last) (λ _. give c.args.value)) itself Undefined
     c.args.state.now c.delete_element.new.self c.set_length.new.self c.from_residual-in_err-set_length.result c.in_ok-delete_element.ensures
     (failed (λ _. element.set_length c.args.list c.args.last) (λ _ _. give c.args.value) itself
-    c.delete_element.new.self c.set_length.new.self c.in_err-set_length.field-0.0 c.from_residual-in_err-set_length.result c.in_err-set_length.ensures c.from_residual-in_err-set_length.ensures)
+    c.delete_element.new.self c.set_length.new.self c.in_err-set_length.field-0.0 c.from_residual-in_err-set_length.result c.in_err-set_length.ensures
+    c.from_residual-in_err-set_length.ensures)
 
 pub returns : goal.returns
 returns c =

@@ -10,11 +10,13 @@ use Rattle.builtin_list.proofs.ends.shift.Goals as goal
 pub returns-in_err-no_elements : goal.returns-in_err-no_elements
 returns-in_err-no_elements c =
     rw c.if-length-eq0.true
-    (fault_ends itself (λ _. spec.no_elements c.args.list) c.args.state.now c.no_elements.new.state c.args.steps.now c.in_err-no_elements.field-0.0 c.from_residual.result c.in_err-no_elements.ensures c.from_residual.ensures)
+    (fault_ends itself (λ _. spec.no_elements c.args.list) c.args.state.now c.no_elements.new.state c.args.steps.now c.in_err-no_elements.field-0.0 c.from_residual.result
+    c.in_err-no_elements.ensures c.from_residual.ensures)
 
 pub returns-then-length-eq0 : goal.returns-then-length-eq0
 returns-then-length-eq0 c =
-    rw c.if-length-eq0.true (gives_ends itself (λ _. spec.no_elements c.args.list) c.args.state.now c.no_elements.new.state c.args.steps.now c.in_ok-no_elements.field-0 c.in_ok-no_elements.ensures)
+    rw c.if-length-eq0.true (gives_ends itself (λ _. spec.no_elements c.args.list) c.args.state.now c.no_elements.new.state c.args.steps.now c.in_ok-no_elements.field-0
+    c.in_ok-no_elements.ensures)
 
 pub returns : goal.returns
 returns c =

@@ -16,4 +16,5 @@ returns-in_err-turn_over c =
 pub returns : goal.returns
 returns c =
     also_ends (λ _. element.turns_up (spec.turn_over c.args.list c.args.length) 0 (spec.half c.args.length)) (λ _ _. give (Object c.args.list)) itself Undefined
-    c.args.state.now c.turn_over.new.state c.turn_over.new.state c.args.steps.now c.turn_over.new.steps c.turn_over.new.steps (Ok (Object c.args.list)) c.in_ok-turn_over.ensures (gave (Object c.args.list) c.turn_over.new.state c.turn_over.new.steps)
+    c.args.state.now c.turn_over.new.state c.turn_over.new.state c.args.steps.now c.turn_over.new.steps c.turn_over.new.steps (Ok (Object c.args.list)) c.in_ok-turn_over.ensures
+    (gave (Object c.args.list) c.turn_over.new.state c.turn_over.new.steps)

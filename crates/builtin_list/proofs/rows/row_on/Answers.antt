@@ -13,7 +13,8 @@ returns-in-ArrayPrototypePop c =
 
 pub returns-in-ArrayPrototypePush : goal.returns-in-ArrayPrototypePush
 returns-in-ArrayPrototypePush c =
-    rw (c.in-ArrayPrototypePush.is, c.at_once-in-ArrayPrototypePush.ensures) (at_once_ends (λ _. spec.push c.args.list c.args.length c.args.args.now) c.args.state.now c.push.new.state c.args.steps.now c.push.result c.push.ensures)
+    rw (c.in-ArrayPrototypePush.is, c.at_once-in-ArrayPrototypePush.ensures)
+    (at_once_ends (λ _. spec.push c.args.list c.args.length c.args.args.now) c.args.state.now c.push.new.state c.args.steps.now c.push.result c.push.ensures)
 
 pub returns-in-ArrayPrototypeReverse : goal.returns-in-ArrayPrototypeReverse
 returns-in-ArrayPrototypeReverse c =
@@ -38,5 +39,7 @@ returns-in-ArrayPrototypeUnshift c =
 pub returns-in_default : goal.returns-in_default
 returns-in_default c =
     unbuilt c.args.which c.args.args.now c.args.list c.args.length c.args.state.now c.raise.new.self c.args.steps.now c.raise.result
-    c.in_default.not-ArrayPrototypeConcat c.in_default.not-ArrayPrototypeJoin c.in_default.not-ArrayPrototypePop c.in_default.not-ArrayPrototypePush c.in_default.not-ArrayPrototypeReverse c.in_default.not-ArrayPrototypeShift c.in_default.not-ArrayPrototypeSlice c.in_default.not-ArrayPrototypeSplice c.in_default.not-ArrayPrototypeUnshift c.in_default.not-ArrayPrototypeIndexOf c.in_default.not-ArrayPrototypeLastIndexOf
+    c.in_default.not-ArrayPrototypeConcat c.in_default.not-ArrayPrototypeJoin c.in_default.not-ArrayPrototypePop c.in_default.not-ArrayPrototypePush c.in_default.not-ArrayPrototypeReverse
+    c.in_default.not-ArrayPrototypeShift c.in_default.not-ArrayPrototypeSlice c.in_default.not-ArrayPrototypeSplice c.in_default.not-ArrayPrototypeUnshift
+    c.in_default.not-ArrayPrototypeIndexOf c.in_default.not-ArrayPrototypeLastIndexOf
     c.raise.ensures
