@@ -18,8 +18,9 @@ use js_core::whole::Whole;
 use js_values::ids::ObjId;
 use js_values::throw::Throw;
 use js_values::value::Value;
+use object_heap::index::index_name;
 use object_heap::property::Change;
-use page_state::{Fault, State, index_name};
+use page_state::{Fault, State};
 
 // A property that may be written, listed and configured.
 fn define_whole(state: &mut State, at: ObjId, name: &Units, value: Value) -> Result<(), Fault>

@@ -1,6 +1,6 @@
 //! What a function object holds.
 
-ghost use Rattle.std.specs.Prelude.{◌≡◌, ◌≤◌, [], IfOk, length, map, is_some, option_copied};
+ghost use Rattle.std.specs.Prelude.{◌≡◌, ◌≤◌, [], IfOk, length, map, is_some, option_copied, true};
 ghost use Rattle.js_core.specs.Tree as tree;
 ghost use Rattle.code_table.specs.Declarations.{name_of, formals_of, functions_of, variables_of, held, unnamed};
 ghost use Rattle.code_table.specs.Kind.{kind_of};
@@ -244,9 +244,10 @@ impl FunctionCode {
         self.table.functions.as_slice()
     }
 
-    /// The tree, which may have a name that the function is held without.
+    /// The tree. Where the function is held without its name, the tree may have it.
     pub fn source(&self) -> &Code
-        ensures { unnamed result.now ≡ unnamed self.now }
+        ensures unnamed { unnamed result.now ≡ unnamed self.now }
+        ensures named { is_some (name_of self.now) ≡ true → result.now ≡ self.now }
     {
         &self.table.code
     }

@@ -101,7 +101,7 @@ lower i name (Some j) small e other below = by (cases_eq j i)
     by (inr far) = lt-ltb j i (omega (arith, ltb-true j (i + 1) below, far))
 
 -- where there is no element at i, all that are below i + 1 are below i
-all_lower : (i : ℕ) (props : Props) → i < index_end → lookup (bytes_eq (decimal i)) props ≡ None → AllBelow (i + 1) props → AllBelow i props
+pub all_lower : (i : ℕ) (props : Props) → i < index_end → lookup (bytes_eq (decimal i)) props ≡ None → AllBelow (i + 1) props → AllBelow i props
 all_lower i [] small none all = refl
 all_lower i (e ∷ es) small none all = by_case (bytes_eq (decimal i) e.0) refl (λ g. all_lower i es small g (right_of (is_below (i + 1) (index_of e.0)) (list_all (λ x. is_below (i + 1) (index_of x.0)) es) all))
   where

@@ -1,10 +1,15 @@
 //! Array indices (ECMA-262 5.1 section 15.4).
 
-ghost use Rattle.std.specs.Prelude.{◌≡◌, ◌<◌, Some, IfSome, None, min, if◌then◌else◌};
+ghost use Rattle.std.specs.Prelude.{◌≡◌, ◌<◌, Some, IfOk, IfSome, None, min, if◌then◌else◌};
+ghost use Rattle.std.specs.Fmt.{decimal};
 ghost use Rattle.std.specs.List.{list_all};
 ghost use Rattle.object_heap.specs.Index.{index_of, index_end, begins_well, is_digit, number_of};
 
+use itoa::Buffer;
+use js_core::ascii::ascii_text;
+use js_core::memory::OutOfMemory;
 use js_core::units::Units;
+use std::alloc::Global;
 
 /// 2^32 - 1, which is no array index.
 const INDEX_END: u64 = 4_294_967_295;
@@ -27,6 +32,13 @@ pub fn array_index(name: &Units) -> Option<u64>
         Some(n) if n < INDEX_END => Some(n),
         _ => None,
     }
+}
+
+/// The name of an element: its index in decimal digits.
+pub fn index_name(alloc: Global, index: u64) -> Result<Units, OutOfMemory>
+    ensures { IfOk result (λ name. name ≡ decimal index) }
+{
+    ascii_text(alloc, Buffer::new().format(index).as_bytes())
 }
 
 fn begins_well(units: &[u16]) -> bool

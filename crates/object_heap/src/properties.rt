@@ -1,6 +1,7 @@
 //! The properties of an object, in order of creation.
 
-ghost use Rattle.std.specs.Prelude.{◌≡◌, true, false, ◌++◌, ◌∷◌, [], None, IfOk, OnOk, OnErr, option_map, option_copied, slice_get, length, ◌≤◌, ◌<◌, IfSome};
+ghost use Rattle.std.specs.Prelude.{◌≡◌, true, false, ◌++◌, ◌∷◌, [], None, IfOk, OnOk, OnErr, option_map, option_copied, slice_get, length, ◌≤◌, ◌<◌, IfSome, is_some};
+ghost use Rattle.std.specs.Fmt.{decimal};
 ghost use Rattle.std.specs.Option.{ForSome};
 ghost use Rattle.object_heap.specs.Counted.{AreBelow, IsPopped, shrunk_props};
 ghost use Rattle.object_heap.specs.Define.{end_kept, end_with, elements_below, is_below};
@@ -9,7 +10,7 @@ ghost use Rattle.std.specs.Map.{keys_of};
 ghost use Rattle.std.specs.Map.Iter.{deref_pair};
 ghost use Rattle.object_heap.specs.Property.{own_property, with_property, without_property, HasDistinctNames};
 
-use crate::index::array_index;
+use crate::index::{array_index, index_name};
 use crate::property::Prop;
 use indexmap::IndexMap;
 use js_core::memory::OutOfMemory;
@@ -130,7 +131,7 @@ impl Properties {
 
     /// Deletes the elements of an array from the top until its length is `end`, or down to the last one that is not
     /// configurable, and answers the length that is left (ECMA-262 5.1 section 15.4.5.1 step 3.l). Its length was `len`.
-    /// Elements that were made last go without a look at the others.
+    /// Elements that were made last go without a look at the others, and where none is so is found by its name.
     pub(crate) fn delete_elements(&mut self, len: u64, end: u64) -> u64
         requires below { AreBelow len self.old }
         requires end { end ≤ len }
@@ -147,7 +148,8 @@ impl Properties {
         kept
     }
 
-    // As far as the element at the top was made last and may be deleted, it goes. The length that is left.
+    // As far as the element at the top was made last and may be deleted, or is none, the top comes down; where more are
+    // none than there are properties, a look at all of them costs less. The length that is left.
     fn pop_elements(&mut self, len: u64, end: u64) -> u64
         requires below { AreBelow len self.old }
         requires end { end ≤ len }
@@ -156,14 +158,37 @@ impl Properties {
         ensures below { AreBelow result self.new }
     {
         let mut top = len;
+        let mut holes = self.len();
         while top > end {
             let _distinct = self.len();
-            if !self.pop_element(top - 1) {
-                break;
+            let index = top - 1;
+            if !self.pop_element(index) {
+                if holes == 0 || !self.is_hole(index) {
+                    break;
+                }
+                holes -= 1;
             }
-            top -= 1;
+            top = index;
         }
         top
+    }
+
+    // Whether it is known that there is no element of this index: its name takes memory.
+    fn is_hole(&self, index: u64) -> bool
+        ensures { result ≡ true → own_property self.now (decimal index) ≡ None }
+    {
+        match self.has_element(index) {
+            Ok(has) => !has,
+            Err(OutOfMemory) => false,
+        }
+    }
+
+    // Whether there is an element of this index.
+    fn has_element(&self, index: u64) -> Result<bool, OutOfMemory>
+        ensures { IfOk result (λ has. has ≡ is_some (own_property self.now (decimal index))) }
+    {
+        let name = index_name(*self.table.allocator(), index)?;
+        Ok(self.get(&name).is_some())
     }
 
     // Whether the property that was made last is this element and may be deleted; then it is gone.

@@ -1,28 +1,18 @@
 //! Arrays by index (ECMA-262 5.1 section 15.4).
 
 ghost use Rattle.std.specs.Prelude.{◌≡◌, ◌+◌, IfOk};
-ghost use Rattle.std.specs.Fmt.{decimal};
 ghost use Rattle.object_heap.specs.Define.{number as spec_number, number_in};
 ghost use Rattle.page_meaning.specs.Elements as spec;
 ghost use Rattle.page_state.specs.Does.{Gives, itself, no_value};
 
 use crate::fault::Fault;
 use crate::state::State;
-use itoa::Buffer;
 use js_core::ascii::ascii_text;
 use js_core::memory::OutOfMemory;
-use js_core::units::Units;
 use js_core::whole::Whole;
 use js_values::ids::ObjId;
 use js_values::value::Value;
-use std::alloc::Global;
-
-/// The name of an element: its index in decimal digits.
-pub fn index_name(alloc: Global, index: u64) -> Result<Units, OutOfMemory>
-    ensures { IfOk result (λ name. name ≡ decimal index) }
-{
-    ascii_text(alloc, Buffer::new().format(index).as_bytes())
-}
+use object_heap::index::index_name;
 
 /// An index or a length as a value. No memory holds so many elements that it would be no number.
 pub fn index_value(index: u64) -> Result<Value, OutOfMemory>

@@ -29,7 +29,7 @@ mod updates;
 
 pub use arguments::{argument, arguments_from, values_of};
 pub use convert::{number_of, text_of};
-pub use elements::{further, index_name, index_value};
+pub use elements::{further, index_value};
 pub use errors::error_prototype;
 pub use fault::Fault;
 pub use functions::{built, object_or};

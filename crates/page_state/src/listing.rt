@@ -10,12 +10,11 @@ ghost use Rattle.page_state.specs.Listing.{AlsoSeen, is_listed_at, is_seen_at, p
 use crate::places::{BOOLEAN_PROTOTYPE, NUMBER_PROTOTYPE, STRING_PROTOTYPE};
 use crate::state::State;
 use indexmap::IndexSet;
-use itoa::Buffer;
-use js_core::ascii::ascii_text;
 use js_core::memory::OutOfMemory;
 use js_core::units::Units;
 use js_values::ids::ObjId;
 use js_values::value::Value;
+use object_heap::index::index_name;
 use std::alloc::Global;
 
 impl State {
@@ -177,7 +176,7 @@ fn unit_names(alloc: Global, units: &[u16]) -> Result<Vec<(Option<ObjId>, Units)
 {
     let mut names = Vec::new(alloc);
     for place in 0..units.len() {
-        let name = ascii_text(alloc, Buffer::new().format(place).as_bytes())?;
+        let name = index_name(alloc, place as u64)?;
         names.push((None, name))?;
     }
     Ok(names)

@@ -5,7 +5,7 @@ ghost use Rattle.std.specs.Map.{keys_of};
 ghost use Rattle.std.specs.Map.Iter.{deref_pair};
 ghost use Rattle.std.specs.Option.{option_copied, option_map};
 ghost use Rattle.object_heap.specs.Chain.{get, object_at};
-ghost use Rattle.object_heap.specs.Heap.{made};
+ghost use Rattle.object_heap.specs.Heap.{look_in, made};
 ghost use Rattle.object_heap.specs.Object.{is_list, whole_object};
 ghost use Rattle.object_heap.specs.Property.{own_property};
 ghost use Rattle.page_meaning.specs.Primitives.{
@@ -59,6 +59,13 @@ impl State {
     /// Where its memory comes from.
     pub fn alloc(&self) -> Global {
         *self.lines.allocator()
+    }
+
+    /// The number of objects.
+    pub fn count(&self) -> u64
+        ensures { result ≡ length self.now.heap.objects }
+    {
+        self.heap.count()
     }
 
     /// The class of an object.
@@ -179,6 +186,17 @@ impl State {
         ensures { Does (λ _. spec_bind at name.now value) self.old tt self.new }
     {
         self.heap.set(at, name, value);
+    }
+
+    /// The value of a name in the innermost environment outwards that has it, or `None` exactly where none has it
+    /// (section 10.2.2.1).
+    pub fn bound(&self, env: Option<EnvId>, name: &Units) -> Option<&Value>
+        ensures { option_copied result ≡ option_map (λ found. found.1) (look_in self.now.heap.environments env name.now) }
+    {
+        match self.heap.look_in(env, name) {
+            Some((_, value)) => Some(value),
+            None => None,
+        }
     }
 
     /// The lines that it put out, oldest first.

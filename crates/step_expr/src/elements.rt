@@ -18,18 +18,16 @@ ghost use Rattle.step_expr.specs.Holding.{Skips, holder as spec_holder};
 
 use crate::held::{after, holder, holding};
 use code_table::Kind;
-use itoa::Buffer;
 use js_core::ascii::ascii_text;
 use js_core::memory::OutOfMemory;
-use js_core::units::Units;
 use js_core::whole::Whole;
 use js_values::ids::ObjId;
 use js_values::value::Value;
+use object_heap::index::index_name;
 use object_heap::values::Values;
 use page_frames::{Meter, Next, Spot};
 use page_meaning::signal::Signal;
 use page_state::{Fault, State};
-use std::alloc::Global;
 use step_parts::{give, run_part};
 
 /// An array literal begins: the array is made before its elements.
@@ -72,12 +70,6 @@ fn define_element(state: &mut State, list: ObjId, index: u64, value: Value) -> R
 {
     let name = index_name(state.alloc(), index)?;
     state.define_member(list, &name, value)
-}
-
-fn index_name(alloc: Global, index: u64) -> Result<Units, OutOfMemory>
-    ensures { IfOk result (λ name. name ≡ decimal index) }
-{
-    ascii_text(alloc, Buffer::new().format(index).as_bytes())
 }
 
 // The elements from the kth on: the first that is there runs, or the array's length is put.
