@@ -12,3 +12,7 @@ mod pushing;
 mod spelling;
 mod statements;
 mod strings;
+
+pub use expressions::{push_code, push_unnamed_code};
+pub use pushing::{push_keyword, push_lexeme, push_name, push_punct, push_text};
+pub use spelling::push_lexemes;

@@ -1,0 +1,5 @@
+pub mod Joining
+pub mod Needing
+pub mod Places
+pub mod Walks
+pub mod Weights

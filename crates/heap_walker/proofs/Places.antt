@@ -1,0 +1,32 @@
+-- What is left of a list from a place on.
+use Rattle.std.proofs.Common.{◌≡◌, ◌∙◌, refl, sym, ap, ℕ, zero, suc, ◌+◌, ◌-◌, ◌≤◌, ◌<◌, arith, drop, take, get_or, length, List, [], ◌∷◌, Option, Some, None}
+use Rattle.std.specs.Prelude.{slice_get}
+use Rattle.std.proofs.Math.Seq.{drop-cons, take-length}
+use Rattle.std.proofs.lemmas.Option.{get_or_from_slice_get, slice_get_within}
+
+pub from_place : {X : Type 0} (xs : List X) (k : ℕ) (x : X) → slice_get xs k ≡ Some x → drop k xs ≡ x ∷ drop (k + 1) xs
+from_place xs k x found =
+    let next : suc k ≡ k + 1 = omega arith in
+    drop-cons xs k x (slice_get_within xs k x found) ∙ ap (λ y. y ∷ drop (suc k) xs) (get_or_from_slice_get xs k x x found) ∙ ap (λ n. x ∷ drop n xs) next
+
+pub past_places : {X : Type 0} (xs : List X) (k : ℕ) → slice_get xs k ≡ None → drop k xs ≡ []
+past_places [] zero none = refl
+past_places [] (suc k) none = refl
+past_places (y ∷ ys) zero none = cc none
+past_places (y ∷ ys) (suc k) none = past_places ys k none
+
+-- the next one of a list, and what is left of it
+pub next_of : {X : Type 0} (xs : List X) (x : X) → 1 ≤ length xs → x ≡ get_or xs 0 x → xs ≡ x ∷ take (length xs - 1) (drop 1 xs)
+next_of [] x some is = absurd (omega arith)
+next_of (y ∷ ys) x some is =
+    let long : length ys ≡ length (y ∷ ys) - 1 = omega arith in
+    ap (λ z. z ∷ ys) (sym is) ∙ ap (λ zs. x ∷ zs) (sym (take-length ys) ∙ ap (λ n. take n ys) long)
+
+pub none_of : {X : Type 0} (xs : List X) → length xs < 1 → xs ≡ []
+none_of [] none = refl
+none_of (x ∷ xs) none = absurd (omega arith)
+
+pub same_place : {X : Type 0} (xs : List X) (k : ℕ) (d e : X) → k < length xs → get_or xs k d ≡ get_or xs k e
+same_place [] k d e h = absurd (omega arith)
+same_place (x ∷ xs) zero d e h = refl
+same_place (x ∷ xs) (suc k) d e h = same_place xs k d e (omega (arith, h))

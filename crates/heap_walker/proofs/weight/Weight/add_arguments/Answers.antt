@@ -1,0 +1,15 @@
+use Rattle.std.proofs.Common.{◌≡◌, sym, subst, arith}
+use Rattle.std.proofs.lemmas.Grind.{common_steps}
+use Rattle.heap_walker.specs.Weight.{Adds, argument_load, arguments_load}
+use Rattle.heap_walker.proofs.Places.{next_of, none_of}
+use Rattle.heap_walker.proofs.Weights.{adds_both, adds_none}
+use Rattle.heap_walker.proofs.weight.Weight.add_arguments.Goals as goal
+
+pub loop-rest-preserved : goal.loop-rest-preserved
+loop-rest-preserved c w h =
+    let whole = next_of c.loop-rest.rest.now c.value-item.result (omega arith) (grind (arith, common_steps)) in
+    c.loop-rest.invariant w (subst (λ r. Adds c.loop-rest.self w (arguments_load r)) (sym whole) (adds_both c.loop-rest.self c.add_argument.new.self w (argument_load c.value-item.result) _ c.add_argument.ensures h))
+
+pub returns : goal.returns
+returns c =
+    c.loop-rest.invariant c.loop-rest.self (subst (λ r. Adds c.loop-rest.self c.loop-rest.self (arguments_load r)) (sym (none_of c.loop-rest.rest.now (omega arith))) (adds_none c.loop-rest.self))

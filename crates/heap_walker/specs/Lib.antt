@@ -1,0 +1,5 @@
+pub mod Laws
+pub mod Needs
+pub mod Things
+pub mod Walking
+pub mod Weight

@@ -1,0 +1,113 @@
+-- What a page weighs that is saved: how many things, properties, arguments and needed variables there are, and how long their texts are.
+use Rattle.std.specs.Prelude.{◌≡◌, ℕ, ◌+◌, ◌*◌, ◌^◌, ◌-◌, Bool, true, false, List, [], ◌∷◌, Option, ◌&&◌, not, min, length, bytes_eq, if◌then◌else◌}
+use Rattle.js_core.specs.Tree as tree
+use Rattle.js_print.specs.Printing.{code_text}
+use Rattle.js_values.specs.declared.value.Value.{Value}
+use Rattle.js_values.specs.declared.value.Value.TheVariants.{Text}
+use Rattle.object_heap.specs.Chain.{object_at}
+use Rattle.object_heap.specs.Define.{length_name}
+use Rattle.object_heap.specs.Object.{Object}
+use Rattle.object_heap.specs.Property.{Props}
+use Rattle.object_heap.specs.declared.object.Class.{Class}
+use Rattle.object_heap.specs.declared.object.Class.TheVariants.{Bound, Page}
+use Rattle.object_heap.specs.declared.property.Prop.{Prop}
+use Rattle.page_meaning.specs.Store.{Store}
+use Rattle.heap_walker.specs.Things.{IsWalk, globals_of, needs_of}
+use Rattle.heap_walker.specs.declared.weight.Weight.{Weight}
+
+-- ---- sums without a bound
+
+-- things, and bytes of text
+pub record Load : Type 0 where
+  pub things : ℕ
+  pub text : ℕ
+
+abbrev pub load : ℕ → ℕ → Load
+load things text = record { things = things; text = text }
+
+abbrev pub together : Load → Load → Load
+together a b = load (a.things + b.things) (a.text + b.text)
+
+-- a unit of a text can take six bytes, as `\u` and four digits
+abbrev pub units : ℕ → ℕ
+units n = 6 * n
+
+abbrev pub value_units : Value → ℕ
+value_units (Text t) = length t
+value_units v = 0
+
+-- a value that is no thing of its own
+abbrev pub value_load : Value → Load
+value_load v = load 0 (units (value_units v))
+
+-- one that has a name, as a property and a needed variable have it
+abbrev pub named_load : List ℕ → Value → Load
+named_load x v = load 1 (units (length x + value_units v))
+
+abbrev pub props_load : Props → Load
+props_load [] = load 0 0
+props_load (e ∷ es) = together (named_load e.0 e.1.value) (props_load es)
+
+abbrev pub needs_load : List (List ℕ × Value) → Load
+needs_load [] = load 0 0
+needs_load (n ∷ ns) = together (named_load n.0 n.1) (needs_load ns)
+
+abbrev pub argument_load : Value → Load
+argument_load v = load 1 (units (value_units v))
+
+abbrev pub arguments_load : List Value → Load
+arguments_load [] = load 0 0
+arguments_load (v ∷ vs) = together (argument_load v) (arguments_load vs)
+
+-- the printed code of a function
+abbrev pub code_load : tree.Code → Load
+code_load code = load 0 (length (code_text code))
+
+-- what an object is besides its properties
+abbrev pub class_load : Store → Class → Load
+class_load s (Page code env) = together (code_load code) (needs_load (needs_of s env code))
+class_load s (Bound target this args) = together (value_load this) (arguments_load args)
+class_load s c = load 0 0
+
+-- the `length` of these is not written
+abbrev pub has_made_length : Class → Bool
+has_made_length (Page code env) = true
+has_made_length (Bound target this args) = true
+has_made_length c = false
+
+-- the own properties that are written
+abbrev pub written : Bool → Props → Props
+written made [] = []
+written made (e ∷ es) = if made && bytes_eq e.0 length_name then written made es else (e ∷ written made es)
+
+abbrev pub written_of : Object → Props
+written_of o = written (has_made_length o.class) o.props
+
+abbrev pub thing_load : Store → Object → Load
+thing_load s o = together (load 1 0) (together (class_load s o.class) (props_load (written_of o)))
+
+abbrev pub things_load : Store → List ℕ → Load
+things_load s [] = load 0 0
+things_load s (k ∷ ks) = together (thing_load s (object_at s.heap.objects k)) (things_load s ks)
+
+-- all that is saved, where these things can be reached
+abbrev pub load_of : Store → List ℕ → Load
+load_of s ks = together (props_load (globals_of s)) (things_load s ks)
+
+-- ---- what is told of them: a sum above 2^64 - 1 is told as that
+
+abbrev pub bounded : ℕ → ℕ
+bounded n = min n (2 ^ 64 - 1)
+
+abbrev pub told : Load → Weight
+told l = record { things = bounded l.things; text = bounded l.text }
+
+-- so much joins a weight
+abbrev pub Adds : Weight → Weight → Load → Type 0
+Adds old new more = (l : Load) → old ≡ told l → new ≡ told (together l more)
+
+-- the weight of what can be reached
+pub record IsWeight (s : Store) (weight : Weight) : Type 0 where
+  pub things : List ℕ
+  pub walked : IsWalk s things
+  pub sums : weight ≡ told (load_of s things)

@@ -1,0 +1,16 @@
+//! What of a page can still be reached, and what it weighs.
+#![tactic(auto)]
+
+mod laws;
+mod links;
+mod needs;
+mod reached;
+mod weight;
+
+pub use laws::{law_built_ins_are_counted, law_walks_are_same};
+pub use needs::{Needs, needs_of};
+pub use reached::{Walked, walk};
+pub use weight::{Weight, weigh, weight_of};
+
+/// How many objects a page begins with, the global object among them. Those that scripts make are younger.
+pub const BUILT_IN_COUNT: u64 = 93;

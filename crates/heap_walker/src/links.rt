@@ -1,0 +1,179 @@
+//! What an object refers to, as far as it is a thing.
+
+ghost use Rattle.std.specs.Prelude.{◌≡◌, ◌++◌, OnOk, [], ◌∷◌};
+ghost use Rattle.object_heap.specs.Chain.{object_at};
+ghost use Rattle.object_heap.specs.Property.{Props};
+ghost use Rattle.heap_walker.specs.Things as spec;
+ghost use Rattle.heap_walker.specs.Walking.{joined};
+ghost use Rattle.page_meaning.specs.Properties.{class_at};
+
+use crate::BUILT_IN_COUNT;
+use crate::needs::needs_of;
+use code_table::FunctionCode;
+use indexmap::IndexSet;
+use js_core::global_names::is_global_name;
+use js_core::memory::OutOfMemory;
+use js_core::units::Units;
+use js_values::ids::{EnvId, ObjId};
+use js_values::value::Value;
+use object_heap::object::Class;
+use object_heap::property::Prop;
+use page_state::{State, WINDOW, further};
+
+// The object is seen, if it is a thing.
+#[tactic(auto, unfolding(crate::specs::Things::built_in_count))]
+fn see(state: &State, at: ObjId, seen: &mut IndexSet<u64>) -> Result<(), OutOfMemory>
+    ensures { OnOk result (seen.new.keys ≡ joined state.now seen.old.keys (at.0 ∷ [])) }
+{
+    if at.0 >= BUILT_IN_COUNT && at.0 < state.count() {
+        seen.insert(at.0)?;
+    }
+    Ok(())
+}
+
+fn see_value(state: &State, value: &Value, seen: &mut IndexSet<u64>) -> Result<(), OutOfMemory>
+    ensures { OnOk result (seen.new.keys ≡ joined state.now seen.old.keys (spec.value_links value.now)) }
+{
+    match value {
+        Value::Object(at) => see(state, *at, seen),
+        Value::Undefined | Value::Null | Value::Bool(_) | Value::Num(_) | Value::Text(_) => Ok(()),
+    }
+}
+
+fn see_values(state: &State, values: &[Value], seen: &mut IndexSet<u64>) -> Result<(), OutOfMemory>
+    ensures { OnOk result (seen.new.keys ≡ joined state.now seen.old.keys (spec.values_links values.now)) }
+{
+    let mut rest = values;
+    while let [value, after @ ..] = rest {
+        see_value(state, value, seen)?;
+        rest = after;
+    }
+    Ok(())
+}
+
+fn see_proto(state: &State, at: ObjId, seen: &mut IndexSet<u64>) -> Result<(), OutOfMemory>
+    ensures { OnOk result (seen.new.keys ≡ joined state.now seen.old.keys
+        (spec.proto_links (object_at state.now.heap.objects at.0).proto)) }
+{
+    match state.proto(at) {
+        Some(proto) => see(state, proto, seen),
+        None => Ok(()),
+    }
+}
+
+fn see_properties(state: &State, at: ObjId, seen: &mut IndexSet<u64>) -> Result<(), OutOfMemory>
+    ensures { OnOk result (seen.new.keys ≡ joined state.now seen.old.keys
+        (spec.props_links (object_at state.now.heap.objects at.0).props)) }
+{
+    let mut place = 0;
+    while let Some((_, property)) = state.own_at(at, place) {
+        see_value(state, &property.value, seen)?;
+        place = further(place, 1)?;
+    }
+    Ok(())
+}
+
+// What the needed variables of a function hold.
+fn see_needs(
+    state: &State,
+    needs: &[(Units, Value)],
+    seen: &mut IndexSet<u64>,
+) -> Result<(), OutOfMemory>
+    ensures { OnOk result (seen.new.keys ≡ joined state.now seen.old.keys (spec.needs_links needs.now)) }
+{
+    let mut rest = needs;
+    while let [need, after @ ..] = rest {
+        see_value(state, &need.1, seen)?;
+        rest = after;
+    }
+    Ok(())
+}
+
+fn see_function(
+    state: &State,
+    code: &FunctionCode,
+    env: Option<EnvId>,
+    seen: &mut IndexSet<u64>,
+) -> Result<(), OutOfMemory>
+    ensures { OnOk result (seen.new.keys ≡ joined state.now seen.old.keys
+        (spec.needs_links (spec.needs_of state.now env code.now))) }
+{
+    let needs = needs_of(state, code, env)?;
+    see_needs(state, needs.as_slice(), seen)
+}
+
+// The parts of a bound function.
+#[tactic(auto, using(crate::proofs::Joining::joined_both))]
+fn see_parts(
+    state: &State,
+    target: ObjId,
+    this: &Value,
+    args: &[Value],
+    seen: &mut IndexSet<u64>,
+) -> Result<(), OutOfMemory>
+    ensures { OnOk result (seen.new.keys ≡ joined state.now seen.old.keys
+        (target.0 ∷ (spec.value_links this.now ++ spec.values_links args.now))) }
+{
+    see(state, target, seen)?;
+    see_value(state, this, seen)?;
+    see_values(state, args, seen)
+}
+
+fn see_class(state: &State, at: ObjId, seen: &mut IndexSet<u64>) -> Result<(), OutOfMemory>
+    ensures { OnOk result (seen.new.keys ≡ joined state.now seen.old.keys
+        (spec.class_links state.now (class_at state.now at))) }
+{
+    match state.class(at) {
+        Class::Page { code, env } => see_function(state, code, *env, seen),
+        Class::Bound { target, this, args } => {
+            see_parts(state, *target, this, args.as_slice(), seen)
+        }
+        Class::Plain
+        | Class::List
+        | Class::Native(_)
+        | Class::Fault
+        | Class::Math
+        | Class::Window
+        | Class::Node(_)
+        | Class::Event(_) => Ok(()),
+    }
+}
+
+/// All that an object refers to is seen, as far as it is a thing.
+#[tactic(auto, using(crate::proofs::Joining::joined_both))]
+pub fn see_links(state: &State, at: ObjId, seen: &mut IndexSet<u64>) -> Result<(), OutOfMemory>
+    ensures { OnOk result (seen.new.keys ≡ joined state.now seen.old.keys (spec.links state.now at.0)) }
+{
+    see_proto(state, at, seen)?;
+    see_class(state, at, seen)?;
+    see_properties(state, at, seen)
+}
+
+/// What globals refer to is seen, as far as it is a thing.
+pub fn see_globals(state: &State, seen: &mut IndexSet<u64>) -> Result<(), OutOfMemory>
+    ensures { OnOk result (seen.new.keys ≡ joined state.now seen.old.keys (spec.roots state.now)) }
+{
+    let mut place = 0;
+    while let Some((name, property)) = state.own_at(WINDOW, place) {
+        see_global(state, name, property, seen)?;
+        place = further(place, 1)?;
+    }
+    Ok(())
+}
+
+// What a property of the global object refers to is seen, if it is not built in; what others refer to can follow.
+#[tactic(auto, using(crate::proofs::Joining::joined_both))]
+fn see_global(
+    state: &State,
+    name: &Units,
+    property: &Prop,
+    seen: &mut IndexSet<u64>,
+) -> Result<(), OutOfMemory>
+    ensures { (others : Props) → OnOk result (joined state.now seen.new.keys (spec.props_links (spec.globals others))
+        ≡ joined state.now seen.old.keys (spec.props_links (spec.globals ((name.now, property.now) ∷ others)))) }
+{
+    if is_global_name(name) {
+        return Ok(());
+    }
+    see_value(state, &property.value, seen)
+}

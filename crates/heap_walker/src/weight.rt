@@ -1,0 +1,270 @@
+//! What a page weighs that is saved.
+
+ghost use Rattle.std.specs.Prelude.{◌≡◌, ◌∷◌, ◌&&◌, ℕ, List, IfOk, OnOk, bytes_eq, length};
+ghost use Rattle.js_print.specs.Printing.{code_text};
+ghost use Rattle.object_heap.specs.Chain.{object_at};
+ghost use Rattle.object_heap.specs.Define.{length_name};
+ghost use Rattle.object_heap.specs.Property.{Props};
+ghost use Rattle.heap_walker.specs.Things as things;
+ghost use Rattle.heap_walker.specs.Weight as spec;
+ghost use Rattle.heap_walker.specs.declared.weight.Weight.{Weight as Pure};
+ghost use Rattle.page_meaning.specs.Properties.{class_at};
+
+use crate::needs::needs_of;
+use crate::reached::{Walked, walk};
+use code_table::FunctionCode;
+use js_core::global_names::is_global_name;
+use js_core::memory::OutOfMemory;
+use js_core::units::Units;
+use js_print::print::{print_code, print_unnamed};
+use js_values::ids::{EnvId, ObjId};
+use js_values::value::Value;
+use object_heap::object::Class;
+use object_heap::property::Prop;
+use page_state::{State, WINDOW, further};
+use std::alloc::Global;
+
+/// How much a saved page holds.
+#[derive(Clone, Copy, Debug, PartialEq, Eq)]
+pub struct Weight {
+    /// The things, the own properties of things and of the global object that are written, the arguments that are bound, and the
+    /// needed variables of functions; at most 2^64 - 1.
+    pub things: u64,
+    /// Six bytes for each unit of the names and texts of those, and the bytes of the printed functions; at most 2^64 - 1.
+    pub text: u64,
+}
+
+impl Weight {
+    // More things, and more units of text.
+    fn add(&mut self, things: u64, units: u64)
+        ensures { spec.Adds self.old self.new (spec.load things (spec.units units)) }
+    {
+        self.things = self.things.saturating_add(things);
+        self.text = self.text.saturating_add(units.saturating_mul(6));
+    }
+
+    // More bytes of text.
+    fn add_bytes(&mut self, bytes: u64)
+        ensures { spec.Adds self.old self.new (spec.load 0 bytes) }
+    {
+        self.text = self.text.saturating_add(bytes);
+    }
+
+    // A property of the global object, if it is not built in; others can follow.
+    fn add_global(&mut self, name: &Units, property: &Prop)
+        ensures { (others : Props) (w : Pure) → spec.Adds self.new w (spec.props_load (things.globals others)) →
+            spec.Adds self.old w (spec.props_load (things.globals ((name.now, property.now) ∷ others))) }
+    {
+        if is_global_name(name) {
+            return;
+        }
+        self.add_named(name, &property.value);
+    }
+
+    // A property of a thing, if it is written; others can follow.
+    fn add_written(&mut self, made: bool, name: &Units, property: &Prop)
+        ensures { (others : Props) (w : Pure) → spec.Adds self.new w (spec.props_load (spec.written made others)) →
+            spec.Adds self.old w (spec.props_load (spec.written made ((name.now, property.now) ∷ others))) }
+    {
+        if is_made_length(made, name) {
+            return;
+        }
+        self.add_named(name, &property.value);
+    }
+
+    // Needed variables.
+    fn add_needs(&mut self, needs: &[(Units, Value)])
+        ensures { spec.Adds self.old self.new (spec.needs_load needs.now) }
+    {
+        let mut rest = needs;
+        while let [need, after @ ..] = rest {
+            self.add_named(&need.0, &need.1);
+            rest = after;
+        }
+    }
+
+    // What a bound function binds besides its target.
+    fn add_bound(&mut self, this: &Value, args: &[Value])
+        ensures { spec.Adds self.old self.new (spec.together (spec.value_load this.now) (spec.arguments_load args.now)) }
+    {
+        self.add_value(this);
+        self.add_arguments(args);
+    }
+
+    // A value that is no thing of its own.
+    fn add_value(&mut self, value: &Value)
+        ensures { spec.Adds self.old self.new (spec.value_load value.now) }
+    {
+        self.add(0, value_units(value));
+    }
+
+    // An argument that is bound.
+    fn add_argument(&mut self, value: &Value)
+        ensures { spec.Adds self.old self.new (spec.argument_load value.now) }
+    {
+        self.add(1, value_units(value));
+    }
+
+    // A name with its value.
+    fn add_named(&mut self, name: &Units, value: &Value)
+        ensures { spec.Adds self.old self.new (spec.named_load name.now value.now) }
+    {
+        self.add(1, length(name).saturating_add(value_units(value)));
+    }
+
+    // Arguments that are bound.
+    fn add_arguments(&mut self, args: &[Value])
+        ensures { spec.Adds self.old self.new (spec.arguments_load args.now) }
+    {
+        let mut rest = args;
+        while let [value, after @ ..] = rest {
+            self.add_argument(value);
+            rest = after;
+        }
+    }
+}
+
+// Whether it is the `length` that a function is made with.
+fn is_made_length(made: bool, name: &Units) -> bool
+    ensures { result ≡ (made && bytes_eq name.now length_name) }
+{
+    made && name.spells(b"length")
+}
+
+fn length(text: &Units) -> u64
+    ensures { result ≡ length text.now }
+{
+    text.as_slice().len() as u64
+}
+
+fn value_units(value: &Value) -> u64
+    ensures { result ≡ spec.value_units value.now }
+{
+    match value {
+        Value::Text(text) => length(text),
+        Value::Undefined | Value::Null | Value::Bool(_) | Value::Num(_) | Value::Object(_) => 0,
+    }
+}
+
+/// What a page weighs that is saved.
+pub fn weigh(state: &State) -> Result<Weight, OutOfMemory>
+    ensures { IfOk result (λ weight. spec.IsWeight state.now weight) }
+{
+    let walked = walk(state)?;
+    weight_of(state, &walked)
+}
+
+/// What the things that were walked weigh, with the globals.
+pub fn weight_of(state: &State, walked: &Walked) -> Result<Weight, OutOfMemory>
+    ensures { IfOk result (λ weight. weight ≡ spec.told (spec.load_of state.now walked.now.things.keys)) }
+{
+    let mut weight = Weight { things: 0, text: 0 };
+    add_globals(state, &mut weight)?;
+    for place in walked.things.as_slice() {
+        add_thing(state, ObjId(*place), &mut weight)?;
+    }
+    Ok(weight)
+}
+
+fn add_globals(state: &State, weight: &mut Weight) -> Result<(), OutOfMemory>
+    ensures { OnOk result (spec.Adds weight.old weight.new (spec.props_load (things.globals_of state.now))) }
+{
+    let mut place = 0;
+    while let Some((name, property)) = state.own_at(WINDOW, place) {
+        weight.add_global(name, property);
+        place = further(place, 1)?;
+    }
+    Ok(())
+}
+
+fn add_thing(state: &State, at: ObjId, weight: &mut Weight) -> Result<(), OutOfMemory>
+    ensures { OnOk result (spec.Adds weight.old weight.new (spec.thing_load state.now (object_at state.now.heap.objects at.0))) }
+{
+    weight.add(1, 0);
+    add_class(state, at, weight)?;
+    add_properties(state, at, has_made_length(state.class(at)), weight)?;
+    Ok(())
+}
+
+fn has_made_length(class: &Class) -> bool
+    ensures { result ≡ spec.has_made_length class.now }
+{
+    match class {
+        Class::Page { .. } | Class::Bound { .. } => true,
+        Class::Plain
+        | Class::List
+        | Class::Native(_)
+        | Class::Fault
+        | Class::Math
+        | Class::Window
+        | Class::Node(_)
+        | Class::Event(_) => false,
+    }
+}
+
+fn add_properties(
+    state: &State,
+    at: ObjId,
+    made: bool,
+    weight: &mut Weight,
+) -> Result<(), OutOfMemory>
+    ensures { OnOk result (spec.Adds weight.old weight.new
+        (spec.props_load (spec.written made (object_at state.now.heap.objects at.0).props))) }
+{
+    let mut place = 0;
+    while let Some((name, property)) = state.own_at(at, place) {
+        weight.add_written(made, name, property);
+        place = further(place, 1)?;
+    }
+    Ok(())
+}
+
+fn add_class(state: &State, at: ObjId, weight: &mut Weight) -> Result<(), OutOfMemory>
+    ensures { OnOk result (spec.Adds weight.old weight.new (spec.class_load state.now (class_at state.now at))) }
+{
+    match state.class(at) {
+        Class::Page { code, env } => add_function(state, code, *env, weight),
+        Class::Bound { this, args, .. } => {
+            weight.add_bound(this, args.as_slice());
+            Ok(())
+        }
+        Class::Plain
+        | Class::List
+        | Class::Native(_)
+        | Class::Fault
+        | Class::Math
+        | Class::Window
+        | Class::Node(_)
+        | Class::Event(_) => Ok(()),
+    }
+}
+
+// The printed code of a function, and its needed variables.
+fn add_function(
+    state: &State,
+    code: &FunctionCode,
+    env: Option<EnvId>,
+    weight: &mut Weight,
+) -> Result<(), OutOfMemory>
+    ensures { OnOk result (spec.Adds weight.old weight.new
+        (spec.together (spec.code_load code.now) (spec.needs_load (things.needs_of state.now env code.now)))) }
+{
+    let text = printed(state.alloc(), code)?;
+    weight.add_bytes(text.len() as u64);
+    let needs = needs_of(state, code, env)?;
+    weight.add_needs(needs.as_slice());
+    Ok(())
+}
+
+/// The text of a function as an expression, with its name where it is held with it (section 13).
+pub fn printed(alloc: Global, code: &FunctionCode) -> Result<Vec<u8>, OutOfMemory>
+    ensures { IfOk result (λ text. text.items ≡ code_text code.now) }
+{
+    let mut text = Vec::new(alloc);
+    if code.name().is_some() {
+        print_code(alloc, code.source(), &mut text)?;
+        return Ok(text);
+    }
+    print_unnamed(alloc, code.source(), &mut text)?;
+    Ok(text)
+}
