@@ -1,5 +1,5 @@
 -- The names that a function needs, one use after the other.
-use Rattle.std.proofs.Common.{◌≡◌, refl, ap, ℕ, Option, Some, None, List, ◌++◌}
+use Rattle.std.proofs.Common.{◌≡◌, refl, ap}
 use Rattle.js_core.specs.Tree as tree
 use Rattle.js_core.specs.Tree.{code}
 use Rattle.code_table.specs.Declarations.{unnamed}

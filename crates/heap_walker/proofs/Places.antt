@@ -1,5 +1,5 @@
 -- What is left of a list from a place on.
-use Rattle.std.proofs.Common.{◌≡◌, ◌∙◌, refl, sym, ap, ℕ, zero, suc, ◌+◌, ◌-◌, ◌≤◌, ◌<◌, arith, drop, take, get_or, length, List, [], ◌∷◌, Option, Some, None}
+use Rattle.std.proofs.Common.{◌≡◌, ◌∙◌, refl, sym, ap, ℕ, zero, suc, ◌+◌, ◌-◌, ◌≤◌, ◌<◌, arith, drop, take, get_or, length, List, [], ◌∷◌, Some, None}
 use Rattle.std.specs.Prelude.{slice_get}
 use Rattle.std.proofs.Math.Seq.{drop-cons, take-length}
 use Rattle.std.proofs.lemmas.Option.{get_or_from_slice_get, slice_get_within}
@@ -30,3 +30,9 @@ pub same_place : {X : Type 0} (xs : List X) (k : ℕ) (d e : X) → k < length x
 same_place [] k d e h = absurd (omega arith)
 same_place (x ∷ xs) zero d e h = refl
 same_place (x ∷ xs) (suc k) d e h = same_place xs k d e (omega (arith, h))
+
+-- what is left from a place on, where the one there is read from an equal list
+pub place_of_equal : {X : Type 0} (xs ys : List X) (k : ℕ) (d : X) → ys ≡ xs → k < length xs → drop k xs ≡ get_or ys k d ∷ drop (k + 1) xs
+place_of_equal xs ys k d same inside =
+    let next : suc k ≡ k + 1 = omega arith in
+    drop-cons xs k d inside ∙ ap (λ n. get_or xs k d ∷ drop n xs) next ∙ ap (λ l. get_or l k d ∷ drop (k + 1) xs) (sym same)

@@ -1,5 +1,5 @@
 -- How a walk goes on, and that there is one.
-use Rattle.std.proofs.Common.{◌≡◌, ◌⊎◌, inl, inr, refl, sym, ap, subst, ◌∙◌, ℕ, zero, suc, ◌+◌, ◌≤◌, ◌<◌, Bool, true, false, ◌||◌, ◌&&◌, List, [], ◌∷◌, ◌++◌, length, take, drop, get_or, nat_eq, nat_cmp, arith}
+use Rattle.std.proofs.Common.{◌≡◌, ◌⊎◌, inl, inr, refl, sym, ap, subst, ◌∙◌, ℕ, suc, ◌+◌, ◌≤◌, ◌<◌, Bool, true, false, ◌||◌, ◌&&◌, List, [], ◌∷◌, length, take, drop, get_or, nat_eq, nat_cmp, arith}
 use Rattle.std.proofs.Math.Bool.{or-true}
 use Rattle.std.proofs.lemmas.Bool.{eq-eqb, eqb-true, ltb-true}
 use Rattle.std.proofs.lemmas.List.{take-append-drop, take_all}
@@ -7,16 +7,16 @@ use Rattle.std.proofs.lemmas.List.Folds.{list_any-append, list_any_at, list_any_
 use Rattle.std.proofs.lemmas.List.Sorted.{IsNonDecreasingBy-from_sort}
 use Rattle.std.proofs.lemmas.Map.Keys.{IsStrictlyIncreasing-from_distinct}
 use Rattle.std.proofs.lemmas.Map.Steps.{length-le_from_distinct_below}
-use Rattle.std.specs.List.{IsDistinct, list_any}
+use Rattle.std.specs.List.{IsDistinct}
 use Rattle.std.specs.List.Sorted.{IsSorted, IsStrictlyIncreasing}
 use Rattle.std.specs.List.{slice_index}
 use Rattle.page_meaning.specs.Store.{Store}
-use Rattle.heap_walker.specs.Things.{IsWalk, Reach, built_in_count, is_in, is_thing, link, links, root, roots}
+use Rattle.heap_walker.specs.Things.{IsWalk, Reach, is_in, is_thing, link, links, root, roots}
 use Rattle.heap_walker.specs.Walking.{IsAll, IsPart, joined}
 use Rattle.heap_walker.proofs.Places.{same_place}
 use Rattle.heap_walker.proofs.Joining.{either, in_next, joined_from, joined_gained, joined_kept, joined_places}
 
-thing_of : (s : Store) (k : ℕ) → Reach s k → is_thing s k ≡ true
+pub thing_of : (s : Store) (k : ℕ) → Reach s k → is_thing s k ≡ true
 thing_of s k (root thing found) = thing
 thing_of s k (link from thing found) = thing
 
@@ -26,7 +26,6 @@ right_of false b h = cc h
 
 -- what can be reached is there
 pub there : (s : Store) (k : ℕ) → Reach s k → k < length s.heap.objects
-unfolding is_thing
 there s k reach = ltb-true k (length s.heap.objects) (right_of _ _ (thing_of s k reach))
 
 -- no more is seen than there is

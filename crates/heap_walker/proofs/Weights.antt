@@ -1,10 +1,10 @@
 -- Weights that are joined.
-use Rattle.std.proofs.Common.{◌≡◌, refl, sym, ap, subst, ◌∙◌, ℕ, suc, ◌+◌, ◌<◌, List, ◌∷◌, drop, get_or, length, arith}
-use Rattle.std.proofs.Math.Seq.{drop-cons}
+use Rattle.std.proofs.Common.{◌≡◌, sym, ap, subst, ◌∙◌, ℕ, ◌+◌, ◌<◌, List, drop, get_or, length, arith}
 use Rattle.object_heap.specs.Chain.{object_at}
 use Rattle.page_meaning.specs.Store.{Store}
 use Rattle.heap_walker.specs.Weight.{Adds, Load, load, thing_load, things_load, together, told}
 use Rattle.heap_walker.specs.declared.weight.Weight.{Weight}
+use Rattle.heap_walker.proofs.Places.{place_of_equal}
 
 together_again : (a b c : Load) → together (together a b) c ≡ together a (together b c)
 together_again a b c =
@@ -33,6 +33,4 @@ none_together a =
 -- one of the things, and then those behind it
 pub adds_next : (s : Store) (ks xs : List ℕ) (i d : ℕ) (u v w : Weight) → xs ≡ ks → i < length ks → Adds u v (thing_load s (object_at s.heap.objects (get_or xs i d))) → Adds v w (things_load s (drop (i + 1) ks)) → Adds u w (things_load s (drop i ks))
 adds_next s ks xs i d u v w same inside one others =
-    let next : suc i ≡ i + 1 = omega arith in
-    let whole : drop i ks ≡ get_or xs i d ∷ drop (i + 1) ks = drop-cons ks i d inside ∙ ap (λ n. get_or ks i d ∷ drop n ks) next ∙ ap (λ l. get_or l i d ∷ drop (i + 1) ks) (sym same) in
-    subst (λ r. Adds u w (things_load s r)) (sym whole) (adds_both u v w (thing_load s (object_at s.heap.objects (get_or xs i d))) (things_load s (drop (i + 1) ks)) one others)
+    subst (λ r. Adds u w (things_load s r)) (sym (place_of_equal ks xs i d same inside)) (adds_both u v w (thing_load s (object_at s.heap.objects (get_or xs i d))) (things_load s (drop (i + 1) ks)) one others)

@@ -1,6 +1,6 @@
 -- What a moved page has to bring along: things, what each refers to, and what can still be reached. Later kinds of links (nodes, listeners, timers)
 -- join `links` and `roots`.
-use Rattle.std.specs.Prelude.{ℕ, Bool, List, if◌then◌else◌, [], ◌∷◌, ◌++◌, Option, Some, None, ◌&&◌, not, nat_le, nat_lt, nat_eq, map, filter, length, unwrap_or, IsTrue}
+use Rattle.std.specs.Prelude.{ℕ, Bool, List, if◌then◌else◌, [], ◌∷◌, ◌++◌, Option, Some, None, ◌&&◌, nat_le, nat_lt, nat_eq, length, unwrap_or, IsTrue}
 use Rattle.std.specs.List.{list_any}
 use Rattle.std.specs.List.Sorted.{IsStrictlyIncreasing}
 use Rattle.std.specs.Option.{option_map}
@@ -57,7 +57,7 @@ bound_values s env (x ∷ xs) = (x, bound_value s env x) ∷ bound_values s env 
 
 -- the variables that a function needs from the scopes round it
 abbrev pub needs_of : Store → Option EnvId → tree.Code → List (List ℕ × Value)
-needs_of s env code = bound_values s env (needed_variables code)
+needs_of s env c = bound_values s env (needed_variables c)
 
 abbrev pub needs_links : List (List ℕ × Value) → List ℕ
 needs_links [] = []
@@ -65,7 +65,7 @@ needs_links (n ∷ ns) = value_links n.1 ++ needs_links ns
 
 -- a function of a page refers to what its needed variables hold, a bound function to its target, its `this` and its arguments
 abbrev pub class_links : Store → Class → List ℕ
-class_links s (Page code env) = needs_links (needs_of s env code)
+class_links s (Page c env) = needs_links (needs_of s env c)
 class_links s (Bound target this args) = target.0 ∷ (value_links this ++ values_links args)
 class_links s c = []
 

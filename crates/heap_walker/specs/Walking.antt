@@ -1,5 +1,5 @@
 -- What was seen while a page is walked through.
-use Rattle.std.specs.Prelude.{◌≡◌, ℕ, Bool, List, [], ◌∷◌, nat_eq, take, IsTrue, if◌then◌else◌}
+use Rattle.std.specs.Prelude.{ℕ, List, [], ◌∷◌, nat_eq, take, IsTrue, if◌then◌else◌}
 use Rattle.indexmap.specs.IndexSet.{insert_key}
 use Rattle.page_meaning.specs.Store.{Store}
 use Rattle.heap_walker.specs.Things.{Reach, is_in, is_thing, links, roots}

@@ -1,5 +1,5 @@
 -- What a page weighs that is saved: how many things, properties, arguments and needed variables there are, and how long their texts are.
-use Rattle.std.specs.Prelude.{◌≡◌, ℕ, ◌+◌, ◌*◌, ◌^◌, ◌-◌, Bool, true, false, List, [], ◌∷◌, Option, ◌&&◌, not, min, length, bytes_eq, if◌then◌else◌}
+use Rattle.std.specs.Prelude.{◌≡◌, ℕ, ◌+◌, ◌*◌, ◌^◌, ◌-◌, Bool, true, false, List, [], ◌∷◌, ◌&&◌, min, length, bytes_eq, if◌then◌else◌}
 use Rattle.js_core.specs.Tree as tree
 use Rattle.js_print.specs.Printing.{code_text}
 use Rattle.js_values.specs.declared.value.Value.{Value}
@@ -10,7 +10,6 @@ use Rattle.object_heap.specs.Object.{Object}
 use Rattle.object_heap.specs.Property.{Props}
 use Rattle.object_heap.specs.declared.object.Class.{Class}
 use Rattle.object_heap.specs.declared.object.Class.TheVariants.{Bound, Page}
-use Rattle.object_heap.specs.declared.property.Prop.{Prop}
 use Rattle.page_meaning.specs.Store.{Store}
 use Rattle.heap_walker.specs.Things.{IsWalk, globals_of, needs_of}
 use Rattle.heap_walker.specs.declared.weight.Weight.{Weight}
@@ -61,17 +60,17 @@ arguments_load (v ∷ vs) = together (argument_load v) (arguments_load vs)
 
 -- the printed code of a function
 abbrev pub code_load : tree.Code → Load
-code_load code = load 0 (length (code_text code))
+code_load c = load 0 (length (code_text c))
 
 -- what an object is besides its properties
 abbrev pub class_load : Store → Class → Load
-class_load s (Page code env) = together (code_load code) (needs_load (needs_of s env code))
+class_load s (Page c env) = together (code_load c) (needs_load (needs_of s env c))
 class_load s (Bound target this args) = together (value_load this) (arguments_load args)
 class_load s c = load 0 0
 
 -- the `length` of these is not written
 abbrev pub has_made_length : Class → Bool
-has_made_length (Page code env) = true
+has_made_length (Page c env) = true
 has_made_length (Bound target this args) = true
 has_made_length c = false
 

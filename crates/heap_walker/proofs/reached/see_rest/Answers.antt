@@ -1,4 +1,4 @@
-use Rattle.std.proofs.Common.{◌≡◌, ◌<◌, length, arith}
+use Rattle.std.proofs.Common.{arith}
 use Rattle.heap_walker.proofs.Walks.{not_more, part_ends, part_goes_on_from}
 use Rattle.heap_walker.proofs.reached.see_rest.Goals as goal
 

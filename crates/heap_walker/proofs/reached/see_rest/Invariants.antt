@@ -1,4 +1,4 @@
-use Rattle.std.proofs.Common.{◌≡◌, ◌-◌, ◌≤◌, length}
+use Rattle.std.proofs.Common.{◌-◌, length}
 use Rattle.heap_walker.specs.Walking.{IsPart}
 use Rattle.heap_walker.proofs.reached.see_rest.Given as goal
 

@@ -1,4 +1,4 @@
-use Rattle.std.proofs.Common.{◌≡◌, ◌∙◌, [], sym, ap, subst}
+use Rattle.std.proofs.Common.{◌∙◌, sym, ap, subst}
 use Rattle.heap_walker.specs.Things.{roots}
 use Rattle.heap_walker.specs.Walking.{IsPart, joined}
 use Rattle.heap_walker.proofs.Walks.{part_begins, walk_of}

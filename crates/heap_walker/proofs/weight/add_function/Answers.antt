@@ -1,4 +1,4 @@
-use Rattle.std.proofs.Common.{◌≡◌, ◌∙◌, subst, ap, length}
+use Rattle.std.proofs.Common.{◌∙◌, subst, ap, length}
 use Rattle.heap_walker.specs.Weight.{Adds, code_load, load, needs_load}
 use Rattle.heap_walker.proofs.Weights.{adds_both}
 use Rattle.heap_walker.proofs.weight.add_function.Goals as goal

@@ -1,4 +1,4 @@
-use Rattle.std.proofs.Common.{◌≡◌, ◌∙◌, sym, subst, ap}
+use Rattle.std.proofs.Common.{◌∙◌, subst, ap}
 use Rattle.object_heap.specs.Chain.{object_at}
 use Rattle.page_meaning.specs.Properties.{class_at}
 use Rattle.heap_walker.specs.Weight.{Adds, class_load, has_made_length, load, props_load, written, written_of}

@@ -1,4 +1,4 @@
-use Rattle.std.proofs.Common.{◌≡◌, ◌∙◌, ◌<◌, ◌≤◌, sym, subst, ap, length, refl}
+use Rattle.std.proofs.Common.{◌∙◌, ◌<◌, ◌≤◌, sym, subst, ap, length, refl}
 use Rattle.std.proofs.lemmas.Option.{slice_get_past}
 use Rattle.heap_walker.specs.Things.{globals_of}
 use Rattle.heap_walker.specs.Weight.{Adds, load, load_of, props_load, things_load, told}

@@ -1,4 +1,4 @@
-use Rattle.std.proofs.Common.{◌≡◌, sym, subst, arith}
+use Rattle.std.proofs.Common.{sym, subst, arith}
 use Rattle.std.proofs.lemmas.Grind.{common_steps}
 use Rattle.heap_walker.specs.Weight.{Adds, named_load, needs_load}
 use Rattle.heap_walker.proofs.Places.{next_of, none_of}

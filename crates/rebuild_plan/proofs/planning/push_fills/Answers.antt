@@ -1,0 +1,15 @@
+use Rattle.std.proofs.Common.{◌∙◌, refl, arith}
+use Rattle.rebuild_plan.specs.Plan.{fills, fill, thing_place}
+use Rattle.rebuild_plan.proofs.Numbered.{next_thing, no_thing}
+use Rattle.rebuild_plan.proofs.planning.push_fills.Goals as goal
+
+pub loop-number-preserved : goal.loop-number-preserved
+loop-number-preserved c =
+    let things = c.args.walked.now.things.keys in
+    next_thing fills (λ n t. fill (thing_place n) t) (λ n t ts. refl) c.args.state.now things c.as_slice.result.now c.loop-number.number _ c.loop-number.plan.items c.push_fill.new.plan.items c.as_slice.ensures.keys
+    (omega (arith, c.len-number-end.ensures.len, c.loop-number-test.true)) c.in_ok-push_fill.ensures
+    ∙ c.loop-number.invariant
+
+pub returns : goal.returns
+returns c =
+    no_thing fills (λ n. refl) c.args.state.now c.args.walked.now.things.keys c.loop-number.number c.loop-number.plan.items (omega (arith, c.len-number-end.ensures.len, c.loop-number-test.false)) ∙ c.loop-number.invariant

@@ -1,0 +1,3 @@
+pub mod Compact
+pub mod Plan
+pub mod Stands

@@ -1,0 +1,9 @@
+//! What holds of plans.
+
+ghost use Rattle.rebuild_plan.specs.Stands.{PlansStand};
+
+/// The plan of a page at rest makes the things in the order of their numbers, and each of its statements names only what already
+/// stands.
+pub fn law_plans_stand()
+    ensures { PlansStand }
+{}
