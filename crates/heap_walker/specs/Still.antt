@@ -1,6 +1,6 @@
 -- A page at rest: what holds between two events of a form page, as saving needs it, of the whole list of objects. Later parts of the host (nodes,
 -- events, timers) join here.
-use Rattle.std.specs.Prelude.{◌≡◌, ℕ, ◌+◌, ◌<◌, ◌≤◌, Bool, true, false, not, nat_lt, List, ◌∷◌, ◌++◌, Option, Some, None, is_some, length, map, filter, IsTrue, ⊤}
+use Rattle.std.specs.Prelude.{◌≡◌, ℕ, ◌+◌, ◌-◌, ◌<◌, ◌≤◌, Bool, true, false, not, nat_lt, List, ◌∷◌, ◌++◌, Option, Some, None, is_some, length, map, filter, IsTrue, ⊤}
 use Rattle.std.specs.List.{list_all}
 use Rattle.code_table.specs.Declarations.{formals_of, name_of}
 use Rattle.js_core.specs.GlobalNames.{names_global}
@@ -22,6 +22,7 @@ use Rattle.object_heap.specs.Property.{Props, fixed}
 use Rattle.object_heap.specs.declared.object.Class.{Class}
 use Rattle.object_heap.specs.declared.object.Class.TheVariants as class
 use Rattle.object_heap.specs.declared.property.Prop.{Prop}
+use Rattle.page_meaning.specs.Elements.{length_of}
 use Rattle.page_meaning.specs.Places.{array_prototype, error_prototype, function_prototype, window}
 use Rattle.page_meaning.specs.Pristine.{pristine}
 use Rattle.page_meaning.specs.Properties.{class_at, is_function}
@@ -94,10 +95,10 @@ pub record HasLength (props : Props) : Type 0 where
   pub others : Props
   pub are : props ≡ (length_name, made_property (number count) writable) ∷ others
 
-pub record HasFixedLength (props : Props) : Type 0 where
-  pub count : ℕ
+-- that of a bound function has the formals that are left of its target's (15.3.4.5)
+pub record HasBoundLength (formals bound : ℕ) (props : Props) : Type 0 where
   pub others : Props
-  pub are : props ≡ (length_name, fixed (number count)) ∷ others
+  pub are : props ≡ (length_name, fixed (number (formals - bound))) ∷ others
 
 pub record IsErrorPrototype (proto : Option ObjId) : Type 0 where
   pub kind : ErrorKind
@@ -109,7 +110,7 @@ IsMadeAs s k o class.Plain = ⊤
 IsMadeAs s k o class.List = (o.proto ≡ Some array_prototype) × HasLength o.props
 IsMadeAs s k o class.Fault = IsErrorPrototype o.proto
 IsMadeAs s k o (class.Page c env) = (o.proto ≡ Some function_prototype) × HasFunctionProps (length (formals_of c)) o.props × IsFunctionAtRest s k c env
-IsMadeAs s k o (class.Bound target this args) = (o.proto ≡ Some function_prototype) × HasFixedLength o.props × IsTrue (is_function (Some (class_at s target)))
+IsMadeAs s k o (class.Bound target this args) = (o.proto ≡ Some function_prototype) × HasBoundLength (length_of target s) (length args) o.props × IsTrue (is_function (Some (class_at s target)))
 -- no other object is made by scripts yet
 IsMadeAs s k o c = ⊥
 

@@ -32,7 +32,8 @@ fn see(state: &State, at: ObjId, seen: &mut IndexSet<u64>) -> Result<(), OutOfMe
 }
 
 fn see_value(state: &State, value: &Value, seen: &mut IndexSet<u64>) -> Result<(), OutOfMemory>
-    ensures { OnOk result (seen.new.keys ≡ joined state.now seen.old.keys (spec.value_links value.now)) }
+    ensures { OnOk result (seen.new.keys
+        ≡ joined state.now seen.old.keys (spec.value_links value.now)) }
 {
     match value {
         Value::Object(at) => see(state, *at, seen),
@@ -41,7 +42,8 @@ fn see_value(state: &State, value: &Value, seen: &mut IndexSet<u64>) -> Result<(
 }
 
 fn see_values(state: &State, values: &[Value], seen: &mut IndexSet<u64>) -> Result<(), OutOfMemory>
-    ensures { OnOk result (seen.new.keys ≡ joined state.now seen.old.keys (spec.values_links values.now)) }
+    ensures { OnOk result (seen.new.keys
+        ≡ joined state.now seen.old.keys (spec.values_links values.now)) }
 {
     let mut rest = values;
     while let [value, after @ ..] = rest {
@@ -79,7 +81,8 @@ fn see_needs(
     needs: &[(Units, Value)],
     seen: &mut IndexSet<u64>,
 ) -> Result<(), OutOfMemory>
-    ensures { OnOk result (seen.new.keys ≡ joined state.now seen.old.keys (spec.needs_links needs.now)) }
+    ensures { OnOk result (seen.new.keys
+        ≡ joined state.now seen.old.keys (spec.needs_links needs.now)) }
 {
     let mut rest = needs;
     while let [need, after @ ..] = rest {
@@ -142,7 +145,8 @@ fn see_class(state: &State, at: ObjId, seen: &mut IndexSet<u64>) -> Result<(), O
 /// All that an object refers to is seen, as far as it is a thing.
 #[tactic(auto, using(crate::proofs::Joining::joined_both))]
 pub fn see_links(state: &State, at: ObjId, seen: &mut IndexSet<u64>) -> Result<(), OutOfMemory>
-    ensures { OnOk result (seen.new.keys ≡ joined state.now seen.old.keys (spec.links state.now at.0)) }
+    ensures { OnOk result (seen.new.keys
+        ≡ joined state.now seen.old.keys (spec.links state.now at.0)) }
 {
     see_proto(state, at, seen)?;
     see_class(state, at, seen)?;
@@ -151,7 +155,8 @@ pub fn see_links(state: &State, at: ObjId, seen: &mut IndexSet<u64>) -> Result<(
 
 /// What globals refer to is seen, as far as it is a thing.
 pub fn see_globals(state: &State, seen: &mut IndexSet<u64>) -> Result<(), OutOfMemory>
-    ensures { OnOk result (seen.new.keys ≡ joined state.now seen.old.keys (spec.roots state.now)) }
+    ensures { OnOk result (seen.new.keys
+        ≡ joined state.now seen.old.keys (spec.roots state.now)) }
 {
     let mut place = 0;
     while let Some((name, property)) = state.own_at(WINDOW, place) {
@@ -169,8 +174,10 @@ fn see_global(
     property: &Prop,
     seen: &mut IndexSet<u64>,
 ) -> Result<(), OutOfMemory>
-    ensures { (others : Props) → OnOk result (joined state.now seen.new.keys (spec.props_links (spec.globals others))
-        ≡ joined state.now seen.old.keys (spec.props_links (spec.globals ((name.now, property.now) ∷ others)))) }
+    ensures { (others : Props) → OnOk result
+        (joined state.now seen.new.keys (spec.props_links (spec.globals others))
+        ≡ joined state.now seen.old.keys
+        (spec.props_links (spec.globals ((name.now, property.now) ∷ others)))) }
 {
     if is_global_name(name) {
         return Ok(());

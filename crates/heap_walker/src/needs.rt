@@ -118,7 +118,8 @@ fn needed_names(alloc: Global, code: &FunctionCode) -> Result<IndexSet<Units>, O
 
 // A table of the names that the function binds, its own among them where it is held with it.
 fn bound_round(alloc: Global, code: &FunctionCode) -> Result<IndexSet<Units>, OutOfMemory>
-    ensures { IfOk result (λ table. (x : List ℕ) → contains bytes_eq table x ≡ is_among x (maybe_name (name_of code.now) ++ bound_names code.now)) }
+    ensures { IfOk result (λ table. (x : List ℕ) → contains bytes_eq table x
+        ≡ is_among x (maybe_name (name_of code.now) ++ bound_names code.now)) }
 {
     let own = match code.name() {
         Some(name) => Some(name.clone()?),
@@ -133,8 +134,9 @@ fn push_needed(
     bound: &IndexSet<Units>,
     names: &mut IndexSet<Units>,
 ) -> Result<(), OutOfMemory>
-    ensures { (xs : List (List ℕ)) → ((x : List ℕ) → contains bytes_eq bound.now x ≡ is_among x xs) →
-        OnOk result (names.new.keys ≡ insert_all bytes_eq names.old.keys (needed_among xs uses.now)) }
+    ensures { (xs : List (List ℕ)) →
+        ((x : List ℕ) → contains bytes_eq bound.now x ≡ is_among x xs) → OnOk result
+        (names.new.keys ≡ insert_all bytes_eq names.old.keys (needed_among xs uses.now)) }
 {
     let mut rest = uses;
     while let [used, after @ ..] = rest {

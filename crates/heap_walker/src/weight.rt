@@ -52,8 +52,9 @@ impl Weight {
 
     // A property of the global object, if it is not built in; others can follow.
     fn add_global(&mut self, name: &Units, property: &Prop)
-        ensures { (others : Props) (w : Pure) → spec.Adds self.new w (spec.props_load (things.globals others)) →
-            spec.Adds self.old w (spec.props_load (things.globals ((name.now, property.now) ∷ others))) }
+        ensures { (others : Props) (w : Pure) →
+            spec.Adds self.new w (spec.props_load (things.globals others)) → spec.Adds self.old w
+            (spec.props_load (things.globals ((name.now, property.now) ∷ others))) }
     {
         if is_global_name(name) {
             return;
@@ -63,8 +64,10 @@ impl Weight {
 
     // A property of a thing, if it is written; others can follow.
     fn add_written(&mut self, made: bool, name: &Units, property: &Prop)
-        ensures { (others : Props) (w : Pure) → spec.Adds self.new w (spec.props_load (spec.written made others)) →
-            spec.Adds self.old w (spec.props_load (spec.written made ((name.now, property.now) ∷ others))) }
+        ensures { (others : Props) (w : Pure) →
+            spec.Adds self.new w (spec.props_load (spec.written made others)) →
+            spec.Adds self.old w
+            (spec.props_load (spec.written made ((name.now, property.now) ∷ others))) }
     {
         if is_made_length(made, name) {
             return;
@@ -85,7 +88,8 @@ impl Weight {
 
     // What a bound function binds besides its target.
     fn add_bound(&mut self, this: &Value, args: &[Value])
-        ensures { spec.Adds self.old self.new (spec.together (spec.value_load this.now) (spec.arguments_load args.now)) }
+        ensures { spec.Adds self.old self.new
+            (spec.together (spec.value_load this.now) (spec.arguments_load args.now)) }
     {
         self.add_value(this);
         self.add_arguments(args);
@@ -156,7 +160,8 @@ pub fn weigh(state: &State) -> Result<Weight, OutOfMemory>
 
 /// What the things that were walked weigh, with the globals.
 pub fn weight_of(state: &State, walked: &Walked) -> Result<Weight, OutOfMemory>
-    ensures { IfOk result (λ weight. weight ≡ spec.told (spec.load_of state.now walked.now.things.keys)) }
+    ensures { IfOk result (λ weight.
+        weight ≡ spec.told (spec.load_of state.now walked.now.things.keys)) }
 {
     let mut weight = Weight { things: 0, text: 0 };
     add_globals(state, &mut weight)?;
@@ -167,7 +172,8 @@ pub fn weight_of(state: &State, walked: &Walked) -> Result<Weight, OutOfMemory>
 }
 
 fn add_globals(state: &State, weight: &mut Weight) -> Result<(), OutOfMemory>
-    ensures { OnOk result (spec.Adds weight.old weight.new (spec.props_load (things.globals_of state.now))) }
+    ensures { OnOk result (spec.Adds weight.old weight.new
+        (spec.props_load (things.globals_of state.now))) }
 {
     let mut place = 0;
     while let Some((name, property)) = state.own_at(WINDOW, place) {
@@ -178,7 +184,8 @@ fn add_globals(state: &State, weight: &mut Weight) -> Result<(), OutOfMemory>
 }
 
 fn add_thing(state: &State, at: ObjId, weight: &mut Weight) -> Result<(), OutOfMemory>
-    ensures { OnOk result (spec.Adds weight.old weight.new (spec.thing_load state.now (object_at state.now.heap.objects at.0))) }
+    ensures { OnOk result (spec.Adds weight.old weight.new
+        (spec.thing_load state.now (object_at state.now.heap.objects at.0))) }
 {
     weight.add(1, 0);
     add_class(state, at, weight)?;
@@ -220,7 +227,8 @@ fn add_properties(
 }
 
 fn add_class(state: &State, at: ObjId, weight: &mut Weight) -> Result<(), OutOfMemory>
-    ensures { OnOk result (spec.Adds weight.old weight.new (spec.class_load state.now (class_at state.now at))) }
+    ensures { OnOk result (spec.Adds weight.old weight.new
+        (spec.class_load state.now (class_at state.now at))) }
 {
     match state.class(at) {
         Class::Page { code, env } => add_function(state, code, *env, weight),
@@ -247,7 +255,8 @@ fn add_function(
     weight: &mut Weight,
 ) -> Result<(), OutOfMemory>
     ensures { OnOk result (spec.Adds weight.old weight.new
-        (spec.together (spec.code_load code.now) (spec.needs_load (things.needs_of state.now env code.now)))) }
+        (spec.together (spec.code_load code.now)
+        (spec.needs_load (things.needs_of state.now env code.now)))) }
 {
     let text = printed(state.alloc(), code)?;
     weight.add_bytes(text.len() as u64);

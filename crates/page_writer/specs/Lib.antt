@@ -1,3 +1,5 @@
+pub mod Dotted
 pub mod Page
-pub mod Statements
+pub mod Putting
 pub mod Sizes
+pub mod Statements

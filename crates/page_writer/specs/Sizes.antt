@@ -27,8 +27,8 @@ pub data Judged (w : Weight) (old new : SinkSeen) (page : List ℕ) : Result (Un
   long : w.things ≤ things_limit → text_limit < w.text → new ≡ old → Judged w old new page (Err (TooLong w))
   -- a front of the page was put
   fault : w.things ≤ things_limit → w.text ≤ text_limit → TakesFront old.taken new.taken page → Rose old.faults new.faults → Judged w old new page (Err WriteFault)
-  -- want of memory, after a front of the page or nothing
-  memory : TakesFront old.taken new.taken page → Judged w old new page (Err OutOfMemory)
+  -- want of memory, after a front of the page or nothing; of a page that is too large nothing was put
+  memory : (things_limit < w.things → new ≡ old) → (text_limit < w.text → new ≡ old) → TakesFront old.taken new.taken page → Judged w old new page (Err OutOfMemory)
 
 -- the answer of saving, by what can be reached
 abbrev pub IsSaved : Store → SinkSeen → SinkSeen → Result (Unit {0}) SaveFault → Type 0

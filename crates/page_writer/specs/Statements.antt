@@ -1,5 +1,5 @@
 -- The statements of a saved page as trees (ECMA-262 5.1 sections 11 and 12).
-use Rattle.std.specs.Prelude.{ℕ, ℤ, pos, nat_abs, ◌-◌, Bool, true, false, List, [], ◌∷◌, Option, Some, None, codes}
+use Rattle.std.specs.Prelude.{ℕ, ℤ, pos, nat_abs, ◌-◌, Bool, List, [], ◌∷◌, Option, Some, None, codes}
 use Rattle.built_in_paths.specs.Paths.{names_of, path_of}
 use Rattle.heap_walker.specs.Things.{built_in_count}
 use Rattle.js_core.specs.Tree as tree
@@ -78,11 +78,17 @@ abbrev pub need_exprs : List (List ℕ × Value) → tree.Exprs
 need_exprs [] = no_exprs
 need_exprs (n ∷ ns) = then_expr (value_expr n.1) (need_exprs ns)
 
+-- the body that gives a function, and the function of the needed variables that has it
+abbrev pub giving : tree.Code → tree.Stmts
+giving c = then_stmt (return (one_expr (func c))) no_stmts
+
+abbrev pub binder : tree.Code → List (List ℕ × Value) → tree.Code
+binder c needs = code None (need_names needs) (giving c)
+
 -- a function, in a call of one that binds its needed variables, where it has some
 abbrev pub function_expr : tree.Code → List (List ℕ × Value) → tree.Expr
 function_expr c [] = func c
-function_expr c (n ∷ ns) =
-    call (func (code None (need_names (n ∷ ns)) (then_stmt (return (one_expr (func c))) no_stmts))) (need_exprs (n ∷ ns))
+function_expr c (n ∷ ns) = call (func (binder c (n ∷ ns))) (need_exprs (n ∷ ns))
 
 abbrev pub maker_expr : Maker → tree.Expr
 maker_expr (made.Plain proto) = call (object_function (codes "create")) (then_expr (proto_expr proto) no_exprs)

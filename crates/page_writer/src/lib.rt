@@ -1,7 +1,13 @@
 //! The text of a saved page.
 #![tactic(auto)]
 
-pub mod limits;
+mod limits;
+mod makers;
+mod references;
 mod save_fault;
+mod statements;
+mod values;
+mod writing;
 
 pub use save_fault::SaveFault;
+pub use writing::write_state;

@@ -80,6 +80,12 @@ maker_as s things proto c = Plain (moved_proto things proto)
 abbrev pub maker_of : Store → List ℕ → Object → Maker
 maker_of s things o = maker_as s things o.proto o.class
 
+abbrev pub maker_at : Store → List ℕ → ℕ → Maker
+maker_at s things k = maker_of s things (object_at s.heap.objects k)
+
+abbrev pub props_at : Store → List ℕ → ℕ → Props
+props_at s things k = moved_props things (object_at s.heap.objects k).props
+
 -- ---- the page
 
 pub record Thing : Type 0 where

@@ -24,12 +24,13 @@ use js_values::ids::{EnvId, ObjId};
 use js_values::throw::ErrorKind;
 use object_heap::object::Class;
 use object_heap::property::Prop;
-use page_state::{State, WINDOW, further};
+use page_state::{State, WINDOW, error_prototype, further};
 
 /// The statements that rebuild a page, of which these are the things that can be reached. The work and the memory are in proportion to
 /// what the things hold.
 pub fn plan(state: &State, walked: &Walked) -> Result<Vec<Rebuild>, OutOfMemory>
-    ensures { IfOk result (λ plan. plan.items ≡ spec.plan (saved.compact state.now walked.now.things.keys)) }
+    ensures { IfOk result (λ plan.
+        plan.items ≡ spec.plan (saved.compact state.now walked.now.things.keys)) }
 {
     let mut plan = Vec::new(state.alloc());
     push_makes(state, walked, &mut plan)?;
@@ -56,8 +57,7 @@ fn push_makes(state: &State, walked: &Walked, plan: &mut Vec<Rebuild>) -> Result
 
 // What makes an object.
 fn maker_of(state: &State, walked: &Walked, at: ObjId) -> Result<Maker, OutOfMemory>
-    ensures { IfOk result (λ m. m ≡ saved.maker_of state.now walked.now.things.keys
-        (object_at state.now.heap.objects at.0)) }
+    ensures { IfOk result (λ m. m ≡ saved.maker_at state.now walked.now.things.keys at.0) }
 {
     match state.class(at) {
         Class::List => Ok(Maker::List),
@@ -95,15 +95,26 @@ fn function_maker(
 }
 
 // The kind of errors with this prototype.
-#[tactic(auto, unfolding(page_meaning::specs::Places::type_error_prototype_place, page_meaning::specs::Places::range_error_prototype_place, page_meaning::specs::Places::reference_error_prototype_place))]
 fn kind_of(proto: Option<ObjId>) -> ErrorKind
     ensures { result ≡ saved.kind_of proto }
 {
     match proto {
-        Some(ObjId(85)) => ErrorKind::Type,
-        Some(ObjId(87)) => ErrorKind::Range,
-        Some(ObjId(89)) => ErrorKind::Reference,
-        _ => ErrorKind::Plain,
+        Some(at) => kind_at(at),
+        None => ErrorKind::Plain,
+    }
+}
+
+fn kind_at(at: ObjId) -> ErrorKind
+    ensures { result ≡ saved.kind_at at.0 }
+{
+    if at == error_prototype(ErrorKind::Type) {
+        ErrorKind::Type
+    } else if at == error_prototype(ErrorKind::Range) {
+        ErrorKind::Range
+    } else if at == error_prototype(ErrorKind::Reference) {
+        ErrorKind::Reference
+    } else {
+        ErrorKind::Plain
     }
 }
 
@@ -128,7 +139,8 @@ fn push_global(
     plan: &mut Vec<Rebuild>,
 ) -> Result<(), OutOfMemory>
     ensures { (others : Props) → OnOk result
-        (plan.new.items ++ spec.defines false false window (saved.moved_props walked.now.things.keys (globals others))
+        (plan.new.items ++ spec.defines false false window
+        (saved.moved_props walked.now.things.keys (globals others))
         ≡ plan.old.items ++ spec.defines false false window
         (saved.moved_props walked.now.things.keys (globals ((name.now, prop.now) ∷ others)))) }
 {
@@ -189,9 +201,9 @@ fn push_properties(
     plan: &mut Vec<Rebuild>,
 ) -> Result<(), OutOfMemory>
     ensures { OnOk result (plan.new.items ≡ plan.old.items ++ spec.defines
-        (spec.has_length (saved.maker_of state.now walked.now.things.keys (object_at state.now.heap.objects at.0)))
-        (spec.has_prototype (saved.maker_of state.now walked.now.things.keys (object_at state.now.heap.objects at.0)))
-        place (saved.moved_props walked.now.things.keys (object_at state.now.heap.objects at.0).props)) }
+        (spec.has_length (saved.maker_at state.now walked.now.things.keys at.0))
+        (spec.has_prototype (saved.maker_at state.now walked.now.things.keys at.0))
+        place (saved.props_at state.now walked.now.things.keys at.0)) }
 {
     let length = has_length(state.class(at));
     let prototype = has_prototype(state.class(at));
@@ -205,7 +217,8 @@ fn push_properties(
 
 // Whether an object of the class is made with a `length`.
 fn has_length(class: &Class) -> bool
-    ensures { (s : Store) (things : List ℕ) (proto : Option Id) → result ≡ spec.has_length (saved.maker_as s things proto class.now) }
+    ensures { (s : Store) (things : List ℕ) (proto : Option Id) →
+        result ≡ spec.has_length (saved.maker_as s things proto class.now) }
 {
     match class {
         Class::List | Class::Page { .. } | Class::Bound { .. } => true,
@@ -221,7 +234,8 @@ fn has_length(class: &Class) -> bool
 
 // Whether an object of the class is made with a `prototype`.
 fn has_prototype(class: &Class) -> bool
-    ensures { (s : Store) (things : List ℕ) (proto : Option Id) → result ≡ spec.has_prototype (saved.maker_as s things proto class.now) }
+    ensures { (s : Store) (things : List ℕ) (proto : Option Id) →
+        result ≡ spec.has_prototype (saved.maker_as s things proto class.now) }
 {
     match class {
         Class::Page { .. } => true,
@@ -247,7 +261,8 @@ fn push_property(
     prop: &Prop,
     plan: &mut Vec<Rebuild>,
 ) -> Result<(), OutOfMemory>
-    ensures { OnOk result (plan.new.items ≡ plan.old.items ++ spec.define length prototype place name.now
+    ensures { OnOk result (plan.new.items
+        ≡ plan.old.items ++ spec.define length prototype place name.now
         (saved.moved_prop walked.now.things.keys prop.now)) }
 {
     if length && name.spells(b"length") {
@@ -279,8 +294,8 @@ fn push_length(
     plan: &mut Vec<Rebuild>,
 ) -> Result<(), OutOfMemory>
     ensures { OnOk result (plan.new.items ≡ plan.old.items ++ spec.define_length
-        (saved.maker_of state.now walked.now.things.keys (object_at state.now.heap.objects at.0)) place
-        (own_property (saved.moved_props walked.now.things.keys (object_at state.now.heap.objects at.0).props) length_name)) }
+        (saved.maker_at state.now walked.now.things.keys at.0) place
+        (own_property (saved.props_at state.now walked.now.things.keys at.0) length_name)) }
 {
     if !state.class(at).is_list() {
         return Ok(());
@@ -330,7 +345,8 @@ fn push_prevent(
     number: usize,
     plan: &mut Vec<Rebuild>,
 ) -> Result<(), OutOfMemory>
-    ensures { OnOk result (plan.new.items ≡ plan.old.items ++ spec.prevent (spec.thing_place number)
+    ensures { OnOk result (plan.new.items
+        ≡ plan.old.items ++ spec.prevent (spec.thing_place number)
         (saved.thing_of state.now walked.now.things.keys (object_at state.now.heap.objects at.0))) }
 {
     if !state.is_extensible(at) {

@@ -1,5 +1,5 @@
 use Rattle.built_in_paths.specs.Paths.{paths}
-use Rattle.built_in_paths.proofs.path.path.Goals as goal
+use Rattle.built_in_paths.proofs.table.path.Goals as goal
 
 pub returns : goal.returns
 unfolding paths

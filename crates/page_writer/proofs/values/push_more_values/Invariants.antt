@@ -1,0 +1,10 @@
+use Rattle.std.proofs.Common.{◌≡◌, ◌++◌, length}
+use Rattle.js_print.specs.Lexemes.{more_parts_lexemes}
+use Rattle.page_writer.specs.Statements.{value_exprs}
+use Rattle.page_writer.proofs.values.push_more_values.Given as goal
+
+abbrev pub invariant-loop-rest : goal.invariant-loop-rest
+invariant-loop-rest l = l.out.items ++ more_parts_lexemes (value_exprs l.rest) ≡ l.fn.out.items ++ more_parts_lexemes (value_exprs l.values)
+
+abbrev pub decreases-loop-rest : goal.decreases-loop-rest
+decreases-loop-rest l = length l.rest

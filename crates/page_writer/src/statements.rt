@@ -1,0 +1,191 @@
+//! The lexemes of the statements of a saved page.
+
+ghost use Rattle.std.specs.Prelude.{◌≡◌, ◌∷◌, [], ◌++◌, OnOk, codes};
+ghost use Rattle.js_core.specs.declared.token.Punct.TheVariants as punct;
+ghost use Rattle.js_print.specs.Lexemes.{boolean_lexeme, expr_lexemes, stmt_lexemes};
+ghost use Rattle.js_print.specs.Places.{placed};
+ghost use Rattle.js_print.specs.declared.lexeme.Lexeme.TheVariants as lexeme;
+ghost use Rattle.js_print.specs.declared.place.Place.TheVariants.{Part};
+ghost use Rattle.page_writer.specs.Statements as spec;
+ghost use Rattle.rebuild_plan.specs.declared.statement.Rebuild.TheVariants as rebuild;
+
+use crate::makers::{push_maker, push_object_function};
+use crate::references::{push_part, push_string, push_thing};
+use crate::values::{push_boolean, push_value};
+use js_core::memory::OutOfMemory;
+use js_core::token::Punct;
+use js_core::units::Units;
+use js_print::lexeme::Lexeme;
+use js_print::{push_punct, push_text};
+use js_values::ids::ObjId;
+use js_values::value::Value;
+use object_heap::property::Prop;
+use rebuild_plan::{Maker, Rebuild};
+use std::alloc::Global;
+
+/// Appends a statement.
+pub fn push_statement(
+    alloc: Global,
+    rebuild: &Rebuild,
+    out: &mut Vec<Lexeme>,
+) -> Result<(), OutOfMemory>
+    ensures { OnOk result (out.new.items ≡ out.old.items
+        ++ stmt_lexemes (spec.statement rebuild.now)) }
+{
+    push_rebuild(alloc, rebuild, out)?;
+    push_punct(Punct::Semicolon, out)
+}
+
+fn push_rebuild(alloc: Global, rebuild: &Rebuild, out: &mut Vec<Lexeme>) -> Result<(), OutOfMemory>
+    ensures { OnOk result (out.new.items ≡ out.old.items
+        ++ expr_lexemes (spec.rebuild_expr rebuild.now)) }
+{
+    match rebuild {
+        Rebuild::Make { number, maker } => push_make(alloc, *number, maker, out),
+        Rebuild::Define { at, name, prop } => push_define(alloc, *at, name, prop, out),
+        Rebuild::DefinePrototype {
+            at,
+            value,
+            writable,
+        } => { push_short(alloc, *at, b"prototype", value, *writable, out) }
+        Rebuild::DefineLength {
+            at,
+            value,
+            writable,
+        } => { push_short(alloc, *at, b"length", value, *writable, out) }
+        Rebuild::Prevent { at } => push_prevent(alloc, *at, out),
+    }
+}
+
+fn push_make(
+    alloc: Global,
+    number: u64,
+    maker: &Maker,
+    out: &mut Vec<Lexeme>,
+) -> Result<(), OutOfMemory>
+    ensures { OnOk result (out.new.items ≡ out.old.items
+        ++ expr_lexemes (spec.rebuild_expr (rebuild.Make number maker.now))) }
+{
+    push_thing(alloc, number, out)?;
+    push_punct(Punct::SimpleAssign, out)?;
+    push_maker(alloc, maker, out)
+}
+
+fn push_prevent(alloc: Global, at: ObjId, out: &mut Vec<Lexeme>) -> Result<(), OutOfMemory>
+    ensures { OnOk result (out.new.items ≡ out.old.items
+        ++ expr_lexemes (spec.rebuild_expr (rebuild.Prevent at))) }
+{
+    push_object_function(alloc, b"preventExtensions", out)?;
+    push_punct(Punct::LeftParenthesis, out)?;
+    push_part(alloc, at, out)?;
+    push_punct(Punct::RightParenthesis, out)
+}
+
+// A property with its four attributes.
+fn push_define(
+    alloc: Global,
+    at: ObjId,
+    name: &Units,
+    prop: &Prop,
+    out: &mut Vec<Lexeme>,
+) -> Result<(), OutOfMemory>
+    ensures { OnOk result (out.new.items ≡ out.old.items
+        ++ expr_lexemes (spec.rebuild_expr (rebuild.Define at name.now prop.now))) }
+{
+    push_definition(alloc, at, out)?;
+    push_text(name, out)?;
+    push_punct(Punct::Comma, out)?;
+    push_whole_descriptor(alloc, prop, out)?;
+    push_punct(Punct::RightParenthesis, out)
+}
+
+// A property of which the value and whether it is writable are written.
+fn push_short(
+    alloc: Global,
+    at: ObjId,
+    name: &[u8],
+    value: &Value,
+    writable: bool,
+    out: &mut Vec<Lexeme>,
+) -> Result<(), OutOfMemory>
+    ensures { OnOk result (out.new.items ≡ out.old.items
+        ++ expr_lexemes (spec.define_expr at name.now (spec.short_descriptor value.now writable))) }
+{
+    push_definition(alloc, at, out)?;
+    push_string(alloc, name, out)?;
+    push_punct(Punct::Comma, out)?;
+    push_short_descriptor(alloc, value, writable, out)?;
+    push_punct(Punct::RightParenthesis, out)
+}
+
+// What stands before the name of a property.
+fn push_definition(alloc: Global, at: ObjId, out: &mut Vec<Lexeme>) -> Result<(), OutOfMemory>
+    ensures { OnOk result (out.new.items ≡ out.old.items
+        ++ (expr_lexemes (spec.object_function (codes "defineProperty"))
+        ++ lexeme.Punct punct.LeftParenthesis
+        ∷ (placed Part (spec.reference at) (expr_lexemes (spec.reference at))
+        ++ lexeme.Punct punct.Comma ∷ []))) }
+{
+    push_object_function(alloc, b"defineProperty", out)?;
+    push_punct(Punct::LeftParenthesis, out)?;
+    push_part(alloc, at, out)?;
+    push_punct(Punct::Comma, out)
+}
+
+fn push_whole_descriptor(
+    alloc: Global,
+    prop: &Prop,
+    out: &mut Vec<Lexeme>,
+) -> Result<(), OutOfMemory>
+    ensures { OnOk result (out.new.items ≡ out.old.items
+        ++ expr_lexemes (spec.whole_descriptor prop.now)) }
+{
+    push_punct(Punct::LeftBrace, out)?;
+    push_value_field(alloc, &prop.value, out)?;
+    push_attribute(alloc, b"writable", prop.writable, out)?;
+    push_attribute(alloc, b"enumerable", prop.enumerable, out)?;
+    push_attribute(alloc, b"configurable", prop.configurable, out)?;
+    push_punct(Punct::RightBrace, out)
+}
+
+fn push_short_descriptor(
+    alloc: Global,
+    value: &Value,
+    writable: bool,
+    out: &mut Vec<Lexeme>,
+) -> Result<(), OutOfMemory>
+    ensures { OnOk result (out.new.items ≡ out.old.items
+        ++ expr_lexemes (spec.short_descriptor value.now writable)) }
+{
+    push_punct(Punct::LeftBrace, out)?;
+    push_value_field(alloc, value, out)?;
+    push_attribute(alloc, b"writable", writable, out)?;
+    push_punct(Punct::RightBrace, out)
+}
+
+fn push_value_field(alloc: Global, value: &Value, out: &mut Vec<Lexeme>) -> Result<(), OutOfMemory>
+    ensures { OnOk result (out.new.items ≡ out.old.items
+        ++ lexeme.Text (codes "value") ∷ lexeme.Punct punct.Colon
+        ∷ placed Part (spec.value_expr value.now) (expr_lexemes (spec.value_expr value.now))) }
+{
+    push_string(alloc, b"value", out)?;
+    push_punct(Punct::Colon, out)?;
+    push_value(alloc, value, out)
+}
+
+// An attribute behind a comma.
+fn push_attribute(
+    alloc: Global,
+    name: &[u8],
+    value: bool,
+    out: &mut Vec<Lexeme>,
+) -> Result<(), OutOfMemory>
+    ensures { OnOk result (out.new.items ≡ out.old.items
+        ++ lexeme.Punct punct.Comma ∷ lexeme.Text name.now ∷ lexeme.Punct punct.Colon
+        ∷ boolean_lexeme value ∷ []) }
+{
+    push_punct(Punct::Comma, out)?;
+    push_string(alloc, name, out)?;
+    push_punct(Punct::Colon, out)?;
+    push_boolean(value, out)
+}
