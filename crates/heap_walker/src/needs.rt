@@ -1,16 +1,18 @@
 //! The variables that a function needs from the scopes round it (ECMA-262 5.1 sections 10.2 and 13).
 
 ghost use Rattle.std.specs.Prelude.{◌≡◌, ◌++◌, ◌∷◌, [], ℕ, List, IfOk, OnErr, OnOk, bytes_eq};
-ghost use Rattle.code_table.specs.Declarations.{name_of};
+ghost use Rattle.code_table.specs.Declarations.{name_of, unnamed};
 ghost use Rattle.indexmap.specs.IndexSet.{contains, insert_all};
 ghost use Rattle.scope_analysis.specs.FreeUses.{needed_variables};
-ghost use Rattle.scope_analysis.specs.Names.{bound_names, is_among, maybe_name};
+ghost use Rattle.scope_analysis.specs.Names.{bound_names, code_body, is_among, maybe_name};
+ghost use Rattle.scope_analysis.specs.Uses.{stmts_uses};
 ghost use Rattle.heap_walker.specs.Needs.{needed_among};
 ghost use Rattle.heap_walker.specs.Things as spec;
 
 use code_table::FunctionCode;
 use indexmap::IndexSet;
 use js_core::memory::OutOfMemory;
+use js_core::syntax::Code;
 use js_core::units::Units;
 use js_values::ids::EnvId;
 use js_values::value::Value;
@@ -105,15 +107,26 @@ fn needed_names(alloc: Global, code: &FunctionCode) -> Result<IndexSet<Units>, O
     ensures { IfOk result (λ names. names.keys ≡ needed_variables code.now) }
 {
     let bound = bound_round(alloc, code)?;
-    let mut uses = Vec::new(alloc);
-    push_statements_uses(
-        ScopeTest::IsOutOfForm,
-        code.source().body.as_slice(),
-        &mut uses,
-    )?;
+    let uses = uses_of(alloc, source_of(code))?;
     let mut names = IndexSet::new(alloc);
     push_needed(uses.as_slice(), &bound, &mut names)?;
     Ok(names)
+}
+
+// The function's tree, which may have a name that the function is held without.
+fn source_of(code: &FunctionCode) -> &Code
+    ensures { unnamed result.now ≡ unnamed code.now }
+{
+    code.source()
+}
+
+// The uses of names in a function's body that no function or catch clause in it binds.
+fn uses_of(alloc: Global, code: &Code) -> Result<Vec<Use>, OutOfMemory>
+    ensures { IfOk result (λ uses. uses.items ≡ stmts_uses (code_body code.now)) }
+{
+    let mut uses = Vec::new(alloc);
+    push_statements_uses(ScopeTest::IsOutOfForm, code.body.as_slice(), &mut uses)?;
+    Ok(uses)
 }
 
 // A table of the names that the function binds, its own among them where it is held with it.
