@@ -1,3 +1,5 @@
 pub mod Appending
 pub mod Pieces
+pub mod Syntax
 pub mod Trees
+pub mod Words

@@ -3,3 +3,4 @@ pub mod Page
 pub mod Putting
 pub mod Sizes
 pub mod Statements
+pub mod Writable

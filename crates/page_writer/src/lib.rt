@@ -1,6 +1,7 @@
 //! The text of a saved page.
 #![tactic(auto)]
 
+mod laws;
 mod limits;
 mod makers;
 mod references;
@@ -9,5 +10,6 @@ mod statements;
 mod values;
 mod writing;
 
+pub use laws::law_statements_are_syntax;
 pub use save_fault::SaveFault;
 pub use writing::write_state;
