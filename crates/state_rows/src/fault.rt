@@ -1,6 +1,6 @@
 //! Why a page is not saved.
 
-use event_file::fault::EventFault;
+use event_file::EventFault;
 use js_core::memory::OutOfMemory;
 use page_check::AcceptFault;
 use page_writer::SaveFault;

@@ -1,7 +1,7 @@
 //! Pages that are saved.
 
 use crate::fault::Fault;
-use event_file::reading;
+use event_file::calls;
 use page_check::accept;
 use page_io::memory_sink::MemorySink;
 use page_writer::write_state;
@@ -14,7 +14,7 @@ const ROOM: u64 = 16_777_216;
 /// The page of these bytes as it is saved after its scripts and the events of an event file.
 pub fn saved(alloc: Global, page: &[u8], events: &[u8]) -> Result<MemorySink, Fault> {
     let page = accept(alloc, page)?;
-    let events = reading::calls(alloc, events)?;
+    let events = calls(alloc, events)?;
     let mut session = load(alloc, page)?;
     for event in &events {
         session.act(event)?;
