@@ -1,5 +1,11 @@
 pub mod Appending
+pub mod Costs
+pub mod Fitness
+pub mod Lined
 pub mod Pieces
+pub mod Shortness
+pub mod Spelled
 pub mod Syntax
 pub mod Trees
+pub mod Widths
 pub mod Words

@@ -1,4 +1,5 @@
 pub mod Dotted
+pub mod Length
 pub mod Page
 pub mod Putting
 pub mod Sizes

@@ -1,8 +1,15 @@
 //! What holds of saved pages.
 
+ghost use Rattle.page_writer.specs.Length.{PagesAreShort};
 ghost use Rattle.page_writer.specs.Writable.{StatementsAreSyntax};
 
 /// Each statement that can be written is a tree that some tokens have, and low.
 pub fn law_statements_are_syntax()
     ensures { StatementsAreSyntax }
+{}
+
+/// The text of a page at rest, which has no more things than may be saved and whose numbers are in range, has at most 160 bytes
+/// for each thing, as `Weight` counts them, besides its bytes of text, and 4,096 more.
+pub fn law_pages_are_short()
+    ensures { PagesAreShort }
 {}

@@ -10,6 +10,6 @@ mod statements;
 mod values;
 mod writing;
 
-pub use laws::law_statements_are_syntax;
+pub use laws::{law_pages_are_short, law_statements_are_syntax};
 pub use save_fault::SaveFault;
 pub use writing::write_state;

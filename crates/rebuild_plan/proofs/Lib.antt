@@ -1,3 +1,4 @@
+pub mod Callers
 pub mod Moving
 pub mod Numbered
 pub mod Standing

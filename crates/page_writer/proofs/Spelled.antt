@@ -1,0 +1,142 @@
+-- How wide the lexemes of references and of values are.
+use Rattle.std.proofs.Common.{◌≡◌, refl, ap, subst, ◌∙◌, ℕ, suc, pos, negsuc, neg_ℤ, ◌≤ℤ◌, ◌+◌, ◌-◌, ◌*◌, ◌<◌, ◌≤◌, Bool, true, false, nat_le, List, [], ◌∷◌, length, Option, Some, None, arith}
+use Rattle.std.specs.List.{list_all}
+use Rattle.std.specs.Prelude.{slice_index_or}
+use Rattle.std.proofs.lemmas.Bool.{leb-true}
+use Rattle.std.proofs.lemmas.Int.{ints}
+use Rattle.std.proofs.lemmas.List.Sums.{AllPass-from_list_all}
+use Rattle.std.proofs.lemmas.Option.{get_or_from_slice_get, slice_get_past, slice_get_within}
+use Rattle.built_in_paths.specs.Paths.{names_of, path_of, paths}
+use Rattle.heap_walker.specs.Things.{built_in_count}
+use Rattle.heap_walker.specs.Weight.{value_units}
+use Rattle.js_core.specs.Whole.{largest}
+use Rattle.js_core.specs.declared.keyword.Keyword.TheVariants as keyword
+use Rattle.js_core.specs.declared.token.Punct.TheVariants as punct
+use Rattle.js_print.specs.Lexemes.{expr_lexemes}
+use Rattle.js_print.specs.Places.{placed}
+use Rattle.js_print.specs.declared.lexeme.Lexeme.{Lexeme}
+use Rattle.js_print.specs.declared.lexeme.Lexeme.TheVariants.{Keyword, Name, Number, Punct}
+use Rattle.js_print.specs.declared.place.Place.TheVariants.{Part}
+use Rattle.js_values.specs.declared.ids.ObjId.{ObjId}
+use Rattle.js_values.specs.declared.value.Value.{Value}
+use Rattle.js_values.specs.declared.value.Value.TheVariants as value
+use Rattle.page_meaning.specs.Places.{window}
+use Rattle.rebuild_plan.specs.Plan.{thing_place}
+use Rattle.page_writer.specs.Statements.{path_expr, reference, reference_over, thing_expr, value_expr}
+use Rattle.page_writer.proofs.Fitness.{Fits, low_first}
+use Rattle.page_writer.proofs.Trees.{reference_part}
+use Rattle.page_writer.proofs.Widths.{count_wide, mark_wide, number_wide, text_wide, wide, wide_append, wide_between}
+
+-- ---- references
+
+path_width : List ℕ → ℕ
+path_width path = wide (expr_lexemes (path_expr (names_of path)))
+
+paths_narrow : list_all (λ path. nat_le (path_width path) 40) paths ≡ true
+unfolding paths wide path_width lib.Utf8.encode
+paths_narrow = refl
+
+path_narrow : (k : ℕ) (path : List ℕ) → path_of k ≡ Some path
+    → wide (expr_lexemes (path_expr (names_of path))) ≤ 40
+unfolding path_width
+path_narrow k path there =
+    let narrow : List ℕ → Bool = λ p. nat_le (path_width p) 40 in
+    let item : slice_index_or paths k path ≡ path = get_or_from_slice_get paths k path path there in
+    let short : narrow path ≡ true =
+    subst (λ p. narrow p ≡ true) item
+    (AllPass-from_list_all narrow paths paths_narrow k path (slice_get_within paths k path there))
+    in
+    leb-true (path_width path) 40 short
+
+path_count : length paths ≡ 93
+unfolding paths
+path_count = refl
+
+dollars_narrow : wide (Name (36 ∷ 36 ∷ []) ∷ Punct punct.LeftBracket ∷ []) ≡ 4
+unfolding wide lib.Utf8.encode
+dollars_narrow = refl
+
+pub thing_narrow : (n : ℕ) → n < 75000 → wide (expr_lexemes (thing_expr n)) ≤ 11
+thing_narrow n few =
+    let front : List Lexeme = Name (36 ∷ 36 ∷ []) ∷ Punct punct.LeftBracket ∷ [] in
+    let end : List Lexeme = Punct punct.RightBracket ∷ [] in
+    omega (
+      arith,
+      wide_between front (Number (Some (pos n)) ∷ []) end,
+      dollars_narrow,
+      count_wide n (omega (arith, few)),
+      mark_wide punct.RightBracket refl,
+    )
+
+pub past_paths : (k : ℕ) → 93 ≤ k → path_of k ≡ None
+past_paths k past = slice_get_past paths k (omega (arith, past, path_count))
+
+pub thing_at_narrow : (n : ℕ) → n < 75000 → wide (expr_lexemes (reference (thing_place n))) ≤ 11
+unfolding built_in_count
+thing_at_narrow n few =
+    let same : (93 + n) - 93 ≡ n = omega arith in
+    let is : expr_lexemes (reference (thing_place n)) ≡ expr_lexemes (thing_expr n) =
+    ap (λ o. expr_lexemes (reference_over (93 + n) o)) (past_paths (93 + n) (omega arith))
+    ∙ ap (λ m. expr_lexemes (thing_expr m)) same in
+    omega (arith, ap wide is, thing_narrow n few)
+
+pub reference_narrow : (at : ObjId) → at.0 < 75093 → wide (expr_lexemes (reference at)) ≤ 40
+unfolding built_in_count
+reference_narrow at low = by (path_of at.0) refl
+  where
+    by : (o : Option (List ℕ)) → path_of at.0 ≡ o → wide (expr_lexemes (reference_over at.0 o)) ≤ 40
+    by (Some path) there = path_narrow at.0 path there
+    by None there = omega (arith, thing_narrow (at.0 - 93) (omega (arith, low)))
+
+pub window_narrow : wide (expr_lexemes (reference window)) ≤ 11
+unfolding paths wide lib.Utf8.encode
+window_narrow = omega arith
+
+-- ---- values
+
+-- behind a minus sign
+minus_wide : (n : ℕ) → n ≤ 9007199254740991
+    → wide (Punct punct.MinusSign ∷ Number (Some (pos n)) ∷ []) ≤ 18
+minus_wide n small =
+    omega (
+      arith,
+      wide_append (Punct punct.MinusSign ∷ []) (Number (Some (pos n)) ∷ []),
+      number_wide n small,
+      mark_wide punct.MinusSign refl,
+    )
+
+-- the lexemes of a value among others
+abbrev pub part_of : Value → List Lexeme
+part_of v = placed Part (value_expr v) (expr_lexemes (value_expr v))
+
+void_wide : wide (Keyword keyword.Void ∷ []) ≡ 5
+unfolding wide
+void_wide = refl
+
+constant_wide : (wide (part_of value.Null) ≤ 40) × (wide (part_of (value.Bool true)) ≤ 40)
+    × (wide (part_of (value.Bool false)) ≤ 40)
+    × (wide (part_of (value.Num None)) ≤ 40)
+unfolding wide lib.Utf8.encode
+constant_wide = (omega arith, omega arith, omega arith, omega arith)
+
+pub value_wide : (v : Value) → Fits v → wide (part_of v) ≤ 40 + 6 * value_units v
+value_wide value.Undefined fits =
+    omega (
+      arith,
+      wide_append (Keyword keyword.Void ∷ []) (Number (Some (pos 0)) ∷ []),
+      void_wide,
+      count_wide 0 (omega arith),
+    )
+value_wide value.Null fits = omega (arith, constant_wide.0)
+value_wide (value.Bool true) fits = omega (arith, constant_wide.1)
+value_wide (value.Bool false) fits = omega (arith, constant_wide.2)
+value_wide (value.Num None) fits = omega (arith, constant_wide.3)
+value_wide (value.Num (Some (pos n))) fits =
+    let small : pos n ≤ℤ pos largest = (fits.1 (pos n) refl).1 in
+    omega (arith, number_wide n (omega (arith, ints)))
+value_wide (value.Num (Some (negsuc n))) fits =
+    let large : neg_ℤ (pos largest) ≤ℤ negsuc n = (fits.1 (negsuc n) refl).0 in
+    omega (arith, minus_wide (suc n) (omega (arith, ints)))
+value_wide (value.Text t) fits = omega (arith, text_wide t)
+value_wide (value.Object at) fits =
+    omega (arith, ap wide (reference_part at), reference_narrow at (low_first at.0 [] fits.0))
