@@ -1,0 +1,31 @@
+-- Two pages that agree go on agreeing.
+use Rattle.std.specs.Prelude.{◌≡◌, Bool, true, List, drop, length}
+use Rattle.js_core.specs.Tree as tree
+use Rattle.js_values.specs.declared.built_in.BuiltIn.{BuiltIn}
+use Rattle.js_values.specs.declared.event.Event.{Event}
+use Rattle.js_values.specs.declared.value.Value.{Value}
+use Rattle.page_meaning.specs.Act.{Calls}
+use Rattle.page_meaning.specs.Pages.{run_all, run_of}
+use Rattle.page_meaning.specs.Rows.{row_of}
+use Rattle.page_meaning.specs.Store.{Store}
+use Rattle.heap_relations.specs.Naming.{named, World}
+use Rattle.heap_relations.specs.Related.{Each, ValueRel}
+use Rattle.agreement.specs.Acts.{Agrees, CallsRel, StoreRel}
+use Rattle.agreement.specs.Trees.{AgreesWithItself, HasEqualTrees, are_low}
+
+-- each built-in function, where what it calls agrees: on related values it does the same in pages that agree, and they agree after it
+abbrev pub RowsAgree : Type 0
+RowsAgree =
+    (W : World) (c d : Calls) (construct : Bool) (which : BuiltIn) (this that : Value) (vs ws : List Value)
+    → CallsRel W c d → ValueRel (named W) this that → Each (ValueRel (named W)) vs ws
+    → Agrees W (row_of c construct which this vs) (row_of d construct which that ws)
+
+-- the same events add the same lines to pages that agree, as many and whichever they are
+abbrev pub EventsAgree : Type 0
+EventsAgree =
+    (W : World) (s t : Store) (es : List Event) → HasEqualTrees W → StoreRel W s t
+    → drop (length s.lines) (run_all s es).lines ≡ drop (length t.lines) (run_all t es).lines
+
+-- each page agrees with itself after its scripts and any events, where no script is too high
+abbrev pub PagesAgree : Type 0
+PagesAgree = (scripts : List tree.Stmts) (es : List Event) → are_low scripts ≡ true → AgreesWithItself (run_of scripts es)

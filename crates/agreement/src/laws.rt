@@ -1,0 +1,22 @@
+//! What holds of pages that agree.
+
+ghost use Rattle.agreement.specs.Laws.{EventsAgree, PagesAgree, RowsAgree};
+
+use page_meaning::laws::law_heaps_stay_sound;
+
+/// Each built-in function keeps agreement (ECMA-262 5.1 section 15).
+pub fn law_rows_agree()
+    ensures { RowsAgree }
+{}
+
+/// The same host events put out the same lines in pages that agree.
+pub fn law_events_agree()
+    ensures { EventsAgree }
+{}
+
+/// Each page agrees with itself.
+pub fn law_pages_agree()
+    ensures { PagesAgree }
+{
+    law_heaps_stay_sound();
+}

@@ -1,0 +1,6 @@
+//! Two pages that agree go on agreeing: laws on the meaning of scripts.
+#![tactic(auto)]
+
+mod laws;
+
+pub use laws::{law_events_agree, law_pages_agree, law_rows_agree};

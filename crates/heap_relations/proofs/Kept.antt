@@ -1,0 +1,113 @@
+-- The laws.
+use Rattle.object_heap.proofs.Callers.{sound_empty}
+use Rattle.std.proofs.Common.{◌≡◌, false, refl, ℕ, List, [], Option}
+use Rattle.js_values.specs.declared.value.Value.{Value}
+use Rattle.object_heap.specs.declared.property.Prop.{Prop}
+use Rattle.object_heap.specs.Chain.{get, object_at}
+use Rattle.object_heap.specs.Environment.{value_of, environment_at}
+use Rattle.object_heap.specs.Heap.{Contents, empty}
+use Rattle.object_heap.specs.Property.{own_property}
+use Rattle.heap_relations.specs.Related.{Maybe, some, ValueRel}
+use Rattle.heap_relations.specs.Laws.{MadeAgree, OthersDoNotCount, JoinsAgree, EnvironmentsAgree, NewObjectsAgree, ObjectsAgree, RelatedStay, SameAgree}
+use Rattle.heap_relations.specs.Naming.{here, there, constant, copied, inside, absent, Agree, captured, Captured, free, In, is_reserved, Kept, named, NameRel, Slot, World}
+use Rattle.heap_relations.proofs.Captured.{get_own, set_captured_agrees}
+use Rattle.heap_relations.proofs.Chains.{can_put_same, get_property_rel, get_rel}
+use Rattle.heap_relations.proofs.Define.{own_rel, same_value_same}
+use Rattle.heap_relations.proofs.Entry.{longer_slots}
+use Rattle.heap_relations.proofs.Lists.{keys_same}
+use Rattle.heap_relations.proofs.Map.{objects_join, objects_turn, object_up, value_up}
+use Rattle.heap_relations.proofs.Names.{found_rel}
+use Rattle.heap_relations.proofs.Objects.{add_agrees, dispatch_agrees, made_agrees, longer_objects, longer_scopes, close_agrees, define_own_agrees, delete_agrees, event_agrees, new_object_agrees, prevent_agrees, put_agrees}
+use Rattle.heap_relations.proofs.Scopes.{set_agrees}
+use Rattle.heap_relations.proofs.Worlds.{grows}
+
+pub objects : ObjectsAgree
+objects W h g k l r i = (
+  record {
+    object = r.objects.at k l i;
+    get_property = λ name. get_property_rel r.objects r.left.prototypes r.right.prototypes k l name i;
+    get = λ name. get_rel r.objects r.left.prototypes r.right.prototypes k l name i;
+    own = λ name. own_rel name (r.objects.at k l i).props;
+    keys = keys_same (r.objects.at k l i).props;
+    can_put = λ name. can_put_same r.objects r.left.prototypes r.right.prototypes k l name i;
+  },
+  record {
+    put = λ name v w q. put_agrees r i name q;
+    define_own = λ name c d q. define_own_agrees r i name q;
+    delete = λ name. delete_agrees r i name;
+    prevent = prevent_agrees r i;
+    add = λ name p q m. add_agrees r i name m;
+    close = close_agrees r i;
+    event = λ p q e. event_agrees r i e;
+    dispatch = λ sent t u c d phase x y. dispatch_agrees r i sent phase x y;
+  },
+)
+
+pub same : SameAgree
+same W h g v w x y r a b = same_value_same r.objects.one_to_one a b
+
+pub new_objects : NewObjectsAgree
+new_objects W h g c d p q r a b = new_object_agrees r a b
+
+pub made_kept : MadeAgree
+made_kept W h g o p r fit fit' m a b = made_agrees r fit fit' m a b
+
+pub stay : RelatedStay
+stay V W l = (λ v w h. value_up (grows l) v w h, λ o p h. object_up (grows l) o p h)
+
+pub others : OthersDoNotCount
+others W h g i j r a b c d left right = record {
+  objects = longer_objects a b r.objects;
+  slots = longer_scopes b (longer_slots c d r.left.environments r.right.environments r.slots);
+  left = left;
+  right = right;
+}
+
+pub joins : JoinsAgree
+joins V W os ps qs h k = (objects_join h k, objects_turn h)
+
+pub read : {W : World} {h g : Contents} (s : Slot) (x : List ℕ) → In s W.slots → is_reserved W.opens x ≡ false → Agree W h g → s.frame.keeps x ≡ Captured
+    → Maybe (ValueRel (named W)) (value_of (environment_at h.environments s.one).names x) (get g.objects s.place x)
+read {W = W} {h = h} {g = g} s x i own r kept = by_case kept refl refl ((r.slots.at s i).names x own)
+  where
+    by_case : {c : Kept} {a b : Option Value} {o : Option Prop} → c ≡ Captured → value_of (environment_at h.environments s.one).names x ≡ a → own_property (object_at g.objects s.place).props x ≡ o
+        → NameRel (named W) s.frame.scoped (s.known x) c a b o → Maybe (ValueRel (named W)) (value_of (environment_at h.environments s.one).names x) (get g.objects s.place x)
+    by_case c d held absent = absurd (cc)
+    by_case c d held (free m) = absurd (cc)
+    by_case c d held (constant m) = absurd (cc)
+    by_case c d held (copied q m) = absurd (cc)
+    by_case c d held (captured {p = p} scoped m may shown fixed) = rw (d, get_own g.objects s.place x p held) (some m)
+
+pub names : EnvironmentsAgree
+names W h g s x r i own = record {
+  found = found_rel r.slots r.left.environments r.right.environments x (inside s i) own;
+  read = λ kept. read s x i own r kept;
+  assign = λ kept v w q. set_agrees s x i kept own q r;
+  assign_captured = λ kept v w q. set_captured_agrees s x i kept own q r;
+}
+
+no_one : {A : Type 0} {x : A} {l : List A} → l ≡ [] → In x l → ⊥
+no_one e here = cc e
+no_one e (there i) = cc e
+
+-- two heaps in which nothing is named yet
+pub nothing_named : (W : World) → W.objects ≡ [] → W.slots ≡ [] → W.bases ≡ [] → Agree W empty empty
+nothing_named W objects slots bases = record {
+  objects = record {
+    at = λ a b i. absurd (no_one objects i.named);
+    inside = λ a b i. absurd (no_one objects i.named);
+    one_to_one = record { same = λ a b c d i j. absurd (no_one objects i.named) };
+  };
+  slots = record {
+    at = λ s i. absurd (no_one slots i);
+    inside = λ s i. absurd (no_one slots i);
+    scope_inside = λ s i e. absurd (no_one slots i);
+    one_to_one = λ s t i j. absurd (no_one slots i);
+    one_slot = λ s t i j e. absurd (no_one slots i);
+    one_scope = λ s t i j e f d. absurd (no_one slots i);
+    apart = λ s i e p j. absurd (no_one slots i);
+    bases = λ b i. absurd (no_one bases i);
+  };
+  left = sound_empty;
+  right = sound_empty;
+}

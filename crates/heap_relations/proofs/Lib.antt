@@ -1,0 +1,15 @@
+pub mod Bases
+pub mod Callers
+pub mod Captured
+pub mod Chains
+pub mod Define
+pub mod Entry
+pub mod Filled
+pub mod Functions
+pub mod Kept
+pub mod Lists
+pub mod Map
+pub mod Names
+pub mod Objects
+pub mod Scopes
+pub mod Worlds

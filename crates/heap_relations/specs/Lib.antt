@@ -1,0 +1,4 @@
+pub mod Laws
+pub mod Naming
+pub mod Related
+pub mod Scope
