@@ -31,7 +31,7 @@ outcome_up l (stopped W m g) = stopped W (larger_more l m) g
 pub ret_rel : {A : Type 0} {R : Relation A} {V : World} {a b : A} → ((W : World) → Larger V W → R W a b) → ActRel R V (ret a) (ret b)
 ret_rel h = record { run = λ W l s t n g. ended W larger_same (h W l) g }
 
-then_rel : {A B : Type 0} {R : Relation A} {S : Relation B} {V : World} {o p : Outcome A} {f g : A → ActOf B} → OutcomeRel R V o p
+pub then_rel : {A B : Type 0} {R : Relation A} {S : Relation B} {V : World} {o p : Outcome A} {f g : A → ActOf B} → OutcomeRel R V o p
     → ((W : World) → Larger V W → (a b : A) → R W a b → ActRel S W (f a) (g b)) → OutcomeRel S V (then_on o f) (then_on p g)
 then_rel (ended {a = a} {b = b} {s = s} {t = t} {n = n} W l h k) f = outcome_up l ((f W l a b h).run W larger_same s t n k)
 then_rel (stopped W l k) f = stopped W l k

@@ -23,6 +23,7 @@ use Rattle.agreement.specs.Trees.{HasEqualTrees, code_fits}
 use Rattle.agreement.proofs.Acts.{act_up, also_rel, asking_rel, bind_rel, choose_rel, larger_more, larger_same, on_built_ins}
 use Rattle.agreement.proofs.AllRows.{row_of_rel}
 use Rattle.agreement.proofs.Called.{append_rel, calls_up}
+use Rattle.agreement.proofs.EqualTrees.{trees_up}
 use Rattle.agreement.proofs.Functions.{RunsIn, enter_rel}
 use Rattle.agreement.proofs.Heap.{make_rel, named_up, take_step_rel, value_up, values_up}
 use Rattle.agreement.proofs.Made.{object_place}
@@ -32,21 +33,14 @@ use Rattle.agreement.proofs.Values.{give_rel, object_value_rel, raise_rel}
 
 -- ---- equal trees
 
-pub trees_up : {V W : World} → Larger V W → HasEqualTrees V → HasEqualTrees W
-trees_up l trees = record {
-  opens = sym l.opens ∙ trees.opens;
-  opened = λ fs c. ap (λ f. f fs c) (sym l.opened) ∙ trees.opened fs c;
-  fits = λ fs c. ap (λ f. f fs c) (sym l.fits) ∙ trees.fits fs c;
-}
-
 -- what a page's function is entered with, where trees are equal
-pub record OneCode (V : World) (c : tree.Code) (e : Option EnvId) (d : tree.Code) (f : Option EnvId) : Type 0 where
+pub record OneCode (V : World) (asks : tree.Code → Bool) (c : tree.Code) (e : Option EnvId) (d : tree.Code) (f : Option EnvId) : Type 0 where
   pub frames : List Frame
   pub same : c ≡ d
-  pub fits : code_fits frames c ≡ true
+  pub fits : code_fits asks frames c ≡ true
   pub round : Round V frames e f
 
-pub one_code : {V : World} {c d : tree.Code} {e f : Option EnvId} → HasEqualTrees V → Functions V c e d f → OneCode V c e d f
+pub one_code : {V : World} {c d : tree.Code} {e f : Option EnvId} (trees : HasEqualTrees V) → Functions V c e d f → OneCode V trees.asks c e d f
 one_code {c = c} trees h = record {
   frames = h.frames;
   same = sym (h.code ∙ trees.opened h.frames c);
@@ -59,7 +53,8 @@ one_code {c = c} trees h = record {
 runs_in : {V : World} (c d : Calls) (body : tree.Stmts) → CallsRel V c d → RunsIn V (exec_all c) (exec_all d) body
 runs_in c d body calls = λ W l fs a b h f. exec_all_rel c d fs a b body (calls_up l calls) h f
 
-entered_one : {V : World} {this that : Value} {vs ws : List Value} (c d : Calls) (fs : List Frame) (k : tree.Code) (e f : Option EnvId) → CallsRel V c d → HasEqualTrees V → Round V fs e f → code_fits fs k ≡ true
+entered_one : {V : World} {this that : Value} {vs ws : List Value} (c d : Calls) (fs : List Frame) (k : tree.Code) (e f : Option EnvId)
+    → CallsRel V c d → (trees : HasEqualTrees V) → Round V fs e f → code_fits trees.asks fs k ≡ true
     → ValueRel (named V) this that → Each (ValueRel (named V)) vs ws → Agrees V (enter (exec_all c) k e this vs) (enter (exec_all d) k f that ws)
 entered_one c d fs (code x formals body) e f calls trees r fit h hs =
     enter_rel (exec_all c) (exec_all d) fs x formals body e f trees r fit (runs_in c d body calls) h hs
@@ -117,7 +112,7 @@ fresh_rel {v = v} {w = w} h = on_built_ins (λ U i there.
       extensible = refl;
       closed = refl;
       props = no_entries;
-    }))
+    }) refl (λ W l s t g. tt))
 
 round_up : {V W : World} {fs : List Frame} {e f : Option EnvId} → Larger V W → Round V fs e f → Round W fs e f
 round_up l outermost = outermost

@@ -16,6 +16,9 @@ use Rattle.heap_relations.proofs.Callers as heap
 use Rattle.heap_relations.specs.Laws.{free_slot}
 use Rattle.heap_relations.specs.Naming.{Copied, Frame, Free, In, Larger, NameRel, Round, Slot, World, absent, env_id, free, here, inside, is_reserved, named, there, with_slot}
 use Rattle.heap_relations.specs.Related.{Each, Entries, Links, Maybe, ValueRel, each, entry, no_entries, no_more, none, some, undefined}
+use Rattle.object_heap.specs.Laws.{binds, opens}
+use Rattle.object_shapes.proofs.Callers as shapes
+use Rattle.agreement.proofs.Linked.{names_below, value_below}
 use Rattle.agreement.specs.Acts.{ActRel, Equal, ended}
 use Rattle.agreement.specs.Trees.{HasEqualTrees, are_few, entry_frame, frame_of, free_where}
 
@@ -136,13 +139,6 @@ enters_up l (enters s i) = enters s (l.slots s i)
 pub enters_round : {V : World} {f : Frame} {fs : List Frame} {a b : EnvId} → Enters V f fs a b → Round V (f ∷ fs) (Some a) (Some b)
 enters_round (enters s i) = inside s i
 
-pub trees_up : {V W : World} → Larger V W → HasEqualTrees V → HasEqualTrees W
-trees_up l h = record {
-  opens = sym l.opens ∙ h.opens;
-  opened = λ fs c. ap (λ f. f fs c) (sym l.opened) ∙ h.opened fs c;
-  fits = λ fs c. ap (λ f. f fs c) (sym l.fits) ∙ h.fits fs c;
-}
-
 free_name : {L : Links} {o p : Option Value} {q : Option Prop} (known : Value) (b : Bool) → is_some o ≡ b → Maybe (ValueRel L) o p → NameRel L false known (free_where b) o p q
 free_name known true e (some h) = free h
 free_name known false e none = absent
@@ -152,6 +148,10 @@ free_name known true e none = absurd (cc e)
 not_copied : (b : Bool) → free_where b ≡ Copied → ⊥
 not_copied true e = cc e
 not_copied false e = cc e
+
+names_up : {V W : World} {b c : Bound} → Larger V W → Entries (ValueRel (named V)) b c → Entries (ValueRel (named W)) b c
+names_up l no_entries = no_entries
+names_up l (entry h r) = entry (heap.value_up l h) (names_up l r)
 
 -- an environment is made on both sides
 pub opened_rel : {V : World} (bound : List ℕ → Bool) (fs : List Frame) (e f : Option EnvId) (names others : Bound) → HasEqualTrees V → Round V fs e f → length fs < 2 ^ 64
@@ -168,17 +168,19 @@ opened_rel bound fs e f names others trees o few h same = record {
             (λ q. absurd (cc (q, sym l.opens ∙ trees.opens)));
         lines = g.lines;
         built_ins = λ k small. heap.named_up up (g.built_ins k small);
+        shaped = shapes.step_shaped s (opens e names) g.heap.left g.shaped (names_below g (names_up l h));
       });
 }
 
 -- a name of it takes the value
 pub bound_rel : {V : World} {f : Frame} {fs : List Frame} {a b : EnvId} {v w : Value} (x : List ℕ) → HasEqualTrees V → Enters V f fs a b → f.keeps x ≡ Free → ValueRel (named V) v w
     → ActRel (Equal {A = Unit {0}}) V (bind_name a x v) (bind_name b x w)
-bound_rel x trees (enters s i) is_free r = record {
+bound_rel {v = v} x trees (enters s i) is_free r = record {
   run = λ W l t u n g.
       ended W heap.larger_same refl (record {
         heap = heap.name_set g.heap s x (l.slots s i) (ap (λ o. is_reserved o x) (sym l.opens ∙ trees.opens)) is_free (heap.value_up l r);
         lines = g.lines;
         built_ins = g.built_ins;
+        shaped = shapes.step_shaped t (binds s.one x v) g.heap.left g.shaped (value_below g (heap.value_up l r));
       });
 }

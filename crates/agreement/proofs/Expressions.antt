@@ -70,7 +70,8 @@ constructs_with calls r = λ W l vs ws hs. calls.construct W l (value_up l r) hs
 -- ---- expressions
 
 mutual
-  pub eval_rel : {V : World} (c d : Calls) (fs : List Frame) (a b : Here) (e : tree.Expr) → CallsRel V c d → HereRel V fs a b → expr_fits fs e ≡ true → Agrees V (eval c a e) (eval d b e)
+  pub eval_rel : {V : World} (c d : Calls) (fs : List Frame) (a b : Here) (e : tree.Expr) → CallsRel V c d → (h : HereRel V fs a b)
+      → expr_fits h.trees.asks fs e ≡ true → Agrees V (eval c a e) (eval d b e)
   eval_rel c d fs a b (name x) calls h f = read_name_rel fs a b x h f
   eval_rel c d fs a b (num n) calls h f = give_rel related.num
   eval_rel c d fs a b (text t) calls h f = give_rel related.text
@@ -96,7 +97,7 @@ mutual
       let calls_there = calls_up more calls in
       eval_args_rel c d fs a b es [] [] calls_there (here_up more h) (and_parts _ _ f).1 no_more (calls_with calls_there t (value_up (larger_more j i) r)))))
   eval_rel c d fs a b (call e es) calls h f =
-      let g = and_parts (expr_fits fs e) (exprs_fit fs es) f in
+      let g = and_parts (expr_fits h.trees.asks fs e) (exprs_fit h.trees.asks fs es) f in
       also_rel (eval_rel c d fs a b e calls h g.0) (λ W l v w r.
       eval_args_rel c d fs a b es [] [] (calls_up l calls) (here_up l h) g.1 no_more (calls_with (calls_up l calls) r related.undefined))
   eval_rel c d fs a b (construct e es) calls h f =
@@ -132,7 +133,7 @@ mutual
       also_rel (eval_rel c d fs a b e calls h (and_parts _ _ f).0) (λ W l v w r.
       choose_rel _ _ (is_true_same r) (give_rel r) (act_up l (eval_rel c d fs a b u calls h (and_parts _ _ f).1)))
   eval_rel c d fs a b (conditional e u m) calls h f =
-      let g = (and_parts (expr_fits fs e) (expr_fits fs u && expr_fits fs m) f).1 in
+      let g = (and_parts (expr_fits h.trees.asks fs e) (expr_fits h.trees.asks fs u && expr_fits h.trees.asks fs m) f).1 in
       also_rel (eval_rel c d fs a b e calls h (and_parts _ _ f).0) (λ W l v w r.
       choose_rel _ _ (is_true_same r) (act_up l (eval_rel c d fs a b u calls h (and_parts _ _ g).0)) (act_up l (eval_rel c d fs a b m calls h (and_parts _ _ g).1)))
   eval_rel c d fs a b (assign None (name x) u) calls h f =
@@ -172,7 +173,8 @@ mutual
 
   -- arguments
   pub eval_args_rel : {V : World} {f g : List Value → Act} (c d : Calls) (fs : List Frame) (a b : Here) (es : tree.Exprs) (vs ws : List Value)
-      → CallsRel V c d → HereRel V fs a b → exprs_fit fs es ≡ true → Each (ValueRel (named V)) vs ws → ContinuesAll V f g → Agrees V (eval_args c a es vs f) (eval_args d b es ws g)
+      → CallsRel V c d → (h : HereRel V fs a b) → exprs_fit h.trees.asks fs es ≡ true → Each (ValueRel (named V)) vs ws → ContinuesAll V f g
+      → Agrees V (eval_args c a es vs f) (eval_args d b es ws g)
   eval_args_rel c d fs a b no_exprs vs ws calls h f got k = k _ larger_same vs ws got
   eval_args_rel c d fs a b (then_expr e es) vs ws calls h f got k =
       also_rel (eval_rel c d fs a b e calls h (and_parts _ _ f).0) (λ W l v w r.
@@ -181,14 +183,16 @@ mutual
 
   -- the parts of a comma expression
   pub eval_each_rel : {V : World} {v w : Value} (c d : Calls) (fs : List Frame) (a b : Here) (es : tree.Exprs)
-      → CallsRel V c d → HereRel V fs a b → exprs_fit fs es ≡ true → ValueRel (named V) v w → Agrees V (eval_each c a es v) (eval_each d b es w)
+      → CallsRel V c d → (h : HereRel V fs a b) → exprs_fit h.trees.asks fs es ≡ true → ValueRel (named V) v w
+      → Agrees V (eval_each c a es v) (eval_each d b es w)
   eval_each_rel c d fs a b no_exprs calls h f r = give_rel r
   eval_each_rel c d fs a b (then_expr e es) calls h f r =
       also_rel (eval_rel c d fs a b e calls h (and_parts _ _ f).0) (λ W l v w s. eval_each_rel c d fs a b es (calls_up l calls) (here_up l h) (and_parts _ _ f).1 s)
 
   -- the elements of an array literal
   pub eval_holes_rel : {V : World} (c d : Calls) (fs : List Frame) (a b : Here) (es : tree.Holes) (o p : ObjId) (k : ℕ)
-      → CallsRel V c d → HereRel V fs a b → holes_fit fs es ≡ true → Named V o.0 p.0 → Agrees V (eval_holes c a es o k) (eval_holes d b es p k)
+      → CallsRel V c d → (h : HereRel V fs a b) → holes_fit h.trees.asks fs es ≡ true → Named V o.0 p.0
+      → Agrees V (eval_holes c a es o k) (eval_holes d b es p k)
   eval_holes_rel c d fs a b no_holes o p k calls h f n = also_rel (put_in_rel o p n length_name related.num) (λ W l v w r. give_rel (object_value_rel o p (named_up l n)))
   eval_holes_rel c d fs a b (then_hole no_expr es) o p k calls h f n = eval_holes_rel c d fs a b es o p (suc k) calls h f n
   eval_holes_rel c d fs a b (then_hole (one_expr e) es) o p k calls h f n =
@@ -199,7 +203,8 @@ mutual
 
   -- the fields of an object literal
   pub eval_fields_rel : {V : World} (c d : Calls) (fs : List Frame) (a b : Here) (es : tree.Fields) (o p : ObjId)
-      → CallsRel V c d → HereRel V fs a b → fields_fit fs es ≡ true → Named V o.0 p.0 → Agrees V (eval_fields c a es o) (eval_fields d b es p)
+      → CallsRel V c d → (h : HereRel V fs a b) → fields_fit h.trees.asks fs es ≡ true → Named V o.0 p.0
+      → Agrees V (eval_fields c a es o) (eval_fields d b es p)
   eval_fields_rel c d fs a b no_fields o p calls h f n = give_rel (object_value_rel o p n)
   eval_fields_rel c d fs a b (then_field x e es) o p calls h f n =
       also_rel (eval_rel c d fs a b e calls h (and_parts _ _ f).0) (λ W l v w r.
@@ -209,7 +214,8 @@ mutual
 
 -- ---- the target of a for-in
 
-pub assign_to_rel : {V : World} {v w : Value} (c d : Calls) (fs : List Frame) (a b : Here) (t : tree.Expr) → CallsRel V c d → HereRel V fs a b → target_fits fs t (expr_fits fs t) ≡ true
+pub assign_to_rel : {V : World} {v w : Value} (c d : Calls) (fs : List Frame) (a b : Here) (t : tree.Expr) → CallsRel V c d
+    → (h : HereRel V fs a b) → target_fits fs t (expr_fits h.trees.asks fs t) ≡ true
     → ValueRel (named V) v w → Agrees V (assign_to c a t v) (assign_to d b t w)
 assign_to_rel c d fs a b (name x) calls h f r = assign_name_rel fs a b x h f r
 assign_to_rel c d fs a b (member e x) calls h f r =

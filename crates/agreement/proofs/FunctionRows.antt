@@ -1,5 +1,5 @@
 -- What the prototype of functions has, and the text of an array (sections 15.3.4 and 15.4.4.2).
-use Rattle.std.proofs.Common.{◌≡◌, refl, ap, subst, ◌∙◌, ℕ, zero, suc, ◌-◌, ◌<◌, List, [], length, codes, arith}
+use Rattle.std.proofs.Common.{◌≡◌, refl, ap, subst, ◌∙◌, ℕ, zero, suc, ◌-◌, ◌<◌, Bool, true, false, List, [], length, codes, arith}
 use Rattle.js_values.specs.declared.built_in.BuiltIn.{BuiltIn}
 use Rattle.js_values.specs.declared.built_in.BuiltIn.TheVariants as built_in
 use Rattle.js_values.specs.declared.ids.ObjId.{ObjId}
@@ -7,19 +7,21 @@ use Rattle.js_values.specs.declared.throw.Throw.TheVariants.{NotFunction, WrongA
 use Rattle.js_values.specs.declared.value.Value.{Value}
 use Rattle.js_values.specs.declared.value.Value.TheVariants as value
 use Rattle.object_heap.specs.Property.{fixed}
-use Rattle.page_meaning.specs.Act.{Calls}
-use Rattle.page_meaning.specs.Elements.{on_list}
-use Rattle.page_meaning.specs.FunctionRows.{apply_elements, apply_function, apply_to, bind_function, bind_to, bound_fit, bound_object, call_function, gather, list_text, text_maker}
+use Rattle.page_meaning.specs.Act.{Calls, choose}
+use Rattle.page_meaning.specs.Elements.{length_of, on_list}
+use Rattle.page_meaning.specs.Errors.{raise}
+use Rattle.page_meaning.specs.FunctionRows.{apply_elements, apply_function, apply_to, bind_function, bind_to, bound_fit, bound_object, call_function, gather, is_callable, list_text, text_maker}
 use Rattle.page_meaning.specs.Places.{function_at, function_place, function_prototype}
 use Rattle.page_meaning.specs.Rows.{function_row}
 use Rattle.page_meaning.specs.Store.{Store}
 use Rattle.heap_relations.specs.Naming.{Named, named, World}
 use Rattle.heap_relations.specs.Related.{Each, ObjectRel, PropRel, ValueRel, bound, each, entry, no_entries, no_more, null, num, object, some, text, truth, undefined}
-use Rattle.agreement.specs.Acts.{ActRel, Agrees, CallsRel, Equal, HasBuiltIns, StoreRel, built_in_count}
-use Rattle.agreement.proofs.Acts.{asking_rel, bind_rel, choose_rel, larger_more, larger_same, on_built_ins, ret_rel}
+use Rattle.object_shapes.specs.Links.{built_in_count}
+use Rattle.agreement.specs.Acts.{ActRel, Agrees, CallsRel, Equal, HasBuiltIns, OutcomeRel, SignalRel, StoreRel}
+use Rattle.agreement.proofs.Acts.{asking_rel, bind_rel, choose_rel, larger_more, larger_same, ret_rel, then_rel}
 use Rattle.agreement.proofs.Called.{Values, append_rel, calls_up, chosen_value, drop_rel, is_callable_same, length_same, number_same}
 use Rattle.agreement.proofs.Elements.{element_or_rel, length_of_same, on_list_rel}
-use Rattle.agreement.proofs.Heap.{make_rel, named_up, take_step_rel, value_up, values_up}
+use Rattle.agreement.proofs.Heap.{made_now, named_up, take_step_rel, value_up, values_up}
 use Rattle.agreement.proofs.ObjectRows.{argument_rel}
 use Rattle.agreement.proofs.Properties.{get_at_rel}
 use Rattle.agreement.proofs.Values.{give_rel, object_value_rel, raise_rel}
@@ -88,13 +90,24 @@ bound_object_rel a b h k hs m n e there = record {
   props = entry (fixed_rel (number_same (formals_left m n e hs))) no_entries;
 }
 
-bind_to_rel : {V : World} {this that : Value} {vs ws : List Value} (a b : ObjId) → Named V a.0 b.0 → ValueRel (named V) this that → Each (ValueRel (named V)) vs ws
-    → Agrees V (bind_to a this vs) (bind_to b that ws)
-bind_to_rel {this = this} {that = that} {vs = vs} {ws = ws} a b h k hs =
-    asking_rel {R = Equal} (λ W l s t g. length_of_same g a b (named_up l h)) (λ W l m n e. on_built_ins (λ U i there.
-    bind_rel (make_rel (bound_object a this vs m) (bound_object b that ws n) (bound_fit a this vs m) (bound_fit b that ws n)
-    (bound_object_rel a b (named_up (larger_more l i) h) (value_up (larger_more l i) k) (values_up (larger_more l i) hs) m n e there))
-    (λ X j p q r. give_rel (object_value_rel p q r))))
+-- of a function, in two pages that agree
+bind_to_now : {W : World} {s t : Store} {this that : Value} {vs ws : List Value} (k : ℕ) → StoreRel W s t → (a b : ObjId) → Named W a.0 b.0 → ValueRel (named W) this that → Each (ValueRel (named W)) vs ws
+    → is_callable (value.Object a) s ≡ true → OutcomeRel SignalRel W ((bind_to a this vs).run s k) ((bind_to b that ws).run t k)
+bind_to_now {s = s} {t = t} {this = this} {that = that} {vs = vs} {ws = ws} k g a b n h hs callable =
+    let i = length_of a s in
+    let j = length_of b t in
+    then_rel (made_now k g (bound_object a this vs i) (bound_object b that ws j) (bound_fit a this vs i) (bound_fit b that ws j)
+    (bound_object_rel a b n h hs i j (length_of_same g a b n) g.built_ins) refl (refl, record { others = []; are = refl }, callable))
+    (λ X j p q r. give_rel (object_value_rel p q r))
+
+-- where it is one
+bind_if_now : {W : World} {s t : Store} {this that : Value} {vs ws : List Value} (k : ℕ) → StoreRel W s t → (a b : ObjId) → Named W a.0 b.0 → ValueRel (named W) this that → Each (ValueRel (named W)) vs ws
+    → (x y : Bool) → is_callable (value.Object a) s ≡ x → x ≡ y
+    → OutcomeRel SignalRel W ((choose x (bind_to a this vs) (raise WrongArgument)).run s k) ((choose y (bind_to b that ws) (raise WrongArgument)).run t k)
+bind_if_now k g a b n h hs true true e f = bind_to_now k g a b n h hs e
+bind_if_now {W = W} {s = s} {t = t} k g a b n h hs false false e f = (raise_rel WrongArgument).run W larger_same s t k g
+bind_if_now k g a b n h hs true false e f = absurd (cc f)
+bind_if_now k g a b n h hs false true e f = absurd (cc f)
 
 pub bind_function_rel : {V : World} {f g : Value} {vs ws : List Value} → ValueRel (named V) f g → Each (ValueRel (named V)) vs ws → Agrees V (bind_function f vs) (bind_function g ws)
 bind_function_rel undefined hs = raise_rel WrongArgument
@@ -102,9 +115,11 @@ bind_function_rel null hs = raise_rel WrongArgument
 bind_function_rel truth hs = raise_rel WrongArgument
 bind_function_rel num hs = raise_rel WrongArgument
 bind_function_rel text hs = raise_rel WrongArgument
-bind_function_rel {f = value.Object a} {g = value.Object b} (object n) hs =
-    asking_rel {R = Equal} (λ W l s t g. is_callable_same g (object_value_rel a b (named_up l n))) (λ W l x y e. choose_rel x y e
-    (bind_to_rel a b (named_up l n) (argument_rel (values_up l hs) 0) (drop_rel 1 (values_up l hs))) (raise_rel WrongArgument))
+bind_function_rel {f = value.Object a} {g = value.Object b} (object n) hs = record {
+  run = λ W l s t k g.
+      bind_if_now k g a b (named_up l n) (argument_rel (values_up l hs) 0) (drop_rel 1 (values_up l hs)) (is_callable (value.Object a) s) (is_callable (value.Object b) t) refl
+      (is_callable_same g (object_value_rel a b (named_up l n)));
+}
 
 -- ---- the text of an array
 

@@ -23,17 +23,22 @@ use Rattle.heap_relations.proofs.Callers as heap
 use Rattle.heap_relations.specs.Naming.{Frame, Free, In, Larger, Round, World, here, named, outermost, there, with_object}
 use Rattle.heap_relations.specs.Related.{ChangeRel, Each, Maybe, PropRel, ValueRel, entry, no_entries, none, page, some, undefined}
 use Rattle.agreement.proofs.Acts.{also_rel, asking_rel, bind_rel, choose_rel, larger_more, on_built_ins, ret_rel}
-use Rattle.agreement.proofs.Entries.{Enters, bound_rel, enters_round, enters_up, entry_free, entry_names_rel, entry_names_same, few_inside, few_round, one_name_same, opened_rel, own_name_free, trees_up}
+use Rattle.agreement.proofs.Entries.{Enters, bound_rel, enters_round, enters_up, entry_free, entry_names_rel, entry_names_same, few_inside, few_round, one_name_same, opened_rel, own_name_free}
+use Rattle.agreement.proofs.EqualTrees.{trees_up}
 use Rattle.agreement.proofs.Heap.{define_at_rel, named_up, own_rel, value_up}
 use Rattle.agreement.proofs.Made.{made_rel, object_place}
 use Rattle.agreement.proofs.Properties.{put_in_rel}
 use Rattle.agreement.proofs.Values.{done_rel, give_rel, object_value_rel, raise_rel, unless_rel}
-use Rattle.agreement.specs.Acts.{ActRel, Agrees, Ids, OutcomeRel, Relation, SignalRel, StoreRel, break, built_in_count, continue, ended, return, stopped, thrown, value}
+use Rattle.object_shapes.proofs.Callers as shapes
+use Rattle.object_shapes.specs.Links.{built_in_count}
+use Rattle.agreement.specs.Acts.{ActRel, Agrees, Ids, OutcomeRel, Relation, SignalRel, StoreRel, break, continue, ended, return, stopped, thrown, value}
 use Rattle.agreement.specs.Trees.{HasEqualTrees, HereRel, are_few, code_fits, entry_frame, expr_fits, frame_of, stmt_fits, stmts_fit}
 
 -- a body that stands in these frames does the same in both pages
 abbrev pub RunsIn : World → (Here → tree.Stmts → Act) → (Here → tree.Stmts → Act) → tree.Stmts → Type 0
-RunsIn V run ran body = (W : World) → Larger V W → (fs : List Frame) (a b : Here) → HereRel W fs a b → stmts_fit fs body ≡ true → Agrees W (run a body) (ran b body)
+RunsIn V run ran body =
+    (W : World) → Larger V W → (fs : List Frame) (a b : Here) (h : HereRel W fs a b) → stmts_fit h.trees.asks fs body ≡ true
+    → Agrees W (run a body) (ran b body)
 
 -- ---- functions are made
 
@@ -45,7 +50,8 @@ pub window_place : window.0 < built_in_count
 unfolding built_in_count
 window_place = omega arith
 
-pub make_function_rel : {V : World} (fs : List Frame) (c : tree.Code) (e f : Option EnvId) → HasEqualTrees V → Round V fs e f → code_fits fs c ≡ true → ActRel Ids V (make_function c e) (make_function c f)
+pub make_function_rel : {V : World} (fs : List Frame) (c : tree.Code) (e f : Option EnvId) → (trees : HasEqualTrees V) → Round V fs e f
+    → code_fits trees.asks fs c ≡ true → ActRel Ids V (make_function c e) (make_function c f)
 make_function_rel fs c e f trees o fits = record {
   run = λ W l s t n g.
       let a = length s.heap.objects in
@@ -58,14 +64,16 @@ make_function_rel fs c e f trees o fits = record {
             (some (record { linked = g.built_ins function_prototype.0 function_prototype_place })) (some (record { linked = g.built_ins object_prototype.0 object_place }));
         lines = g.lines;
         built_ins = λ k small. heap.named_up up (g.built_ins k small);
+        shaped = shapes.function_shaped s c e g.heap.left g.shaped;
       });
 }
 
 -- a function expression
-pub close_over_rel : {V : World} (fs : List Frame) (c : tree.Code) (a b : Here) → HereRel V fs a b → expr_fits fs (tree.func c) ≡ true → Agrees V (close_over c a.env) (close_over c b.env)
+pub close_over_rel : {V : World} (fs : List Frame) (c : tree.Code) (a b : Here) → (h : HereRel V fs a b)
+    → expr_fits h.trees.asks fs (tree.func c) ≡ true → Agrees V (close_over c a.env) (close_over c b.env)
 close_over_rel fs (code None formals body) a b h e = made_rel (make_function_rel fs (code None formals body) a.env b.env h.trees h.round e)
 close_over_rel fs (code (Some x) formals body) a b h e =
-    let small = few_inside (frame_of (x ∷ [])) fs (and_parts _ _ e).0 in
+    let small = few_inside (frame_of (x ∷ [])) fs (and_parts _ _ (and_parts _ _ e).1).0 in
     bind_rel (opened_rel (λ y. is_among y (x ∷ [])) fs a.env b.env ((x, Undefined) ∷ []) ((x, Undefined) ∷ []) h.trees h.round small (entry undefined no_entries) (one_name_same x Undefined)) (λ W l p q n.
     bind_rel (make_function_rel (frame_of (x ∷ []) ∷ fs) (code (Some x) formals body) (Some p) (Some q) (trees_up l h.trees) (enters_round n) e) (λ X j k m o.
     bind_rel (bound_rel x (trees_up (larger_more l j) h.trees) (enters_up j n) (own_name_free x) (object_value_rel k m o)) (λ Y i u w r. give_rel (object_value_rel k m (named_up i o)))))
@@ -73,15 +81,17 @@ close_over_rel fs (code (Some x) formals body) a b h e =
 -- ---- functions are entered
 
 -- the declared functions of a body, each bound to its name
-declared_rel : {V : World} (ss : tree.Stmts) (f : Frame) (fs : List Frame) (a b : EnvId) → HasEqualTrees V → Enters V f fs a b → ((x : List ℕ) → In x (function_names (functions_of ss)) → f.keeps x ≡ Free)
-    → stmts_fit (f ∷ fs) ss ≡ true → Agrees V (declare_functions a (functions_of ss)) (declare_functions b (functions_of ss))
+declared_rel : {V : World} (ss : tree.Stmts) (f : Frame) (fs : List Frame) (a b : EnvId) (trees : HasEqualTrees V) → Enters V f fs a b
+    → ((x : List ℕ) → In x (function_names (functions_of ss)) → f.keeps x ≡ Free)
+    → stmts_fit trees.asks (f ∷ fs) ss ≡ true → Agrees V (declare_functions a (functions_of ss)) (declare_functions b (functions_of ss))
 declared_rel no_stmts f fs a b trees n free fits = done_rel
 declared_rel (then_stmt (function (code None formals body)) ss) f fs a b trees n free fits = declared_rel ss f fs a b trees n free (and_parts _ _ fits).1
 declared_rel (then_stmt (function (code (Some x) formals body)) ss) f fs a b trees n free fits =
     bind_rel (make_function_rel (f ∷ fs) (code None formals body) (Some a) (Some b) trees (enters_round n) (and_parts _ _ fits).0) (λ W l k m o.
     bind_rel (bound_rel x (trees_up l trees) (enters_up l n) (free x here) (object_value_rel k m o)) (λ X j u w r.
     declared_rel ss f fs a b (trees_up (larger_more l j) trees) (enters_up (larger_more l j) n) (λ y i. free y (there i)) (and_parts _ _ fits).1))
-declared_rel (then_stmt s ss) f fs a b trees n free fits = declared_rel ss f fs a b trees n free (and_parts (stmt_fits (f ∷ fs) s) (stmts_fit (f ∷ fs) ss) fits).1
+declared_rel (then_stmt s ss) f fs a b trees n free fits =
+    declared_rel ss f fs a b trees n free (and_parts (stmt_fits trees.asks (f ∷ fs) s) (stmts_fit trees.asks (f ∷ fs) ss) fits).1
 
 pub call_end_rel : {V W : World} {s r : Signal} → Larger V W → SignalRel V s r → SignalRel W (call_end s) (call_end r)
 call_end_rel l (value h) = value undefined
@@ -92,11 +102,12 @@ call_end_rel l continue = value undefined
 
 -- a function is entered
 pub enter_rel : {V : World} {this that : Value} {vs ws : List Value} (run ran : Here → tree.Stmts → Act) (fs : List Frame) (x : Option (List ℕ)) (formals : List (List ℕ)) (body : tree.Stmts) (e f : Option EnvId)
-    → HasEqualTrees V → Round V fs e f → code_fits fs (code x formals body) ≡ true → RunsIn V run ran body → ValueRel (named V) this that → Each (ValueRel (named V)) vs ws
+    → (trees : HasEqualTrees V) → Round V fs e f → code_fits trees.asks fs (code x formals body) ≡ true → RunsIn V run ran body
+    → ValueRel (named V) this that → Each (ValueRel (named V)) vs ws
     → Agrees V (enter run (code x formals body) e this vs) (enter ran (code x formals body) f that ws)
 enter_rel {this = this} {that = that} {vs = vs} {ws = ws} run ran fs x formals body e f trees o fits runs t h =
     let frame = entry_frame formals body in
-    let parts = and_parts (are_few fs) (stmts_fit (frame ∷ fs) body) fits in
+    let parts = and_parts (are_few fs) (stmts_fit trees.asks (frame ∷ fs) body) (and_parts _ _ fits).1 in
     bind_rel (opened_rel (λ y. is_some (value_of (entry_names formals body []) y)) fs e f (entry_names formals body vs) (entry_names formals body ws) trees o (few_round fs parts.0)
     (entry_names_rel formals body vs ws h) (entry_names_same formals body vs)) (λ W l a b n.
     also_rel (declared_rel body frame fs a b (trees_up l trees) n (entry_free formals body) parts.1) (λ X j v w r.
@@ -145,7 +156,8 @@ own_global_rel : {W : World} {s t : Store} (x : List ℕ) → StoreRel W s t →
 own_global_rel x g = own_rel g window.0 window.0 (g.built_ins window.0 window_place) x
 
 -- what a script declares
-pub declare_globals_rel : {V : World} (body : tree.Stmts) → HasEqualTrees V → stmts_fit [] body ≡ true → Agrees V (declare_globals (functions_of body)) (declare_globals (functions_of body))
+pub declare_globals_rel : {V : World} (body : tree.Stmts) (trees : HasEqualTrees V) → stmts_fit trees.asks [] body ≡ true
+    → Agrees V (declare_globals (functions_of body)) (declare_globals (functions_of body))
 declare_globals_rel no_stmts trees e = done_rel
 declare_globals_rel (then_stmt (function (code None formals body)) ss) trees e = declare_globals_rel ss trees (and_parts _ _ e).1
 declare_globals_rel (then_stmt (function (code (Some x) formals body)) ss) trees e =
@@ -153,7 +165,7 @@ declare_globals_rel (then_stmt (function (code (Some x) formals body)) ss) trees
     also_rel (asking_rel {R = λ W. Maybe (PropRel (named W))} (λ X j s t g. own_global_rel x g) (λ X j p q r. function_place_rel x r)) (λ X j v w r.
     also_rel (on_built_ins (λ U i there. put_in_rel window window (there window.0 window_place) x (object_value_rel k m (named_up (larger_more j i) o)))) (λ Y i y z u.
     declare_globals_rel ss (trees_up (larger_more l (larger_more j i)) trees) (and_parts _ _ e).1)))
-declare_globals_rel (then_stmt s ss) trees e = declare_globals_rel ss trees (and_parts (stmt_fits [] s) (stmts_fit [] ss) e).1
+declare_globals_rel (then_stmt s ss) trees e = declare_globals_rel ss trees (and_parts (stmt_fits trees.asks [] s) (stmts_fit trees.asks [] ss) e).1
 
 pub global_variables_rel : {V : World} (xs : List (List ℕ)) → Agrees V (global_variables xs) (global_variables xs)
 global_variables_rel [] = done_rel

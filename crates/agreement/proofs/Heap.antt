@@ -1,5 +1,5 @@
 -- What is read of two pages that agree, and what is done to both.
-use Rattle.std.proofs.Common.{◌≡◌, refl, sym, ap, ◌∙◌, ℕ, zero, suc, List, [], ◌∷◌, ◌++◌, length, Option, append_assoc}
+use Rattle.std.proofs.Common.{◌≡◌, refl, sym, ap, ◌∙◌, ℕ, zero, suc, List, [], ◌∷◌, ◌++◌, length, Option, false, append_assoc}
 use Rattle.js_values.specs.declared.ids.ObjId.{ObjId}
 use Rattle.js_values.specs.declared.line.Line.{Line}
 use Rattle.js_values.specs.declared.line.LineKind.{LineKind}
@@ -8,6 +8,7 @@ use Rattle.js_values.specs.declared.value.Value.{Value}
 use Rattle.object_heap.specs.Attempt.{Attempt}
 use Rattle.object_heap.specs.Chain.{get, get_property, object_at}
 use Rattle.object_heap.specs.Heap.{Contents, IsFit}
+use Rattle.object_heap.specs.Laws.{defines, deletes, makes, prevents, puts}
 use Rattle.object_heap.specs.Object.{Object, target_of}
 use Rattle.object_heap.specs.Property.{own_property}
 use Rattle.object_heap.specs.declared.object.Class.{Class}
@@ -19,6 +20,9 @@ use Rattle.page_meaning.specs.Store.{Store, with_heap}
 use Rattle.heap_relations.proofs.Callers as heap
 use Rattle.heap_relations.specs.Naming.{Agree, Before, Larger, Named, named, with_object, World}
 use Rattle.heap_relations.specs.Related.{AttemptRel, ChangeRel, ClassRel, Each, Maybe, ObjectIds, ObjectRel, PropRel, ValueRel, array, bound, event, fault, math, native, node, none, page, plain, some, window}
+use Rattle.object_shapes.proofs.Callers as shapes
+use Rattle.object_shapes.specs.Shapes.{HasShape, IsShaped}
+use Rattle.agreement.proofs.Linked.{object_new, some_below, value_below}
 use Rattle.agreement.specs.Acts.{ActRel, AddedRel, Equal, Ids, OutcomeRel, Relation, StoreRel, ended, stopped}
 
 -- ---- larger namings
@@ -84,25 +88,31 @@ line_added b xs ys kind x y h e = record {
 pub put_line_rel : {V : World} (kind : LineKind) {f g : Store → List ℕ} → ((W : World) → Larger V W → (s t : Store) → StoreRel W s t → f s ≡ g t) → ActRel (Equal {A = Unit {0}}) V (put_line kind f) (put_line kind g)
 put_line_rel kind {f = f} {g = g} h = record {
   run = λ W l s t n r.
-      ended W heap.larger_same refl (record { heap = r.heap; lines = line_added W.before s.lines t.lines kind (f s) (g t) r.lines (h W l s t r); built_ins = r.built_ins });
+      ended W heap.larger_same refl (record { heap = r.heap; lines = line_added W.before s.lines t.lines kind (f s) (g t) r.lines (h W l s t r); built_ins = r.built_ins; shaped = shapes.lines_shaped s _ r.shaped });
 }
 
 -- what is tried on both heaps leaves them in agreement, and throws the same
-tried : {W : World} {s t : Store} {n : ℕ} {x y : Attempt Contents} → StoreRel W s t → AttemptRel (Agree W) x y
+tried : {W : World} {s t : Store} {n : ℕ} {x y : Attempt Contents} → StoreRel W s t → AttemptRel (Agree W) x y → IsShaped (with_heap s x.after)
     → OutcomeRel (Equal {A = Option Throw}) W (Outcome.Ended x.thrown (with_heap s x.after) n) (Outcome.Ended y.thrown (with_heap t y.after) n)
-tried g h = ended _ heap.larger_same h.thrown (record { heap = h.after; lines = g.lines; built_ins = g.built_ins })
+tried g h shaped = ended _ heap.larger_same h.thrown (record { heap = h.after; lines = g.lines; built_ins = g.built_ins; shaped = shaped })
 
 pub put_at_rel : {V : World} (a b : ObjId) (x : List ℕ) (v w : Value) → Named V a.0 b.0 → ValueRel (named V) v w → ActRel (Equal {A = Option Throw}) V (put_at a x v) (put_at b x w)
-put_at_rel a b x v w n r = record { run = λ W l s t m g. tried g (heap.put_tried g.heap (heap.named_up l n) x (heap.value_up l r)) }
+put_at_rel a b x v w n r = record {
+  run = λ W l s t m g. tried g (heap.put_tried g.heap (heap.named_up l n) x (heap.value_up l r))
+      (shapes.step_shaped s (puts a.0 x v) g.heap.left g.shaped (value_below g (heap.value_up l r)));
+}
 
 pub define_at_rel : {V : World} (a b : ObjId) (x : List ℕ) (c d : Change) → Named V a.0 b.0 → ChangeRel (named V) c d → ActRel (Equal {A = Option Throw}) V (define_at a x c) (define_at b x d)
-define_at_rel a b x c d n r = record { run = λ W l s t m g. tried g (heap.define_tried g.heap (heap.named_up l n) x (heap.change_up l r)) }
+define_at_rel a b x c d n r = record {
+  run = λ W l s t m g. tried g (heap.define_tried g.heap (heap.named_up l n) x (heap.change_up l r))
+      (shapes.step_shaped s (defines a.0 x c) g.heap.left g.shaped (some_below g (heap.change_up l r).value));
+}
 
 pub delete_at_rel : {V : World} (a b : ObjId) (x : List ℕ) → Named V a.0 b.0 → ActRel (Equal {A = Option Throw}) V (delete_at a x) (delete_at b x)
-delete_at_rel a b x n = record { run = λ W l s t m g. tried g (heap.delete_tried g.heap (heap.named_up l n) x) }
+delete_at_rel a b x n = record { run = λ W l s t m g. tried g (heap.delete_tried g.heap (heap.named_up l n) x) (shapes.step_shaped s (deletes a.0 x) g.heap.left g.shaped tt) }
 
 pub prevent_at_rel : {V : World} (a b : ObjId) → Named V a.0 b.0 → ActRel (Equal {A = Option Throw}) V (prevent_at a) (prevent_at b)
-prevent_at_rel a b n = record { run = λ W l s t m g. tried g (heap.prevent_tried g.heap (heap.named_up l n)) }
+prevent_at_rel a b n = record { run = λ W l s t m g. tried g (heap.prevent_tried g.heap (heap.named_up l n)) (shapes.step_shaped s (prevents a.0) g.heap.left g.shaped tt) }
 
 -- new objects
 target_rel : {V : World} {c d : Class} → ClassRel (named V) c d → Maybe (ObjectIds (named V)) (target_of c) (target_of d)
@@ -117,15 +127,20 @@ target_rel window = none
 target_rel (node h) = none
 target_rel (event h) = none
 
-pub make_rel : {V : World} (o p : Object) (f : IsFit o) (g : IsFit p) → ObjectRel (named V) o p → ActRel Ids V (make o f) (make p g)
-make_rel o p f g r = record {
-  run = λ W l s t m h.
-      let i = length s.heap.objects in
-      let j = length t.heap.objects in
-      let up = heap.object_up l r in
-      ended (with_object W i j) (heap.larger_object i j) (heap.named_object i j) (record {
-        heap = heap.objects_made W s.heap t.heap o p h.heap f g (heap.object_up (heap.larger_object i j) up) up.proto (target_rel up.class);
-        lines = h.lines;
-        built_ins = λ k small. heap.named_up (heap.larger_object i j) (h.built_ins k small);
-      });
-}
+-- in two pages that agree
+pub made_now : {W : World} {s t : Store} (n : ℕ) → StoreRel W s t → (o p : Object) (f : IsFit o) (g : IsFit p) → ObjectRel (named W) o p → o.closed ≡ false → HasShape s o o.class
+    → OutcomeRel Ids W ((make o f).run s n) ((make p g).run t n)
+made_now {W = W} {s = s} {t = t} n h o p f g r not_closed shape =
+    let i = length s.heap.objects in
+    let j = length t.heap.objects in
+    ended (with_object W i j) (heap.larger_object i j) (heap.named_object i j) (record {
+      heap = heap.objects_made W s.heap t.heap o p h.heap f g (heap.object_up (heap.larger_object i j) r) r.proto (target_rel r.class);
+      lines = h.lines;
+      built_ins = λ k small. heap.named_up (heap.larger_object i j) (h.built_ins k small);
+      shaped = shapes.step_shaped s (makes o f) h.heap.left h.shaped (object_new h o p r not_closed shape);
+    })
+
+-- an object that has its shape in whichever page it is made
+pub make_rel : {V : World} (o p : Object) (f : IsFit o) (g : IsFit p) → ObjectRel (named V) o p → o.closed ≡ false
+    → ((W : World) → Larger V W → (s t : Store) → StoreRel W s t → HasShape s o o.class) → ActRel Ids V (make o f) (make p g)
+make_rel o p f g r not_closed shape = record { run = λ W l s t m h. made_now m h o p f g (heap.object_up l r) not_closed (shape W l s t h) }

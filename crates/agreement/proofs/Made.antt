@@ -1,5 +1,5 @@
 -- New objects and arrays of both pages (sections 11.1.4 and 11.1.5).
-use Rattle.std.proofs.Common.{refl, ◌<◌, arith, Some}
+use Rattle.std.proofs.Common.{refl, ◌<◌, true, [], arith, Some}
 use Rattle.js_values.specs.declared.ids.ObjId.{ObjId}
 use Rattle.object_heap.proofs.Callers.{new_fit}
 use Rattle.object_heap.specs.Heap.{new_object}
@@ -16,7 +16,8 @@ use Rattle.heap_relations.specs.Related.{ClassRel, Entries, ObjectRel, PropRel, 
 use Rattle.agreement.proofs.Acts.{bind_rel, on_built_ins}
 use Rattle.agreement.proofs.Heap.{make_rel}
 use Rattle.agreement.proofs.Values.{give_rel, object_value_rel}
-use Rattle.agreement.specs.Acts.{ActRel, Agrees, HasBuiltIns, Ids, built_in_count}
+use Rattle.object_shapes.specs.Links.{built_in_count}
+use Rattle.agreement.specs.Acts.{ActRel, Agrees, HasBuiltIns, Ids}
 
 pub object_of_rel : {V : World} (a b : ObjId) → Named V a.0 b.0 → Agrees V (object_of a) (object_of b)
 object_of_rel a b n = give_rel (object_value_rel a b n)
@@ -43,8 +44,9 @@ new_list_object_rel there = whole_rel array_prototype array_place there array (e
 
 pub new_plain_rel : {V : World} → ActRel Ids V new_plain new_plain
 new_plain_rel = on_built_ins (λ U i there. make_rel (new_object class.Plain (Some object_prototype)) (new_object class.Plain (Some object_prototype))
-    (new_fit class.Plain (Some object_prototype)) (new_fit class.Plain (Some object_prototype)) (whole_rel object_prototype object_place there plain no_entries))
+    (new_fit class.Plain (Some object_prototype)) (new_fit class.Plain (Some object_prototype)) (whole_rel object_prototype object_place there plain no_entries) refl (λ W l s t g. tt))
 
 pub new_list_rel : {V : World} → ActRel Ids V new_list new_list
 new_list_rel = on_built_ins (λ U i there. make_rel (new_object class.List (Some array_prototype)) (new_object class.List (Some array_prototype))
-    (new_fit class.List (Some array_prototype)) (new_fit class.List (Some array_prototype)) (new_list_object_rel there))
+    (new_fit class.List (Some array_prototype)) (new_fit class.List (Some array_prototype)) (new_list_object_rel there) refl
+    (λ W l s t g. (refl, record { count = 0; writable = true; others = []; are = refl })))

@@ -1,5 +1,5 @@
 -- References to names of both pages (sections 8.7 and 10.2.2.1).
-use Rattle.std.proofs.Common.{◌≡◌, refl, sym, ap, subst, ◌∙◌, ℕ, ◌<◌, Bool, true, false, List, length, Option, Some, None, arith}
+use Rattle.std.proofs.Common.{◌≡◌, refl, ap, subst, ◌∙◌, ℕ, ◌<◌, Bool, true, false, List, length, Option, Some, None, arith}
 use Rattle.js_values.specs.declared.ids.EnvId.{EnvId}
 use Rattle.js_values.specs.declared.throw.Throw.TheVariants.{NotDefined}
 use Rattle.js_values.specs.declared.value.Value.{Value}
@@ -18,9 +18,14 @@ use Rattle.heap_relations.proofs.Callers as heap
 use Rattle.heap_relations.specs.Naming as naming
 use Rattle.heap_relations.specs.Naming.{FoundRel, Frame, Free, In, Itself, Kept, Larger, named, Place, resolve, Slot, World, env_id, inside, is_captured, is_copied, is_free, is_reserved, is_sealed, is_unused, nowhere as unbound}
 use Rattle.heap_relations.specs.Related.{Maybe, ValueRel, none, some, undefined}
-use Rattle.agreement.specs.Acts.{ActRel, Agrees, Continues, Equal, OutcomeRel, SignalRel, StoreRel, built_in_count, ended}
-use Rattle.agreement.specs.Trees.{HasEqualTrees, HereRel, code_fits, is_reached}
+use Rattle.object_heap.specs.Laws.{binds}
+use Rattle.object_shapes.proofs.Callers as shapes
+use Rattle.object_shapes.specs.Links.{built_in_count}
+use Rattle.agreement.proofs.Linked.{value_below}
+use Rattle.agreement.specs.Acts.{ActRel, Agrees, Continues, Equal, OutcomeRel, SignalRel, StoreRel, ended}
+use Rattle.agreement.specs.Trees.{HereRel, is_reached}
 use Rattle.agreement.proofs.Acts.{also_rel, asking_rel, bind_rel, larger_same, on_built_ins, ret_rel}
+use Rattle.agreement.proofs.EqualTrees.{trees_up}
 use Rattle.agreement.proofs.Heap.{get_rel, tells_rel, value_up}
 use Rattle.agreement.proofs.Operators.{give_type_rel}
 use Rattle.agreement.proofs.Properties.{has_property_same, put_in_rel}
@@ -42,14 +47,7 @@ reference_up {x = x} l (bound s i free own) = bound s (l.slots s i) free (reserv
 reference_up l global = global
 reference_up l nowhere = nowhere
 
-trees_up : {V W : World} → Larger V W → HasEqualTrees V → HasEqualTrees W
-trees_up l h = record {
-  opens = sym l.opens ∙ h.opens;
-  opened = λ fs c. subst (λ o. o fs c ≡ c) l.opened (h.opened fs c);
-  fits = λ fs c. subst (λ o. o fs c ≡ code_fits fs c) l.fits (h.fits fs c);
-}
-
-pub here_up : {V W : World} {fs : List Frame} {a b : Here} → Larger V W → HereRel V fs a b → HereRel W fs a b
+abbrev pub here_up : {V W : World} {fs : List Frame} {a b : Here} → Larger V W → HereRel V fs a b → HereRel W fs a b
 here_up l h = record { trees = trees_up l h.trees; round = heap.round_up l h.round; this = value_up l h.this }
 
 -- ---- the object that has the globals
@@ -127,11 +125,12 @@ read_rel x nowhere = raise_rel (NotDefined x)
 
 bind_name_rel : {V : World} {v w : Value} (s : Slot) (x : List ℕ) → In s V.slots → s.frame.keeps x ≡ Free → is_reserved V.opens x ≡ false → ValueRel (named V) v w
     → ActRel (Equal {A = Unit {0}}) V (bind_name (env_id s.one) x v) (bind_name (env_id s.two) x w)
-bind_name_rel s x i free own r = record {
+bind_name_rel {v = v} s x i free own r = record {
   run = λ W l u t n g. ended W larger_same refl (record {
     heap = heap.name_set g.heap s x (l.slots s i) (reserved_up x l own) free (value_up l r);
     lines = g.lines;
     built_ins = g.built_ins;
+    shaped = shapes.step_shaped u (binds s.one x v) g.heap.left g.shaped (value_below g (value_up l r));
   });
 }
 

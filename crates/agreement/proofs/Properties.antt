@@ -17,7 +17,8 @@ use Rattle.page_meaning.specs.Properties.{class_of, define_member, delete_member
 use Rattle.page_meaning.specs.Store.{Store}
 use Rattle.heap_relations.specs.Naming.{Named, named, World}
 use Rattle.heap_relations.specs.Related.{ChangeRel, ClassRel, Maybe, ValueRel, undefined, null, truth, num, text, object, none, some, plain, array, page, native, bound, fault, math, window, node, event}
-use Rattle.agreement.specs.Acts.{Agrees, Equal, StoreRel, built_in_count}
+use Rattle.object_shapes.specs.Links.{built_in_count}
+use Rattle.agreement.specs.Acts.{Agrees, Equal, StoreRel}
 use Rattle.agreement.proofs.Acts.{also_rel, asking_rel, choose_rel, larger_more}
 use Rattle.agreement.proofs.Heap.{class_rel, define_at_rel, delete_at_rel, get_rel, get_property_rel, named_up, put_at_rel, value_up}
 use Rattle.agreement.proofs.Values.{give_rel, number_of_rel, raise_rel, settle_rel, to_text_rel, unless_rel}

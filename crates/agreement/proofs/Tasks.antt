@@ -15,12 +15,14 @@ use Rattle.page_meaning.specs.Tasks.{Name, Script, Task, after_task, depth_limit
 use Rattle.page_meaning.specs.declared.signal.Signal.{Signal}
 use Rattle.heap_relations.specs.Naming.{Larger, World, outermost}
 use Rattle.heap_relations.specs.Related.{no_more, undefined}
-use Rattle.agreement.specs.Acts.{AddedRel, Agrees, CallsRel, HasBuiltIns, SignalRel, StoreRel, break, built_in_count, continue, return, thrown, value as given}
+use Rattle.object_shapes.specs.Links.{built_in_count}
+use Rattle.agreement.specs.Acts.{AddedRel, Agrees, CallsRel, HasBuiltIns, SignalRel, StoreRel, break, continue, return, thrown, value as given}
 use Rattle.agreement.specs.Laws.{EventsAgree}
 use Rattle.agreement.specs.Trees.{HasEqualTrees, HereRel, stmts_fit, task_fits}
 use Rattle.agreement.proofs.Acts.{also_rel, bind_rel, larger_more, larger_same, on_built_ins}
 use Rattle.agreement.proofs.Called.{calls_up}
-use Rattle.agreement.proofs.Calling.{calls_at_rel, trees_up}
+use Rattle.agreement.proofs.Calling.{calls_at_rel}
+use Rattle.agreement.proofs.EqualTrees.{trees_up}
 use Rattle.agreement.proofs.Ends.{LaterRel, finished_rel}
 use Rattle.agreement.proofs.Functions.{declare_globals_rel, global_variables_rel}
 use Rattle.agreement.proofs.Names.{read_name_rel}
@@ -33,7 +35,8 @@ pub window_place : window.0 < built_in_count
 unfolding built_in_count
 window_place = omega arith
 
-pub top_rel : {V : World} → HasEqualTrees V → HasBuiltIns V → HereRel V [] top top
+-- it unfolds, so that its test is seen
+abbrev pub top_rel : {V : World} → HasEqualTrees V → HasBuiltIns V → HereRel V [] top top
 top_rel trees there = record { trees = trees; round = outermost; this = object_value_rel window window (there window.0 window_place) }
 
 pub call_end_rel : {V : World} {s t : Signal} → SignalRel V s t → SignalRel V (call_end s) (call_end t)
@@ -43,18 +46,21 @@ call_end_rel (return r) = given r
 call_end_rel break = given undefined
 call_end_rel continue = given undefined
 
-pub run_script_rel : {V : World} (c d : Calls) (body : tree.Stmts) → CallsRel V c d → HasEqualTrees V → stmts_fit [] body ≡ true → Agrees V (run_script c body) (run_script d body)
+pub run_script_rel : {V : World} (c d : Calls) (body : tree.Stmts) → CallsRel V c d → (trees : HasEqualTrees V)
+    → stmts_fit trees.asks [] body ≡ true → Agrees V (run_script c body) (run_script d body)
 run_script_rel c d body calls trees f =
     also_rel (declare_globals_rel body trees f) (λ W l v w r. also_rel (global_variables_rel (variables_of body)) (λ X j x y q. on_built_ins (λ Y i there.
     let up = larger_more l (larger_more j i) in
     bind_rel (exec_all_rel c d [] top top body (calls_up up calls) (top_rel (trees_up up trees) there) f) (λ Z k s t e. end_rel (call_end_rel e)))))
 
-pub task_of_rel : {V : World} (c d : Calls) (task : Task) → CallsRel V c d → HasEqualTrees V → task_fits task ≡ true → Agrees V (task_of c task) (task_of d task)
+pub task_of_rel : {V : World} (c d : Calls) (task : Task) → CallsRel V c d → (trees : HasEqualTrees V) → task_fits trees.asks task ≡ true
+    → Agrees V (task_of c task) (task_of d task)
 task_of_rel c d (Script body) calls trees f = run_script_rel c d body calls trees f
 task_of_rel c d (Name x) calls trees f = on_built_ins (λ U i there.
     also_rel (read_name_rel [] top top x (top_rel (trees_up i trees) there) refl) (λ W l f g r. calls.call W (larger_more i l) r undefined no_more))
 
-pub after_task_rel : {V : World} {s t : Store} (task : Task) → HasEqualTrees V → task_fits task ≡ true → StoreRel V s t → LaterRel V (after_task task s) (after_task task t)
+pub after_task_rel : {V : World} {s t : Store} (task : Task) → (trees : HasEqualTrees V) → task_fits trees.asks task ≡ true → StoreRel V s t
+    → LaterRel V (after_task task s) (after_task task t)
 after_task_rel {s = s} {t = t} task trees f g =
     let calls = calls_at depth_limit in
     finished_rel ((task_of_rel calls calls task (calls_at_rel depth_limit trees) trees f).run _ larger_same s t step_limit g)

@@ -18,7 +18,8 @@ use Rattle.page_meaning.specs.Errors.{code_props, error_fit, error_object, on_re
 use Rattle.page_meaning.specs.Places.{error_prototype, error_prototype_place, range_error_prototype_place, reference_error_prototype_place, type_error_prototype_place}
 use Rattle.heap_relations.specs.Naming.{Larger, Named, named, World}
 use Rattle.heap_relations.specs.Related.{Entries, ObjectRel, PropRel, ValueRel, undefined, null, truth, num, text, object, entry, fault, no_entries, some}
-use Rattle.agreement.specs.Acts.{ActRel, Agrees, Equal, HasBuiltIns, built_in_count, thrown, value as given}
+use Rattle.object_shapes.specs.Links.{built_in_count}
+use Rattle.agreement.specs.Acts.{ActRel, Agrees, Equal, HasBuiltIns, thrown, value as given}
 use Rattle.agreement.proofs.Acts.{bind_rel, ret_rel, also_rel, on_built_ins}
 use Rattle.agreement.proofs.Heap.{make_rel, named_up, value_up}
 
@@ -57,7 +58,8 @@ pub object_value_rel : {V : World} (a b : ObjId) → Named V a.0 b.0 → ValueRe
 object_value_rel a b n = object n
 
 pub raise_rel : {V : World} (t : Throw) → Agrees V (raise t) (raise t)
-raise_rel t = on_built_ins (λ U i there. bind_rel (make_rel (error_object t) (error_object t) (error_fit t) (error_fit t) (error_rel t there))
+raise_rel t = on_built_ins (λ U i there. bind_rel (make_rel (error_object t) (error_object t) (error_fit t) (error_fit t) (error_rel t there) refl
+    (λ W l s u g. record { kind = kind_of t; is = refl }))
     (λ W l a b n. ret_rel (λ X j. thrown (object_value_rel a b (named_up j n)))))
 
 -- the same error, or values that are related

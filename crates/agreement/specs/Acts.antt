@@ -9,10 +9,8 @@ use Rattle.page_meaning.specs.declared.signal.Signal.{Signal}
 use Rattle.page_meaning.specs.declared.signal.Signal.TheVariants as signal
 use Rattle.heap_relations.specs.Naming.{Agree, Before, Larger, Named, named, World}
 use Rattle.heap_relations.specs.Related.{Each, ValueRel}
-
--- how many objects a page begins with
-unfoldable pub built_in_count : ℕ
-built_in_count = 93
+use Rattle.object_shapes.specs.Links.{built_in_count}
+use Rattle.object_shapes.specs.Shapes.{IsShaped}
 
 -- what is built in stands at the same places
 abbrev pub HasBuiltIns : World → Type 0
@@ -24,11 +22,12 @@ pub record AddedRel (b : Before) (xs ys : List Line) : Type 0 where
   pub one : xs ≡ b.one ++ more
   pub two : ys ≡ b.two ++ more
 
--- two pages agree: their heaps do, and they have put out the same lines
+-- two pages agree: their heaps do, and they have put out the same lines. The objects of the left have their shapes
 pub record StoreRel (W : World) (s t : Store) : Type 0 where
   pub heap : Agree W s.heap t.heap
   pub lines : AddedRel W.before s.lines t.lines
   pub built_ins : HasBuiltIns W
+  pub shaped : IsShaped s
 
 -- what is related for each naming
 abbrev pub Relation : Type 0 → Type 1

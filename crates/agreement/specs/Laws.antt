@@ -11,7 +11,7 @@ use Rattle.page_meaning.specs.Store.{Store}
 use Rattle.heap_relations.specs.Naming.{named, World}
 use Rattle.heap_relations.specs.Related.{Each, ValueRel}
 use Rattle.agreement.specs.Acts.{Agrees, CallsRel, StoreRel}
-use Rattle.agreement.specs.Trees.{AgreesWithItself, HasEqualTrees, are_low}
+use Rattle.agreement.specs.Trees.{AgreesAsking, AgreesWithItself, HasEqualTrees, are_low, scripts_fit}
 
 -- each built-in function, where what it calls agrees: on related values it does the same in pages that agree, and they agree after it
 abbrev pub RowsAgree : Type 0
@@ -29,3 +29,9 @@ EventsAgree =
 -- each page agrees with itself after its scripts and any events, where no script is too high
 abbrev pub PagesAgree : Type 0
 PagesAgree = (scripts : List tree.Stmts) (es : List Event) → are_low scripts ≡ true → AgreesWithItself (run_of scripts es)
+
+-- where each script fits in no frames, with functions that pass a test, those that the page holds pass it
+abbrev pub FittingPagesAgree : Type 0
+FittingPagesAgree =
+    (asks : tree.Code → Bool) (scripts : List tree.Stmts) (es : List Event)
+    → scripts_fit asks scripts ≡ true → AgreesAsking asks (run_of scripts es)

@@ -1,6 +1,6 @@
 //! What holds of pages that agree.
 
-ghost use Rattle.agreement.specs.Laws.{EventsAgree, PagesAgree, RowsAgree};
+ghost use Rattle.agreement.specs.Laws.{EventsAgree, FittingPagesAgree, PagesAgree, RowsAgree};
 
 use page_meaning::laws::law_heaps_stay_sound;
 
@@ -17,6 +17,13 @@ pub fn law_events_agree()
 /// Each page agrees with itself.
 pub fn law_pages_agree()
     ensures { PagesAgree }
+{
+    law_heaps_stay_sound();
+}
+
+/// A page whose scripts fit agrees with itself, and its functions pass the test.
+pub fn law_fitting_pages_agree()
+    ensures { FittingPagesAgree }
 {
     law_heaps_stay_sound();
 }

@@ -3,4 +3,4 @@
 
 mod laws;
 
-pub use laws::{law_events_agree, law_pages_agree, law_rows_agree};
+pub use laws::{law_events_agree, law_fitting_pages_agree, law_pages_agree, law_rows_agree};

@@ -1,0 +1,13 @@
+pub mod Begin
+pub mod Bound
+pub mod Called
+pub mod Callers
+pub mod Changed
+pub mod Edits
+pub mod Held
+pub mod Lists
+pub mod Made
+pub mod Rules
+pub mod Stays
+pub mod Steps
+pub mod Window
