@@ -6,7 +6,8 @@ use Rattle.std.proofs.lemmas.List.Folds.{list_any-append}
 use Rattle.std.proofs.Math.Bool.{or-true}
 use Rattle.indexmap.specs.IndexSet.{insert_key}
 use Rattle.page_meaning.specs.Store.{Store}
-use Rattle.heap_walker.specs.Things.{is_in, is_thing}
+use Rattle.heap_walker.specs.Things.{is_in}
+use Rattle.object_shapes.specs.Links.{is_thing}
 use Rattle.heap_walker.specs.Walking.{joined, with_seen}
 
 -- what is seen of one list and then of another is seen of both

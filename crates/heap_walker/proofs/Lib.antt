@@ -1,7 +1,10 @@
+pub mod Bindings
+pub mod Bound
 pub mod Callers
 pub mod Joining
 pub mod Needing
 pub mod Places
 pub mod Resting
+pub mod Standing
 pub mod Walks
 pub mod Weights

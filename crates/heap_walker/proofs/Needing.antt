@@ -1,5 +1,5 @@
 -- The names that a function needs, from the uses of its body.
-use Rattle.std.proofs.Common.{◌≡◌, ◌∙◌, refl, sym, ap, List, [], ◌++◌, bytes_eq}
+use Rattle.std.proofs.Common.{◌≡◌, ◌∙◌, ap, List, [], ◌++◌, bytes_eq}
 use Rattle.code_table.specs.Declarations.{name_of, unnamed}
 use Rattle.indexmap.specs.IndexSet.{insert_all}
 use Rattle.js_core.specs.Tree as tree

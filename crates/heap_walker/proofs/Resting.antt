@@ -1,19 +1,20 @@
 -- What the things of a page at rest refer to is built in or walked.
-use Rattle.std.proofs.Common.{◌≡◌, ◌⊎◌, inl, inr, refl, sym, ap, ◌∙◌, ℕ, ◌<◌, Bool, true, false, ◌||◌, List, [], ◌∷◌, ◌++◌, length, nat_eq, nat_le, nat_lt}
+use Rattle.std.proofs.Common.{◌≡◌, ◌⊎◌, inl, inr, refl, sym, ap, ◌∙◌, ℕ, zero, suc, ◌<◌, Bool, true, false, ◌||◌, List, [], ◌∷◌, ◌++◌, drop, length, nat_eq, nat_le, nat_lt}
 use Rattle.std.proofs.Math.Bool.{or-true}
 use Rattle.std.proofs.lemmas.Bool.{eq-eqb, eqb-true, leb-false, ltb-true}
 use Rattle.std.proofs.lemmas.List.Folds.{list_any-append}
 use Rattle.std.specs.List.{list_all}
-use Rattle.js_core.specs.GlobalNames.{names_global}
 use Rattle.object_heap.specs.Chain.{object_at}
 use Rattle.object_heap.specs.Object.{Object}
 use Rattle.object_heap.specs.Property.{Props}
 use Rattle.page_meaning.specs.Places.{window}
 use Rattle.page_meaning.specs.Store.{Store}
 use Rattle.heap_walker.specs.Still.{Still, made_links}
-use Rattle.heap_walker.specs.Things.{IsWalk, built_in_count, class_links, globals, is_in, is_thing, link, links, props_links, proto_links, root, roots, value_links}
+use Rattle.heap_walker.specs.Things.{IsWalk, class_links, is_in, link, links, root, roots}
+use Rattle.object_shapes.specs.Links.{built_in_count, is_thing, props_links, proto_links, value_links}
+use Rattle.object_shapes.specs.Shapes.{built_in_globals}
+use Rattle.heap_walker.proofs.Bindings.{links_there, made_below}
 use Rattle.heap_walker.proofs.Joining.{either}
-use Rattle.heap_walker.proofs.Walks.{thing_of}
 
 -- what holds of all holds of each
 pub each_of : (p : ℕ → Bool) (ks : List ℕ) → list_all p ks ≡ true → (j : ℕ) → is_in j ks ≡ true → p j ≡ true
@@ -44,32 +45,22 @@ built_in_or_thing s j there = by (nat_le built_in_count j) refl
     by false h = inl (leb-false built_in_count j h)
 
 pub links_in_walk : (s : Store) (things : List ℕ) → Still s → IsWalk s things → (k : ℕ) → is_in k things ≡ true → (j : ℕ) → is_in j (links s k) ≡ true → (j < built_in_count) ⊎ (is_in j things ≡ true)
-links_in_walk s things still walk k found j h = by (built_in_or_thing s j (each_of (λ n. nat_lt n (length s.heap.objects)) (links s k) (still.there k) j h))
+links_in_walk s things still walk k found j h = by (built_in_or_thing s j (each_of (λ n. nat_lt n (length s.heap.objects)) (links s k) (links_there s still k) j h))
   where
     by : (j < built_in_count) ⊎ (is_thing s j ≡ true) → (j < built_in_count) ⊎ (is_in j things ≡ true)
     by (inl low) = inl low
     by (inr thing) = inr (walk.complete j (link (walk.sound k found) thing h))
 
-globals_among : (ps : Props) (j : ℕ) → is_in j (props_links (globals ps)) ≡ true → is_in j (props_links ps) ≡ true
-globals_among [] j h = h
-globals_among (e ∷ es) j h = by (names_global e.0) refl (λ g. globals_among es j g)
-  where
-    whole : (is_in j (value_links e.1.value) || is_in j (props_links es)) ≡ true → is_in j (props_links (e ∷ es)) ≡ true
-    whole g = list_any-append (nat_eq j) (value_links e.1.value) (props_links es) ∙ g
-
-    split : is_in j (value_links e.1.value ++ props_links (globals es)) ≡ true → (is_in j (value_links e.1.value) ≡ true) ⊎ (is_in j (props_links (globals es)) ≡ true)
-    split g = either (is_in j (value_links e.1.value)) (is_in j (props_links (globals es))) (sym (list_any-append (nat_eq j) (value_links e.1.value) (props_links (globals es))) ∙ g)
-
-    joined : (is_in j (value_links e.1.value) ≡ true) ⊎ (is_in j (props_links (globals es)) ≡ true) → (is_in j (props_links (globals es)) ≡ true → is_in j (props_links es) ≡ true) → is_in j (props_links (e ∷ es)) ≡ true
-    joined (inl here) later = whole (rw here refl)
-    joined (inr more) later = whole (rw (later more) (or-true (is_in j (value_links e.1.value))))
-
-    by : (b : Bool) → names_global e.0 ≡ b → (is_in j (props_links (globals es)) ≡ true → is_in j (props_links es) ≡ true) → is_in j (props_links (e ∷ es)) ≡ true
-    by true built later = whole (rw (later (rw built at h)) (or-true (is_in j (value_links e.1.value))))
-    by false own later = joined (split (rw own at h)) later
+-- what the properties behind so many refer to is among what all refer to
+dropped_among : (n : ℕ) (ps : Props) (j : ℕ) → is_in j (props_links (drop n ps)) ≡ true → is_in j (props_links ps) ≡ true
+dropped_among zero ps j h = h
+dropped_among (suc n) [] j h = h
+dropped_among (suc n) (e ∷ es) j h =
+    list_any-append (nat_eq j) (value_links e.1.value) (props_links es)
+    ∙ rw (dropped_among n es j h) (or-true (is_in j (value_links e.1.value)))
 
 pub roots_in_walk : (s : Store) (things : List ℕ) → Still s → IsWalk s things → (j : ℕ) → is_in j (roots s) ≡ true → (j < built_in_count) ⊎ (is_in j things ≡ true)
-roots_in_walk s things still walk j h = by (built_in_or_thing s j (each_of (λ n. nat_lt n (length s.heap.objects)) (links s window.0) (still.there window.0) j linked))
+roots_in_walk s things still walk j h = by (built_in_or_thing s j (each_of (λ n. nat_lt n (length s.heap.objects)) (links s window.0) (links_there s still window.0) j linked))
   where
     o : Object
     o = object_at s.heap.objects window.0
@@ -78,7 +69,7 @@ roots_in_walk s things still walk j h = by (built_in_or_thing s j (each_of (λ n
     linked =
         list_any-append (nat_eq j) (proto_links o.proto) (class_links s o.class ++ props_links o.props)
         ∙ ap (λ b. is_in j (proto_links o.proto) || b) (list_any-append (nat_eq j) (class_links s o.class) (props_links o.props))
-        ∙ rw (globals_among o.props j h) (rw (or-true (is_in j (class_links s o.class))) (or-true (is_in j (proto_links o.proto))))
+        ∙ rw (dropped_among built_in_globals o.props j h) (rw (or-true (is_in j (class_links s o.class))) (or-true (is_in j (proto_links o.proto))))
 
     by : (j < built_in_count) ⊎ (is_thing s j ≡ true) → (j < built_in_count) ⊎ (is_in j things ≡ true)
     by (inl low) = inl low
@@ -112,4 +103,4 @@ props_among s k j h =
 -- what it refers to from when it was made is older
 pub made_older : (s : Store) (things : List ℕ) → Still s → IsWalk s things → (k : ℕ) → is_in k things ≡ true → (j : ℕ) → is_in j (made_links s (object_at s.heap.objects k)) ≡ true → j < k
 made_older s things still walk k found j h =
-    ltb-true j k (each_of (λ n. nat_lt n k) (made_links s (object_at s.heap.objects k)) (still.older k (thing_of s k (walk.sound k found))) j h)
+    ltb-true j k (each_of (λ n. nat_lt n k) (made_links s (object_at s.heap.objects k)) (made_below s still k (walk.sound k found)) j h)

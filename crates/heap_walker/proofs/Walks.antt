@@ -11,7 +11,8 @@ use Rattle.std.specs.List.{IsDistinct}
 use Rattle.std.specs.List.Sorted.{IsSorted, IsStrictlyIncreasing}
 use Rattle.std.specs.List.{slice_index}
 use Rattle.page_meaning.specs.Store.{Store}
-use Rattle.heap_walker.specs.Things.{IsWalk, Reach, is_in, is_thing, link, links, root, roots}
+use Rattle.heap_walker.specs.Things.{IsWalk, Reach, is_in, link, links, root, roots}
+use Rattle.object_shapes.specs.Links.{is_thing}
 use Rattle.heap_walker.specs.Walking.{IsAll, IsPart, joined}
 use Rattle.heap_walker.proofs.Places.{same_place}
 use Rattle.heap_walker.proofs.Joining.{either, in_next, joined_from, joined_gained, joined_kept, joined_places}

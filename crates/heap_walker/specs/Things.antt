@@ -1,50 +1,26 @@
--- What a moved page has to bring along: things, what each refers to, and what can still be reached. Later kinds of links (nodes, listeners, timers)
+-- What a moved page has to bring along: what each thing refers to, and what can still be reached. Later kinds of links (nodes, listeners, timers)
 -- join `links` and `roots`.
-use Rattle.std.specs.Prelude.{ℕ, Bool, List, if◌then◌else◌, [], ◌∷◌, ◌++◌, Option, Some, None, ◌&&◌, nat_le, nat_lt, nat_eq, length, unwrap_or, IsTrue}
+use Rattle.std.specs.Prelude.{ℕ, Bool, List, [], ◌∷◌, ◌++◌, Option, nat_eq, drop, unwrap_or, IsTrue}
 use Rattle.std.specs.List.{list_any}
 use Rattle.std.specs.List.Sorted.{IsStrictlyIncreasing}
 use Rattle.std.specs.Option.{option_map}
-use Rattle.js_core.specs.GlobalNames.{names_global}
 use Rattle.js_core.specs.Tree as tree
 use Rattle.js_values.specs.declared.ids.EnvId.{EnvId}
-use Rattle.js_values.specs.declared.ids.ObjId.{ObjId}
 use Rattle.js_values.specs.declared.value.Value.{Value}
-use Rattle.js_values.specs.declared.value.Value.TheVariants.{Undefined, Object as Reference}
+use Rattle.js_values.specs.declared.value.Value.TheVariants.{Undefined}
 use Rattle.object_heap.specs.Chain.{object_at}
 use Rattle.object_heap.specs.Heap.{look_in}
 use Rattle.object_heap.specs.Object.{Object}
 use Rattle.object_heap.specs.Property.{Props}
 use Rattle.object_heap.specs.declared.object.Class.{Class}
 use Rattle.object_heap.specs.declared.object.Class.TheVariants.{Bound, Page}
+use Rattle.object_shapes.specs.Links.{is_thing, props_links, proto_links, value_links, values_links}
+use Rattle.object_shapes.specs.Shapes.{built_in_globals}
 use Rattle.page_meaning.specs.Places.{window}
 use Rattle.page_meaning.specs.Store.{Store}
 use Rattle.scope_analysis.specs.FreeUses.{needed_variables}
 
--- how many objects a page begins with, the global object among them
-unfoldable pub built_in_count : ℕ
-built_in_count = 93
-
--- a thing is an object that scripts made: it is there, and younger than the built-in ones
-abbrev pub is_thing : Store → ℕ → Bool
-is_thing s k = nat_le built_in_count k && nat_lt k (length s.heap.objects)
-
 -- ---- what an object refers to
-
-abbrev pub value_links : Value → List ℕ
-value_links (Reference at) = at.0 ∷ []
-value_links v = []
-
-abbrev pub values_links : List Value → List ℕ
-values_links [] = []
-values_links (v ∷ vs) = value_links v ++ values_links vs
-
-abbrev pub props_links : Props → List ℕ
-props_links [] = []
-props_links (e ∷ es) = value_links e.1.value ++ props_links es
-
-abbrev pub proto_links : Option ObjId → List ℕ
-proto_links None = []
-proto_links (Some at) = at.0 ∷ []
 
 -- the value of a name in the environments of a function (10.2.2.1), undefined where none has it
 abbrev pub bound_value : Store → Option EnvId → List ℕ → Value
@@ -75,13 +51,9 @@ links_of s o = proto_links o.proto ++ (class_links s o.class ++ props_links o.pr
 abbrev pub links : Store → ℕ → List ℕ
 links s k = links_of s (object_at s.heap.objects k)
 
--- the own properties of the global object that are not built in
-abbrev pub globals : Props → Props
-globals [] = []
-globals (e ∷ es) = if names_global e.0 then globals es else (e ∷ globals es)
-
+-- the own properties of the global object behind those that it begins with
 abbrev pub globals_of : Store → Props
-globals_of s = globals (object_at s.heap.objects window.0).props
+globals_of s = drop built_in_globals (object_at s.heap.objects window.0).props
 
 abbrev pub roots : Store → List ℕ
 roots s = props_links (globals_of s)

@@ -2,7 +2,8 @@
 use Rattle.std.specs.Prelude.{ℕ, List, [], ◌∷◌, nat_eq, take, IsTrue, if◌then◌else◌}
 use Rattle.indexmap.specs.IndexSet.{insert_key}
 use Rattle.page_meaning.specs.Store.{Store}
-use Rattle.heap_walker.specs.Things.{Reach, is_in, is_thing, links, roots}
+use Rattle.heap_walker.specs.Things.{Reach, is_in, links, roots}
+use Rattle.object_shapes.specs.Links.{is_thing}
 
 -- what was seen, with this one, if it is a thing
 abbrev pub with_seen : Store → List ℕ → ℕ → List ℕ

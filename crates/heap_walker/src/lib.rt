@@ -1,16 +1,21 @@
 //! What of a page can still be reached, and what it weighs.
 #![tactic(auto)]
 
+mod alone;
 mod laws;
 mod links;
 mod needs;
 mod reached;
 mod weight;
 
-pub use laws::{law_built_ins_are_counted, law_walks_are_same};
+pub use alone::stand_alone;
+pub use laws::law_walks_are_same;
 pub use needs::{Needs, needs_of};
 pub use reached::{Walked, walk};
 pub use weight::{Weight, weigh, weight_of};
 
 /// How many objects a page begins with, the global object among them. Those that scripts make are younger.
 pub const BUILT_IN_COUNT: u64 = 93;
+
+/// How many properties the global object begins with. Those that scripts make stand behind them.
+pub const BUILT_IN_GLOBALS: u64 = 19;

@@ -1,27 +1,25 @@
 //! What an object refers to, as far as it is a thing.
 
-ghost use Rattle.std.specs.Prelude.{◌≡◌, ◌++◌, OnOk, [], ◌∷◌};
+ghost use Rattle.std.specs.Prelude.{◌≡◌, ◌++◌, OnOk, [], ◌∷◌, drop};
 ghost use Rattle.object_heap.specs.Chain.{object_at};
-ghost use Rattle.object_heap.specs.Property.{Props};
 ghost use Rattle.heap_walker.specs.Things as spec;
 ghost use Rattle.heap_walker.specs.Walking.{joined};
+ghost use Rattle.object_shapes.specs.Links as shape;
 ghost use Rattle.page_meaning.specs.Properties.{class_at};
 
-use crate::BUILT_IN_COUNT;
 use crate::needs::needs_of;
+use crate::{BUILT_IN_COUNT, BUILT_IN_GLOBALS};
 use code_table::FunctionCode;
 use indexmap::IndexSet;
-use js_core::global_names::is_global_name;
 use js_core::memory::OutOfMemory;
 use js_core::units::Units;
 use js_values::ids::{EnvId, ObjId};
 use js_values::value::Value;
 use object_heap::object::Class;
-use object_heap::property::Prop;
 use page_state::{State, WINDOW, further};
 
 // The object is seen, if it is a thing.
-#[tactic(auto, unfolding(crate::specs::Things::built_in_count))]
+#[tactic(auto, unfolding(object_shapes::specs::Links::built_in_count))]
 fn see(state: &State, at: ObjId, seen: &mut IndexSet<u64>) -> Result<(), OutOfMemory>
     ensures { OnOk result (seen.new.keys ≡ joined state.now seen.old.keys (at.0 ∷ [])) }
 {
@@ -33,7 +31,7 @@ fn see(state: &State, at: ObjId, seen: &mut IndexSet<u64>) -> Result<(), OutOfMe
 
 fn see_value(state: &State, value: &Value, seen: &mut IndexSet<u64>) -> Result<(), OutOfMemory>
     ensures { OnOk result (seen.new.keys
-        ≡ joined state.now seen.old.keys (spec.value_links value.now)) }
+        ≡ joined state.now seen.old.keys (shape.value_links value.now)) }
 {
     match value {
         Value::Object(at) => see(state, *at, seen),
@@ -43,7 +41,7 @@ fn see_value(state: &State, value: &Value, seen: &mut IndexSet<u64>) -> Result<(
 
 fn see_values(state: &State, values: &[Value], seen: &mut IndexSet<u64>) -> Result<(), OutOfMemory>
     ensures { OnOk result (seen.new.keys
-        ≡ joined state.now seen.old.keys (spec.values_links values.now)) }
+        ≡ joined state.now seen.old.keys (shape.values_links values.now)) }
 {
     let mut rest = values;
     while let [value, after @ ..] = rest {
@@ -55,7 +53,7 @@ fn see_values(state: &State, values: &[Value], seen: &mut IndexSet<u64>) -> Resu
 
 fn see_proto(state: &State, at: ObjId, seen: &mut IndexSet<u64>) -> Result<(), OutOfMemory>
     ensures { OnOk result (seen.new.keys ≡ joined state.now seen.old.keys
-        (spec.proto_links (object_at state.now.heap.objects at.0).proto)) }
+        (shape.proto_links (object_at state.now.heap.objects at.0).proto)) }
 {
     match state.proto(at) {
         Some(proto) => see(state, proto, seen),
@@ -63,11 +61,17 @@ fn see_proto(state: &State, at: ObjId, seen: &mut IndexSet<u64>) -> Result<(), O
     }
 }
 
-fn see_properties(state: &State, at: ObjId, seen: &mut IndexSet<u64>) -> Result<(), OutOfMemory>
+// What the own properties of an object from this place on refer to.
+fn see_properties(
+    state: &State,
+    at: ObjId,
+    first: u64,
+    seen: &mut IndexSet<u64>,
+) -> Result<(), OutOfMemory>
     ensures { OnOk result (seen.new.keys ≡ joined state.now seen.old.keys
-        (spec.props_links (object_at state.now.heap.objects at.0).props)) }
+        (shape.props_links (drop first (object_at state.now.heap.objects at.0).props))) }
 {
-    let mut place = 0;
+    let mut place = first;
     while let Some((_, property)) = state.own_at(at, place) {
         see_value(state, &property.value, seen)?;
         place = further(place, 1)?;
@@ -115,7 +119,7 @@ fn see_parts(
     seen: &mut IndexSet<u64>,
 ) -> Result<(), OutOfMemory>
     ensures { OnOk result (seen.new.keys ≡ joined state.now seen.old.keys
-        (target.0 ∷ (spec.value_links this.now ++ spec.values_links args.now))) }
+        (target.0 ∷ (shape.value_links this.now ++ shape.values_links args.now))) }
 {
     see(state, target, seen)?;
     see_value(state, this, seen)?;
@@ -150,37 +154,14 @@ pub fn see_links(state: &State, at: ObjId, seen: &mut IndexSet<u64>) -> Result<(
 {
     see_proto(state, at, seen)?;
     see_class(state, at, seen)?;
-    see_properties(state, at, seen)
+    see_properties(state, at, 0, seen)
 }
 
 /// What globals refer to is seen, as far as it is a thing.
+#[tactic(auto, unfolding(object_shapes::specs::Shapes::built_in_globals))]
 pub fn see_globals(state: &State, seen: &mut IndexSet<u64>) -> Result<(), OutOfMemory>
     ensures { OnOk result (seen.new.keys
         ≡ joined state.now seen.old.keys (spec.roots state.now)) }
 {
-    let mut place = 0;
-    while let Some((name, property)) = state.own_at(WINDOW, place) {
-        see_global(state, name, property, seen)?;
-        place = further(place, 1)?;
-    }
-    Ok(())
-}
-
-// What a property of the global object refers to is seen, if it is not built in; what others refer to can follow.
-#[tactic(auto, using(crate::proofs::Joining::joined_both))]
-fn see_global(
-    state: &State,
-    name: &Units,
-    property: &Prop,
-    seen: &mut IndexSet<u64>,
-) -> Result<(), OutOfMemory>
-    ensures { (others : Props) → OnOk result
-        (joined state.now seen.new.keys (spec.props_links (spec.globals others))
-        ≡ joined state.now seen.old.keys
-        (spec.props_links (spec.globals ((name.now, property.now) ∷ others)))) }
-{
-    if is_global_name(name) {
-        return Ok(());
-    }
-    see_value(state, &property.value, seen)
+    see_properties(state, WINDOW, BUILT_IN_GLOBALS, seen)
 }

@@ -1,6 +1,6 @@
 //! What a page weighs that is saved.
 
-ghost use Rattle.std.specs.Prelude.{◌≡◌, ◌∷◌, ◌&&◌, ℕ, List, IfOk, OnOk, bytes_eq, length};
+ghost use Rattle.std.specs.Prelude.{◌≡◌, ◌∷◌, ◌&&◌, ℕ, List, IfOk, OnOk, bytes_eq, drop, length};
 ghost use Rattle.js_print.specs.Printing.{code_text};
 ghost use Rattle.object_heap.specs.Chain.{object_at};
 ghost use Rattle.object_heap.specs.Define.{length_name};
@@ -10,10 +10,10 @@ ghost use Rattle.heap_walker.specs.Weight as spec;
 ghost use Rattle.heap_walker.specs.declared.weight.Weight.{Weight as Pure};
 ghost use Rattle.page_meaning.specs.Properties.{class_at};
 
+use crate::BUILT_IN_GLOBALS;
 use crate::needs::needs_of;
 use crate::reached::{Walked, walk};
 use code_table::FunctionCode;
-use js_core::global_names::is_global_name;
 use js_core::memory::OutOfMemory;
 use js_core::units::Units;
 use js_print::print::{print_code, print_unnamed};
@@ -48,18 +48,6 @@ impl Weight {
         ensures { spec.Adds self.old self.new (spec.load 0 bytes) }
     {
         self.text = self.text.saturating_add(bytes);
-    }
-
-    // A property of the global object, if it is not built in; others can follow.
-    fn add_global(&mut self, name: &Units, property: &Prop)
-        ensures { (others : Props) (w : Pure) →
-            spec.Adds self.new w (spec.props_load (things.globals others)) → spec.Adds self.old w
-            (spec.props_load (things.globals ((name.now, property.now) ∷ others))) }
-    {
-        if is_global_name(name) {
-            return;
-        }
-        self.add_named(name, &property.value);
     }
 
     // A property of a thing, if it is written; others can follow.
@@ -171,16 +159,12 @@ pub fn weight_of(state: &State, walked: &Walked) -> Result<Weight, OutOfMemory>
     Ok(weight)
 }
 
+#[tactic(auto, unfolding(object_shapes::specs::Shapes::built_in_globals), using(crate::proofs::Weights::all_written))]
 fn add_globals(state: &State, weight: &mut Weight) -> Result<(), OutOfMemory>
     ensures { OnOk result (spec.Adds weight.old weight.new
         (spec.props_load (things.globals_of state.now))) }
 {
-    let mut place = 0;
-    while let Some((name, property)) = state.own_at(WINDOW, place) {
-        weight.add_global(name, property);
-        place = further(place, 1)?;
-    }
-    Ok(())
+    add_properties(state, WINDOW, BUILT_IN_GLOBALS, false, weight)
 }
 
 fn add_thing(state: &State, at: ObjId, weight: &mut Weight) -> Result<(), OutOfMemory>
@@ -189,7 +173,7 @@ fn add_thing(state: &State, at: ObjId, weight: &mut Weight) -> Result<(), OutOfM
 {
     weight.add(1, 0);
     add_class(state, at, weight)?;
-    add_properties(state, at, has_made_length(state.class(at)), weight)?;
+    add_properties(state, at, 0, has_made_length(state.class(at)), weight)?;
     Ok(())
 }
 
@@ -209,16 +193,19 @@ fn has_made_length(class: &Class) -> bool
     }
 }
 
+// The own properties of an object from this place on, as far as they are written.
 fn add_properties(
     state: &State,
     at: ObjId,
+    first: u64,
     made: bool,
     weight: &mut Weight,
 ) -> Result<(), OutOfMemory>
     ensures { OnOk result (spec.Adds weight.old weight.new
-        (spec.props_load (spec.written made (object_at state.now.heap.objects at.0).props))) }
+        (spec.props_load
+        (spec.written made (drop first (object_at state.now.heap.objects at.0).props)))) }
 {
-    let mut place = 0;
+    let mut place = first;
     while let Some((name, property)) = state.own_at(at, place) {
         weight.add_written(made, name, property);
         place = further(place, 1)?;

@@ -19,8 +19,9 @@ use Rattle.object_heap.specs.declared.object.Class.TheVariants as class
 use Rattle.object_heap.specs.declared.property.Prop.{Prop}
 use Rattle.page_meaning.specs.Places.{window}
 use Rattle.page_meaning.specs.Store.{Store}
-use Rattle.heap_walker.specs.Still.{Still, all_below, made_links}
-use Rattle.heap_walker.specs.Things.{IsWalk, built_in_count, class_links, globals_of, is_in, needs_links, needs_of, props_links, proto_links, roots, value_links, values_links}
+use Rattle.heap_walker.specs.Still.{Still, made_links}
+use Rattle.heap_walker.specs.Things.{IsWalk, class_links, globals_of, is_in, needs_links, needs_of, roots}
+use Rattle.object_shapes.specs.Links.{all_below, built_in_count, props_links, proto_links, value_links, values_links}
 use Rattle.rebuild_plan.specs.Compact.{compact, maker_as, maker_of, moved_needs, moved_prop, moved_props, moved_proto, moved_value, moved_values, place_of, placed, thing_of, things_at}
 use Rattle.rebuild_plan.specs.Plan.{define_length, defines, fill, fills, has_length, has_prototype, makes, plan, prevents, thing_place}
 use Rattle.rebuild_plan.specs.Stands.{maker_names, standing}

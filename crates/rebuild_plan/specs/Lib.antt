@@ -1,3 +1,4 @@
 pub mod Compact
+pub mod Count
 pub mod Plan
 pub mod Stands

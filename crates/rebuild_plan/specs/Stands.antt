@@ -1,7 +1,8 @@
 -- That the statements of a plan name only what already stands, and the law of it.
 use Rattle.std.specs.Prelude.{ℕ, suc, ◌+◌, Bool, true, ◌&&◌, nat_eq, List, [], ◌∷◌, ◌++◌, IsTrue}
-use Rattle.heap_walker.specs.Still.{Still, all_below}
-use Rattle.heap_walker.specs.Things.{IsWalk, built_in_count, needs_links, proto_links, value_links, values_links}
+use Rattle.heap_walker.specs.Still.{Still}
+use Rattle.heap_walker.specs.Things.{IsWalk, needs_links}
+use Rattle.object_shapes.specs.Links.{all_below, built_in_count, proto_links, value_links, values_links}
 use Rattle.page_meaning.specs.Store.{Store}
 use Rattle.rebuild_plan.specs.Compact.{compact}
 use Rattle.rebuild_plan.specs.Plan.{plan}

@@ -5,7 +5,7 @@ ghost use Rattle.js_values.specs.declared.ids.ObjId.{ObjId as Id};
 ghost use Rattle.object_heap.specs.Chain.{object_at};
 ghost use Rattle.object_heap.specs.Define.{length_name};
 ghost use Rattle.object_heap.specs.Property.{Props, own_property};
-ghost use Rattle.heap_walker.specs.Things.{globals, globals_of, needs_of};
+ghost use Rattle.heap_walker.specs.Things.{globals_of, needs_of};
 ghost use Rattle.page_meaning.specs.Places.{window};
 ghost use Rattle.page_meaning.specs.Store.{Store};
 ghost use Rattle.rebuild_plan.specs.Compact as saved;
@@ -15,9 +15,8 @@ ghost use Rattle.rebuild_plan.specs.declared.statement.Maker.TheVariants.{Func, 
 use crate::moved::{moved, moved_needs, moved_prop, moved_proto, moved_value, moved_values};
 use crate::statement::{Maker, Rebuild};
 use code_table::FunctionCode;
-use heap_walker::{BUILT_IN_COUNT, Walked, needs_of};
+use heap_walker::{BUILT_IN_COUNT, BUILT_IN_GLOBALS, Walked, needs_of};
 use js_core::ascii::ascii_text;
-use js_core::global_names::is_global_name;
 use js_core::memory::OutOfMemory;
 use js_core::units::Units;
 use js_values::ids::{EnvId, ObjId};
@@ -119,39 +118,16 @@ fn kind_at(at: ObjId) -> ErrorKind
 }
 
 // The globals that scripts made are defined.
+#[tactic(auto, unfolding(object_shapes::specs::Shapes::built_in_globals))]
 fn push_globals(state: &State, walked: &Walked, plan: &mut Vec<Rebuild>) -> Result<(), OutOfMemory>
     ensures { OnOk result (plan.new.items ≡ plan.old.items ++ spec.defines false false window
         (saved.moved_props walked.now.things.keys (globals_of state.now))) }
 {
-    let mut place = 0;
+    let mut place = BUILT_IN_GLOBALS;
     while let Some((name, prop)) = state.own_at(WINDOW, place) {
-        push_global(walked, name, prop, plan)?;
+        push_property(walked, WINDOW, false, false, name, prop, plan)?;
         place = further(place, 1)?;
     }
-    Ok(())
-}
-
-// A property of the global object is defined, if it is not built in; others can follow.
-fn push_global(
-    walked: &Walked,
-    name: &Units,
-    prop: &Prop,
-    plan: &mut Vec<Rebuild>,
-) -> Result<(), OutOfMemory>
-    ensures { (others : Props) → OnOk result
-        (plan.new.items ++ spec.defines false false window
-        (saved.moved_props walked.now.things.keys (globals others))
-        ≡ plan.old.items ++ spec.defines false false window
-        (saved.moved_props walked.now.things.keys (globals ((name.now, prop.now) ∷ others)))) }
-{
-    if is_global_name(name) {
-        return Ok(());
-    }
-    plan.push(Rebuild::Define {
-        at: WINDOW,
-        name: name.clone()?,
-        prop: moved_prop(walked, prop)?,
-    })?;
     Ok(())
 }
 
@@ -168,7 +144,7 @@ fn push_fills(state: &State, walked: &Walked, plan: &mut Vec<Rebuild>) -> Result
 }
 
 // The place of the thing with this number.
-#[tactic(auto, unfolding(heap_walker::specs::Things::built_in_count))]
+#[tactic(auto, unfolding(object_shapes::specs::Links::built_in_count))]
 fn thing_place(number: usize) -> Result<ObjId, OutOfMemory>
     ensures { IfOk result (λ at. at ≡ spec.thing_place number) }
 {

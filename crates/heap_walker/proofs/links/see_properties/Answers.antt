@@ -2,7 +2,7 @@ use Rattle.std.proofs.Common.{◌≡◌, ℕ, List, ◌∙◌, ◌+◌, ◌∷�
 use Rattle.object_heap.specs.Chain.{object_at}
 use Rattle.object_heap.specs.declared.property.Prop.{Prop}
 use Rattle.object_heap.specs.Property.{Props}
-use Rattle.heap_walker.specs.Things.{props_links, value_links}
+use Rattle.object_shapes.specs.Links.{props_links, value_links}
 use Rattle.heap_walker.specs.Walking.{joined}
 use Rattle.heap_walker.proofs.Joining.{joined_both}
 use Rattle.heap_walker.proofs.Places.{from_place, past_places}

@@ -1,5 +1,5 @@
 use Rattle.std.proofs.Common.{◌≡◌, length}
-use Rattle.heap_walker.specs.Things.{values_links}
+use Rattle.object_shapes.specs.Links.{values_links}
 use Rattle.heap_walker.specs.Walking.{joined}
 use Rattle.heap_walker.proofs.links.see_values.Given as goal
 

@@ -1,4 +1,4 @@
-use Rattle.std.proofs.Common.{◌≡◌, ◌∙◌, ◌++◌, ap, List, ℕ, bytes_eq}
+use Rattle.std.proofs.Common.{◌∙◌, ◌++◌, ap, List, ℕ, bytes_eq}
 use Rattle.code_table.specs.Declarations.{name_of}
 use Rattle.indexmap.specs.IndexSet.{insert_all}
 use Rattle.scope_analysis.specs.Names.{bound_names, maybe_name}
