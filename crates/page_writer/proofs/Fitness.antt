@@ -4,13 +4,13 @@ use Rattle.std.specs.Prelude.{⊤}
 use Rattle.std.proofs.lemmas.Bool.{lt-ltb, ltb-true}
 use Rattle.std.proofs.lemmas.List.Elements.{All-head, All-tail}
 use Rattle.std.proofs.lemmas.List.Folds.{list_all-append}
-use Rattle.heap_walker.specs.Still.{all_below}
-use Rattle.heap_walker.specs.Things.{needs_links, proto_links, value_links, values_links}
+use Rattle.heap_walker.specs.Things.{needs_links}
+use Rattle.object_shapes.specs.Links.{all_below, proto_links, value_links, values_links}
 use Rattle.js_values.specs.declared.value.Value.{Value}
 use Rattle.rebuild_plan.specs.Stands.{maker_names}
 use Rattle.rebuild_plan.specs.declared.statement.Maker.{Maker}
 use Rattle.rebuild_plan.specs.declared.statement.Maker.TheVariants as made
-use Rattle.page_writer.specs.Length.{IsInRange, maker_values, need_values}
+use Rattle.page_writer.specs.Literals.{IsLiteral, maker_values, need_values}
 
 -- ---- both
 
@@ -53,28 +53,28 @@ below_more m n (k ∷ ks) more low =
 
 -- a value that refers to such a place, or is a number in range, or neither
 abbrev pub Fits : Value → Type 0
-Fits v = AreLow (value_links v) × IsInRange v
+Fits v = AreLow (value_links v) × IsLiteral v
 
 abbrev pub AllFit : List Value → Type 0
 AllFit [] = ⊤
 AllFit (v ∷ vs) = Fits v × AllFit vs
 
-values_fit : (vs : List Value) → AreLow (values_links vs) → All IsInRange vs → AllFit vs
+values_fit : (vs : List Value) → AreLow (values_links vs) → All IsLiteral vs → AllFit vs
 values_fit [] low whole = tt
 values_fit (v ∷ vs) low whole =
     let parts : AreLow (value_links v) × AreLow (values_links vs) =
     low_parts (value_links v) (values_links vs) low in
-    let rest : All IsInRange vs = All-tail IsInRange v vs whole in
-    ((parts.0, All-head IsInRange v vs whole), values_fit vs parts.1 rest)
+    let rest : All IsLiteral vs = All-tail IsLiteral v vs whole in
+    ((parts.0, All-head IsLiteral v vs whole), values_fit vs parts.1 rest)
 
-needs_fit : (ns : List (List ℕ × Value)) → AreLow (needs_links ns) → All IsInRange (need_values ns)
+needs_fit : (ns : List (List ℕ × Value)) → AreLow (needs_links ns) → All IsLiteral (need_values ns)
     → AllFit (need_values ns)
 needs_fit [] low whole = tt
 needs_fit (n ∷ ns) low whole =
     let parts : AreLow (value_links n.1) × AreLow (needs_links ns) =
     low_parts (value_links n.1) (needs_links ns) low in
-    let rest : All IsInRange (need_values ns) = All-tail IsInRange n.1 (need_values ns) whole in
-    ((parts.0, All-head IsInRange n.1 (need_values ns) whole), needs_fit ns parts.1 rest)
+    let rest : All IsLiteral (need_values ns) = All-tail IsLiteral n.1 (need_values ns) whole in
+    ((parts.0, All-head IsLiteral n.1 (need_values ns) whole), needs_fit ns parts.1 rest)
 
 -- ---- makers
 
@@ -84,7 +84,7 @@ MakerFits (made.Func c needs) = AllFit (need_values needs)
 MakerFits (made.Bind target this args) = (target.0 < 75093) × AllFit (this ∷ args)
 MakerFits m = ⊤
 
-pub maker_fits : (m : Maker) → AreLow (maker_names m) → All IsInRange (maker_values m) → MakerFits m
+pub maker_fits : (m : Maker) → AreLow (maker_names m) → All IsLiteral (maker_values m) → MakerFits m
 maker_fits (made.Plain proto) low whole = low
 maker_fits made.List low whole = tt
 maker_fits (made.Fault kind) low whole = tt

@@ -1,8 +1,17 @@
 pub mod Appending
+pub mod CommonNames
 pub mod Costs
 pub mod Fitness
+pub mod FormFunctions
+pub mod FormPlans
+pub mod KeptRules
 pub mod Lined
+pub mod LowFunctions
+pub mod OwnUses
 pub mod Pieces
+pub mod QuietParts
+pub mod QuietTests
+pub mod SavedScripts
 pub mod Shortness
 pub mod Spelled
 pub mod Syntax

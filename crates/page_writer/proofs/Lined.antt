@@ -1,6 +1,6 @@
 -- How wide the lexemes of a statement are, by what it holds.
 use Rattle.std.proofs.Common.{◌≡◌, refl, ap, ℕ, ◌+◌, ◌*◌, ◌<◌, ◌≤◌, Bool, true, false, List, [], ◌∷◌, ◌++◌, length, codes, Option, Some, None, arith}
-use Rattle.heap_walker.specs.Things.{proto_links}
+use Rattle.object_shapes.specs.Links.{proto_links}
 use Rattle.heap_walker.specs.Weight.{Load, arguments_load, code_load, load, needs_load, together, value_load, value_units}
 use Rattle.js_core.specs.Tree as tree
 use Rattle.js_core.specs.Tree.{bool, expr, literal, no_fields, then_field}
@@ -20,7 +20,7 @@ use Rattle.object_heap.specs.declared.property.Prop.{Prop}
 use Rattle.rebuild_plan.specs.declared.statement.Maker.{Maker}
 use Rattle.rebuild_plan.specs.declared.statement.Maker.TheVariants as made
 use Rattle.rebuild_plan.specs.declared.statement.Rebuild.TheVariants.{Make, Prevent}
-use Rattle.page_writer.specs.Length.{need_values}
+use Rattle.page_writer.specs.Literals.{need_values}
 use Rattle.page_writer.specs.Statements.{binder, define_expr, giving, maker_expr, need_exprs, need_names, proto_expr, reference, statement, thing_expr, value_and_writable, value_expr, value_exprs}
 use Rattle.page_writer.proofs.Fitness.{AllFit, AreLow, Fits, MakerFits, low_first}
 use Rattle.page_writer.proofs.Spelled.{part_of, reference_narrow, thing_narrow, value_wide}

@@ -3,13 +3,13 @@ use Rattle.std.proofs.Common.{◌≡◌, refl, ℕ, suc, ◌+◌, ◌<◌, ◌�
 use Rattle.std.proofs.lemmas.Bool.{eqb-true}
 use Rattle.std.proofs.lemmas.List.{length-append}
 use Rattle.std.proofs.lemmas.List.Elements.{All-head, All-tail}
-use Rattle.heap_walker.specs.Still.{all_below}
-use Rattle.heap_walker.specs.Things.{built_in_count, value_links}
+use Rattle.object_shapes.specs.Links.{all_below, built_in_count, value_links}
 use Rattle.js_core.specs.Tree.{Fields}
 use Rattle.js_print.specs.Lexemes.{stmt_lexemes}
 use Rattle.js_print.specs.Spelling.{text_of}
 use Rattle.js_values.specs.declared.ids.ObjId.{ObjId}
 use Rattle.js_values.specs.declared.value.Value.{Value}
+use Rattle.js_values.specs.declared.value.Value.TheVariants.{Text}
 use Rattle.object_heap.specs.declared.property.Prop.{Prop}
 use Rattle.object_heap.specs.Define.{length_name}
 use Rattle.object_heap.specs.Function.{prototype_name}
@@ -20,7 +20,8 @@ use Rattle.rebuild_plan.specs.declared.statement.Maker.{Maker}
 use Rattle.rebuild_plan.specs.declared.statement.Rebuild.{Rebuild}
 use Rattle.rebuild_plan.specs.declared.statement.Rebuild.TheVariants.{Make, Define, DefinePrototype, DefineLength, Prevent}
 use Rattle.rebuild_plan.proofs.Callers.{plans_stand}
-use Rattle.page_writer.specs.Length.{IsInRange, PagesAreShort, values_of}
+use Rattle.page_writer.specs.Length.{PagesAreShort}
+use Rattle.page_writer.specs.Literals.{HasLiterals, IsLiteral}
 use Rattle.page_writer.specs.Page.{line, lines, page_head, page_tail}
 use Rattle.page_writer.specs.Statements.{statement}
 use Rattle.page_writer.proofs.Costs.{cost, few_things, makes_in, makes_in_plan, most, plan_cost}
@@ -90,17 +91,13 @@ one_more r rs first others = omega (arith, length-append (line r) (lines rs), fi
 
 -- of a statement that defines a property to hold the value
 value_fits : (n : ℕ) (at : ObjId) (v : Value) → n ≤ 75000
-    → all_below (built_in_count + n) (at.0 ∷ value_links v) ≡ true → All IsInRange (v ∷ []) → Fits v
+    → all_below (built_in_count + n) (at.0 ∷ value_links v) ≡ true → All IsLiteral (v ∷ []) → Fits v
 value_fits n at v few low whole =
     let names : AreLow (at.0 ∷ value_links v) = low_names n (at.0 ∷ value_links v) few low in
-    (low_others at.0 (value_links v) names, All-head IsInRange v [] whole)
-
--- each number that the statement writes is one of the language
-abbrev Written : Rebuild → Type 0
-Written r = All IsInRange (values_of r)
+    (low_others at.0 (value_links v) names, All-head IsLiteral v [] whole)
 
 lines_short : (n : ℕ) (rs : List Rebuild) → standing n rs ≡ true → n + makes_in rs ≤ 75000
-    → All Written rs → length (lines rs) ≤ cost rs
+    → All HasLiterals rs → length (lines rs) ≤ cost rs
 lines_short n [] stands few whole = omega arith
 lines_short n (Make number m ∷ rs) stands few whole =
     let r : Rebuild = Make number m in
@@ -110,43 +107,43 @@ lines_short n (Make number m ∷ rs) stands few whole =
     let same : number ≡ n = eqb-true number n (left_of counted low here) in
     let names : AreLow (maker_names m) =
     low_names n (maker_names m) (omega (arith, few)) (right_of counted low here) in
-    let fits : MakerFits m = maker_fits m names (All-head Written r rs whole) in
+    let fits : MakerFits m = maker_fits m names (All-head HasLiterals r rs whole) in
     let next : standing (suc n) rs ≡ true =
     right_of (counted && low) (standing (suc n) rs) stands in
     one_more r rs (make_short number m (omega (arith, same, few)) fits)
-    (lines_short (suc n) rs next (omega (arith, few)) (All-tail Written r rs whole))
+    (lines_short (suc n) rs next (omega (arith, few)) (All-tail HasLiterals r rs whole))
 lines_short n (Define at x p ∷ rs) stands few whole =
     let r : Rebuild = Define at x p in
     let low : Bool = all_below (built_in_count + n) (at.0 ∷ value_links p.value) in
     let here : low ≡ true = left_of low (standing n rs) stands in
     let fits : Fits p.value =
-    value_fits n at p.value (omega (arith, few)) here (All-head Written r rs whole) in
+    value_fits n at p.value (omega (arith, few)) here (All-tail IsLiteral (Text x) (p.value ∷ []) (All-head HasLiterals r rs whole)) in
     let next : standing n rs ≡ true = right_of low (standing n rs) stands in
-    let others : length (lines rs) ≤ cost rs = lines_short n rs next few (All-tail Written r rs whole) in
+    let others : length (lines rs) ≤ cost rs = lines_short n rs next few (All-tail HasLiterals r rs whole) in
     one_more r rs (define_short at x p fits) others
 lines_short n (DefinePrototype at v writable ∷ rs) stands few whole =
     let r : Rebuild = DefinePrototype at v writable in
     let low : Bool = all_below (built_in_count + n) (at.0 ∷ value_links v) in
     let here : low ≡ true = left_of low (standing n rs) stands in
     let fits : Fits v =
-    value_fits n at v (omega (arith, few)) here (All-head Written r rs whole) in
+    value_fits n at v (omega (arith, few)) here (All-head HasLiterals r rs whole) in
     let next : standing n rs ≡ true = right_of low (standing n rs) stands in
-    let others : length (lines rs) ≤ cost rs = lines_short n rs next few (All-tail Written r rs whole) in
+    let others : length (lines rs) ≤ cost rs = lines_short n rs next few (All-tail HasLiterals r rs whole) in
     one_more r rs (prototype_short at v writable fits) others
 lines_short n (DefineLength at v writable ∷ rs) stands few whole =
     let r : Rebuild = DefineLength at v writable in
     let low : Bool = all_below (built_in_count + n) (at.0 ∷ value_links v) in
     let here : low ≡ true = left_of low (standing n rs) stands in
     let fits : Fits v =
-    value_fits n at v (omega (arith, few)) here (All-head Written r rs whole) in
+    value_fits n at v (omega (arith, few)) here (All-head HasLiterals r rs whole) in
     let next : standing n rs ≡ true = right_of low (standing n rs) stands in
-    let others : length (lines rs) ≤ cost rs = lines_short n rs next few (All-tail Written r rs whole) in
+    let others : length (lines rs) ≤ cost rs = lines_short n rs next few (All-tail HasLiterals r rs whole) in
     one_more r rs (length_short at v writable fits) others
 lines_short n (Prevent at ∷ rs) stands few whole =
     let r : Rebuild = Prevent at in
     let low : Bool = all_below (built_in_count + n) (at.0 ∷ []) in
     let next : standing n rs ≡ true = right_of low (standing n rs) stands in
-    let others : length (lines rs) ≤ cost rs = lines_short n rs next few (All-tail Written r rs whole) in
+    let others : length (lines rs) ≤ cost rs = lines_short n rs next few (All-tail HasLiterals r rs whole) in
     one_more r rs (prevent_short at) others
 
 pub pages_are_short : PagesAreShort

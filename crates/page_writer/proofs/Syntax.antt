@@ -4,7 +4,7 @@ use Rattle.std.specs.Prelude.{nat_le}
 use Rattle.std.specs.List.{list_all}
 use Rattle.std.proofs.lemmas.Bool.{and_from, and_parts, leb-true}
 use Rattle.built_in_paths.specs.Paths.{names_of, path_of}
-use Rattle.heap_walker.specs.Things.{built_in_count}
+use Rattle.object_shapes.specs.Links.{built_in_count}
 use Rattle.js_core.specs.Height.{code_height, expr_height, exprs_height}
 use Rattle.js_core.specs.Tree as tree
 use Rattle.js_core.specs.Tree.{name, func, member, index, literal, no_stmts, then_stmt}
@@ -23,7 +23,7 @@ use Rattle.page_writer.specs.Statements.{define_expr, function_expr, maker_expr,
 use Rattle.page_writer.specs.Writable.{IsWritable, IsWritableMaker, StatementsAreSyntax, function_height_limit, is_need, is_number, is_place, is_prototype, is_thing_number, is_writable_value}
 
 -- it is a tree that tokens have, no higher than n
-abbrev Fits : ℕ → tree.Expr → Type 0
+abbrev pub Fits : ℕ → tree.Expr → Type 0
 Fits n e = IsExpr e × (expr_height e ≤ n)
 
 abbrev AllFit : ℕ → tree.Exprs → Type 0
@@ -141,7 +141,7 @@ define_fits at x descriptor place units fits =
     let one = reference_fits at place in
     (((object_is_identifier, define_is_written), (one.0, (units, (fits.0, tt)))), omega arith)
 
-rebuild_fits : (r : Rebuild) → IsWritable r → Fits 404 (rebuild_expr r)
+pub rebuild_fits : (r : Rebuild) → IsWritable r → Fits 404 (rebuild_expr r)
 rebuild_fits (Make number maker) e =
     let one = thing_fits number e.0 in
     let two = maker_fits maker e.1 in

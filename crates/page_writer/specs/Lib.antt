@@ -1,7 +1,10 @@
 pub mod Dotted
+pub mod FormScripts
 pub mod Length
+pub mod Literals
 pub mod Page
 pub mod Putting
+pub mod Script
 pub mod Sizes
 pub mod Statements
 pub mod Writable

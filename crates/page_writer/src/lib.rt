@@ -3,6 +3,7 @@
 
 mod laws;
 mod limits;
+mod literals;
 mod makers;
 mod references;
 mod save_fault;
@@ -10,6 +11,6 @@ mod statements;
 mod values;
 mod writing;
 
-pub use laws::{law_pages_are_short, law_statements_are_syntax};
+pub use laws::{law_pages_are_short, law_saved_scripts_are_form, law_statements_are_syntax};
 pub use save_fault::SaveFault;
-pub use writing::write_state;
+pub use writing::{write_state, write_walked};

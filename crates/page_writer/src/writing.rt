@@ -1,13 +1,17 @@
 //! The saving of a page.
 
-ghost use Rattle.std.specs.Prelude.{◌≡◌, OnOk};
+ghost use Rattle.std.specs.Prelude.{◌≡◌, Err, OnOk};
 ghost use Rattle.heap_walker.specs.Weight.{load_of, told};
 ghost use Rattle.page_io.specs.Faults.{CountsFaults};
+ghost use Rattle.rebuild_plan.specs.Compact.{compact};
+ghost use Rattle.rebuild_plan.specs.Plan.{plan};
+ghost use Rattle.page_writer.specs.Literals.{CanBeWritten, HaveLiterals};
 ghost use Rattle.page_writer.specs.Page.{line, lines, page_of, saved_page};
 ghost use Rattle.page_writer.specs.Putting.{Puts};
 ghost use Rattle.page_writer.specs.Sizes.{IsSaved, Judged};
 
 use crate::limits;
+use crate::literals::tell_plan;
 use crate::save_fault::SaveFault;
 use crate::statements::push_statement;
 use heap_walker::{Walked, walk, weight_of};
@@ -29,6 +33,7 @@ const TAIL: &[u8] = b"}</script></html>";
 /// text no more than a line is held.
 pub fn write_state<O: Sink>(state: &State, out: &mut O) -> Result<(), SaveFault>
     ensures saved { IsSaved state.now (O.seen out.old) (O.seen out.new) result }
+    ensures written { OnOk result (CanBeWritten state.now) }
     ensures counts { CountsFaults SaveFault.WriteFault
         (O.seen out.old).faults (O.seen out.new).faults result }
 {
@@ -36,10 +41,14 @@ pub fn write_state<O: Sink>(state: &State, out: &mut O) -> Result<(), SaveFault>
     write_walked(state, &walked, out)
 }
 
-// What was walked is weighed first.
-fn write_walked<O: Sink>(state: &State, walked: &Walked, out: &mut O) -> Result<(), SaveFault>
+/// Puts the saved page of a page whose things were walked, as `write_state` does.
+pub fn write_walked<O: Sink>(state: &State, walked: &Walked, out: &mut O) -> Result<(), SaveFault>
     ensures judged { Judged (told (load_of state.now walked.now.things.keys)) (O.seen out.old)
         (O.seen out.new) (saved_page state.now walked.now.things.keys) result }
+    ensures written { OnOk result
+        (HaveLiterals (plan (compact state.now walked.now.things.keys))) }
+    ensures begun { result ≡ Err SaveFault.WriteFault
+        → HaveLiterals (plan (compact state.now walked.now.things.keys)) }
     ensures counts { CountsFaults SaveFault.WriteFault
         (O.seen out.old).faults (O.seen out.new).faults result }
 {
@@ -54,10 +63,15 @@ fn write_walked<O: Sink>(state: &State, walked: &Walked, out: &mut O) -> Result<
 }
 
 fn write_plan<O: Sink>(state: &State, walked: &Walked, out: &mut O) -> Result<(), SaveFault>
-    ensures { Puts (O.seen out.old) (O.seen out.new)
+    ensures puts { Puts (O.seen out.old) (O.seen out.new)
         (saved_page state.now walked.now.things.keys) result }
+    ensures written { OnOk result
+        (HaveLiterals (plan (compact state.now walked.now.things.keys))) }
+    ensures begun { result ≡ Err SaveFault.WriteFault
+        → HaveLiterals (plan (compact state.now walked.now.things.keys)) }
 {
     let plan = plan(state, walked)?;
+    tell_plan(plan.as_slice());
     put_page(state.alloc(), plan.as_slice(), out)
 }
 

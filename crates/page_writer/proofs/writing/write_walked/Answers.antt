@@ -19,7 +19,7 @@ returns-clause-judged g c =
     let seen = g.O.Sink.seen in
     let page = saved_page c.args.state.now c.args.walked.now.things.keys in
     subst (λ w. Judged w (seen c.args.out.now) (seen c.write_plan.new.out) page c.write_plan.result) c.in_ok-weight.ensures
-    (judged_puts c.in_ok-weight.weight (seen c.args.out.now) (seen c.write_plan.new.out) page c.write_plan.result c.if-weight-gt-THINGS.false c.if-weight-gt-TEXT.false c.write_plan.ensures)
+    (judged_puts c.in_ok-weight.weight (seen c.args.out.now) (seen c.write_plan.new.out) page c.write_plan.result c.if-weight-gt-THINGS.false c.if-weight-gt-TEXT.false c.write_plan.ensures.puts)
 
 pub returns-in_err-weight-clause-counts : goal.returns-in_err-weight-clause-counts
 returns-in_err-weight-clause-counts g c = counts_no_memory (g.O.Sink.seen c.args.out.now).faults c.from_residual.result c.from_residual.ensures
@@ -33,4 +33,4 @@ returns-then-weight-gt-TEXT-clause-counts g c = counts_none (g.O.Sink.seen c.arg
 pub returns-clause-counts : goal.returns-clause-counts
 returns-clause-counts g c =
     let seen = g.O.Sink.seen in
-    counts_puts (seen c.args.out.now) (seen c.write_plan.new.out) (saved_page c.args.state.now c.args.walked.now.things.keys) c.write_plan.result c.write_plan.ensures
+    counts_puts (seen c.args.out.now) (seen c.write_plan.new.out) (saved_page c.args.state.now c.args.walked.now.things.keys) c.write_plan.result c.write_plan.ensures.puts
