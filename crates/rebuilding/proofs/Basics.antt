@@ -1,0 +1,61 @@
+-- Tests, choices and lists of numbers.
+use Rattle.std.proofs.Common.{◌≡◌, refl, ℕ, zero, suc, ◌<◌, arith, Bool, true, false, not, ◌&&◌, if◌then◌else◌, is_some, bytes_eq, List, [], ◌∷◌, Option, Some, None, length}
+use Rattle.std.proofs.lemmas.Bool.{ne_eqb}
+use Rattle.std.proofs.lemmas.Slice.Eq.{bytes_eq-Decides}
+use Rattle.std.specs.List.{list_all, list_any, position_or_len}
+use Rattle.heap_walker.specs.Things.{is_in}
+use Rattle.rebuilding.specs.Rebuilt.{nth}
+
+-- ---- tests
+
+pub both : (a b : Bool) → a ≡ true → b ≡ true → (a && b) ≡ true
+both true b x y = y
+both false b x y = cc x
+
+pub left_of : (a b : Bool) → (a && b) ≡ true → a ≡ true
+left_of true b h = refl
+left_of false b h = cc h
+
+pub right_of : (a b : Bool) → (a && b) ≡ true → b ≡ true
+right_of true b h = h
+right_of false b h = cc h
+
+pub is_false : (b : Bool) → not b ≡ true → b ≡ false
+is_false true h = cc h
+is_false false h = refl
+
+pub taken : {A : Type 0} (b : Bool) (x y : A) → b ≡ true → (if b then x else y) ≡ x
+taken true x y e = refl
+taken false x y e = cc e
+
+pub left : {A : Type 0} (b : Bool) (x y : A) → b ≡ false → (if b then x else y) ≡ y
+left true x y e = cc e
+left false x y e = refl
+
+pub nothing : {A : Type 0} (o : Option A) → is_some o ≡ false → o ≡ None
+nothing None h = refl
+nothing (Some a) h = cc h
+
+pub same_name : (x : List ℕ) → bytes_eq x x ≡ true
+same_name x = (bytes_eq-Decides x x).1 refl
+
+-- ---- lists of numbers
+
+-- what holds of all holds at each place
+pub all_at : (p : ℕ → Bool) (ks : List ℕ) (n : ℕ) → list_all p ks ≡ true → n < length ks → p (nth ks n) ≡ true
+all_at p [] n h inside = absurd (omega (arith, inside))
+all_at p (k ∷ ks) zero h inside = left_of _ _ h
+all_at p (k ∷ ks) (suc n) h inside = all_at p ks n (right_of _ _ h) (omega (arith, inside))
+
+pub found_below : (p : ℕ → Bool) (xs : List ℕ) → list_any p xs ≡ true → position_or_len p xs < length xs
+found_below p [] h = cc h
+found_below p (x ∷ xs) h = by (p x) refl (λ g. found_below p xs g)
+  where
+    by : (b : Bool) → p x ≡ b → (list_any p xs ≡ true → position_or_len p xs < length xs) → position_or_len p (x ∷ xs) < length (x ∷ xs)
+    by true here later = rw here (omega arith)
+    by false here later =
+        let more : position_or_len p xs < length xs = later (rw here at h) in
+        rw here (omega (arith, more))
+
+pub not_in : (j k : ℕ) → (j ≡ k → ⊥) → is_in j (k ∷ []) ≡ false
+not_in j k other = rw (ne_eqb j k other) refl

@@ -1,0 +1,137 @@
+-- What a statement changes of an object that stands: one that is built in and not the global object is closed and throws.
+use Rattle.std.proofs.Common.{◌≡◌, ◌⊎◌, inl, inr, refl, sym, ap, subst, ◌∙◌, ℕ, zero, suc, ◌+◌, ◌<◌, ◌≤◌, Bool, true, false, ◌&&◌, ◌||◌, nat_eq, nat_lt, List, [], ◌∷◌, None, is_some, drop, length, arith, if◌then◌else◌}
+use Rattle.std.proofs.lemmas.Bool.{and_parts, cases_eq, eq-eqb, or_parts}
+use Rattle.std.specs.List.{list_all}
+use Rattle.js_core.specs.GlobalNames.{names_global}
+use Rattle.js_values.specs.declared.throw.Throw.{Throw}
+use Rattle.js_values.specs.declared.throw.Throw.TheVariants.{CannotDefine}
+use Rattle.object_heap.proofs.Callers.{object_set_same, sound_define_own, sound_prevent}
+use Rattle.object_heap.specs.Attempt.{Attempt, throws}
+use Rattle.object_heap.specs.Chain.{object_at}
+use Rattle.object_heap.specs.Define as object
+use Rattle.object_heap.specs.Define.{is_closed_at, prevented}
+use Rattle.object_heap.specs.Heap.{Contents, IsSound, define_own, prevent_extensions, with_object}
+use Rattle.object_heap.specs.Object.{Object, is_window}
+use Rattle.object_heap.specs.Property.{own_property}
+use Rattle.object_heap.specs.declared.property.Change.{Change}
+use Rattle.page_meaning.specs.Places.{window}
+use Rattle.page_meaning.specs.Pristine.{pristine}
+use Rattle.rebuilding.specs.Running.{HasChanged}
+use Rattle.rebuilding.specs.Scene.{IsRunning, Scene}
+use Rattle.rebuilding.specs.Sites.{site}
+use Rattle.rebuilding.proofs.Staying.{Stands, place_other, place_there, running_changed, site_place, site_thing, stays_changed}
+use Rattle.rebuilding.proofs.WindowStays.{is_built, window_defined}
+use Rattle.object_shapes.specs.Shapes.{IsWindow, built_in_at}
+use Rattle.object_shapes.specs.Links.{built_in_count}
+
+-- ---- what is closed
+
+all_closed : (os : List Object) → list_all (λ o. o.closed) os ≡ true → (k : ℕ) → (object_at os k).closed ≡ true
+all_closed [] h k = refl
+all_closed (o ∷ os) h zero = (and_parts o.closed (list_all (λ x. x.closed) os) h).0
+all_closed (o ∷ os) h (suc k) = all_closed os (and_parts o.closed (list_all (λ x. x.closed) os) h).1 k
+
+others_closed : list_all (λ o. o.closed) (drop 1 pristine.heap.objects) ≡ true
+others_closed = refl
+
+pub built_in_closed : (k : ℕ) → 0 < k → (built_in_at k).closed ≡ true
+built_in_closed zero h = absurd (omega (arith, h))
+built_in_closed (suc k) h = all_closed (drop 1 pristine.heap.objects) others_closed k
+
+thrown_none : {A : Type 0} (b : Bool) (x : A) (t : Throw) (y : Attempt A) → (if b then throws x t else y).thrown ≡ None → b ≡ false
+thrown_none true x t y h = cc h
+thrown_none false x t y h = refl
+
+-- the object is a thing, or the global one
+may_change : (c : Scene) (h : Contents) (sites : List ℕ) (k : ℕ) → IsRunning c h sites → (k < built_in_count) ⊎ Stands c h k
+    → (object_at h.objects k).closed ≡ false → (built_in_count ≤ k) ⊎ (k ≡ window.0)
+may_change c h sites k r (inr s) open_place = inl s.young
+may_change c h sites k r (inl low) open_place = by (cases_eq k 0)
+  where
+    by : (k ≡ 0) ⊎ (k ≡ 0 → ⊥) → (built_in_count ≤ k) ⊎ (k ≡ window.0)
+    by (inl e) = inr e
+    by (inr far) =
+        let positive : 0 < k = omega (arith, far) in
+        let closed : (object_at h.objects k).closed ≡ true = ap (λ (o : Object). o.closed) (r.built_ins k positive low)
+        ∙ built_in_closed k positive in
+        cc (closed, open_place)
+
+no_thing : {c : Scene} {h : Contents} {k : ℕ} → Stands c h k → k ≡ window.0 → ⊥
+unfolding built_in_count
+no_thing s e = omega (arith, s.young, e)
+
+-- ---- a change
+
+-- the page, with the object at the site changed so, and nothing thrown
+pub record IsChanged (c : Scene) (h : Contents) (sites : List ℕ) (k : ℕ) (attempt : Attempt Contents) (o : Object) : Type 0 where
+  pub thrown : attempt.thrown ≡ None
+  pub running : IsRunning c attempt.after sites
+  pub changed : HasChanged h attempt.after sites sites k o
+
+module _ (c : Scene) (h : Contents) (sites : List ℕ) (r : IsRunning c h sites) (at : ℕ)
+    (stands : nat_lt at (built_in_count + length sites) ≡ true) where
+  changed_so : (o : Object) → IsSound (with_object h (site sites at) o)
+      → (built_in_count ≤ site sites at) ⊎ ((site sites at ≡ window.0) × IsWindow o)
+      → IsChanged c h sites (site sites at) (record { after = with_object h (site sites at) o; thrown = None }) o
+  changed_so o sound who =
+      let k = site sites at in
+      let place = site_place c h sites r at stands in
+      let there = place_there c h sites r k place in
+      record {
+        thrown = refl;
+        running = running_changed c h sites k o r sound there (place_other c h sites r k place) who;
+        changed = record { same = refl; object = object_set_same h.objects k o there; stays = stays_changed h k o };
+      }
+
+  -- of what is named, the global object alone is the one at its place
+  named_window : site sites at ≡ window.0 → at ≡ window.0
+  named_window e = by (nat_lt at built_in_count) refl
+    where
+      by : (b : Bool) → nat_lt at built_in_count ≡ b → at ≡ window.0
+      by true low = rw low at e
+      by false high = absurd (no_thing (site_thing c h sites r at stands high) e)
+
+  module _ (name : List ℕ) (change : Change) (own : nat_eq at window.0 && is_built name ≡ false)
+      (done : (object.define_own (object_at h.objects (site sites at)) name change).thrown ≡ None) where
+    defined_who : (built_in_count ≤ site sites at) ⊎ (site sites at ≡ window.0)
+        → (built_in_count ≤ site sites at) ⊎ ((site sites at ≡ window.0) × IsWindow
+        (object.define_own (object_at h.objects (site sites at)) name change).after)
+    defined_who (inl young) = inl young
+    defined_who (inr first) =
+        let other : is_built name ≡ false = rw (eq-eqb at window.0 (named_window first)) at own in
+        inr (
+          first,
+          window_defined (object_at h.objects (site sites at)) name change
+              (subst (λ k. IsWindow (object_at h.objects k)) (sym first) r.window) other,
+        )
+
+    pub defined_at : IsChanged c h sites (site sites at) (define_own h (site sites at) name change)
+        (object.define_own (object_at h.objects (site sites at)) name change).after
+    unfolding define_own
+    defined_at =
+        let o = object_at h.objects (site sites at) in
+        let shut : is_closed_at o name ≡ false = thrown_none (is_closed_at o name) o CannotDefine (object.define CannotDefine o name change) done in
+        let open_place : o.closed ≡ false = (or_parts o.closed
+        (is_window o.class && (names_global name && is_some (own_property o.props name))) shut).0 in
+        let who = may_change c h sites (site sites at) r (site_place c h sites r at stands) open_place in
+        let result = changed_so (object.define_own o name change).after (sound_define_own h r.sound (site sites at) name change) (defined_who who) in
+        record { thrown = done; running = result.running; changed = result.changed }
+
+  module _ (done : (prevented (object_at h.objects (site sites at))).thrown ≡ None) where
+    prevented_who : is_window (object_at h.objects (site sites at)).class ≡ false → (built_in_count ≤ site sites at) ⊎ (site sites at ≡ window.0)
+        → (built_in_count ≤ site sites at) ⊎ ((site sites at ≡ window.0) × IsWindow (prevented (object_at h.objects (site sites at))).after)
+    prevented_who ordinary (inl young) = inl young
+    prevented_who ordinary (inr first) =
+        let global : is_window (object_at h.objects (site sites at)).class ≡ true = ap (λ k. is_window (object_at h.objects k).class) first
+        ∙ ap is_window r.window.class in
+        cc (global, ordinary)
+
+    pub prevented_at : IsChanged c h sites (site sites at) (prevent_extensions h (site sites at))
+        (prevented (object_at h.objects (site sites at))).after
+    unfolding prevent_extensions
+    prevented_at =
+        let o = object_at h.objects (site sites at) in
+        let parts = or_parts o.closed (is_window o.class) (thrown_none (o.closed || is_window o.class) o CannotDefine _ done) in
+        let who = may_change c h sites (site sites at) r (site_place c h sites r at stands) parts.0 in
+        let result = changed_so (prevented o).after (sound_prevent h r.sound (site sites at)) (prevented_who parts.1 who) in
+        record { thrown = done; running = result.running; changed = result.changed }

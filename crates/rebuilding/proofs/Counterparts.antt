@@ -1,0 +1,178 @@
+-- What is related for the naming of a page that was saved and the one that was rebuilt: values, properties and whole things.
+use Rattle.std.proofs.Common.{◌≡◌, ◌⊎◌, inl, inr, refl, sym, subst, ◌∙◌, ℕ, ◌<◌, ◌≤◌, true, nat_le, nat_lt, List, [], ◌∷◌, ◌++◌, Option, Some, None, length}
+use Rattle.std.proofs.Math.Bool.{or-true}
+use Rattle.std.proofs.lemmas.Bool.{and_parts, eq-eqb, leb-true, ltb-true}
+use Rattle.std.proofs.lemmas.List.Folds.{list_any-append}
+use Rattle.js_core.specs.Tree.{Code}
+use Rattle.js_values.specs.declared.ids.EnvId.{EnvId}
+use Rattle.js_values.specs.declared.ids.ObjId.{ObjId}
+use Rattle.js_values.specs.declared.value.Value.{Value}
+use Rattle.js_values.specs.declared.value.Value.TheVariants as value
+use Rattle.object_heap.specs.Chain.{object_at}
+use Rattle.object_heap.specs.Heap.{Contents}
+use Rattle.object_heap.specs.Object.{Object}
+use Rattle.object_heap.specs.Property.{Props}
+use Rattle.object_heap.specs.declared.object.Class.{Class}
+use Rattle.object_heap.specs.declared.object.Class.TheVariants as class
+use Rattle.page_meaning.specs.Store.{Store}
+use Rattle.scope_analysis.specs.FreeUses.{needed_variables}
+use Rattle.heap_relations.specs.Naming.{based, Named, named, World}
+use Rattle.heap_relations.specs.Related.{array, bound, ClassRel, Each, each, Entries, entry, fault, Maybe, no_entries, no_more, none, null, num, object, ObjectIds, ObjectRel, page, plain, PropRel, some, text, truth, undefined, ValueRel}
+use Rattle.agreement.specs.Trees.{any_code, code_fits}
+use Rattle.heap_walker.specs.Still.{IsFunctionAtRest, Still}
+use Rattle.heap_walker.specs.Things.{class_links, is_in, IsWalk}
+use Rattle.rebuild_plan.specs.Compact.{moved_props, moved_proto, moved_value, moved_values, place_of}
+use Rattle.rebuilding.specs.Frames.{round_frame}
+use Rattle.rebuilding.specs.Rebuilt as rebuilt
+use Rattle.rebuilding.specs.Rebuilt.{ClassIsRebuilt, is_none, IsRebuiltAs, NeedNone, needs_none, nth}
+use Rattle.rebuilding.specs.Scene.{Scene}
+use Rattle.rebuilding.specs.Sites.{site, sited_props, sited_proto, sited_value, sited_values}
+use Rattle.heap_walker.proofs.Callers.{links_in_walk, made_among, props_among}
+use Rattle.rebuilding.proofs.Naming.{based_at, built_in_paired, rebuilt_world, site_of_built_in, thing_at, thing_paired}
+use Rattle.rebuilding.proofs.Basics.{all_at}
+use Rattle.rebuilding.proofs.Placed.{is_thing_at, place_in}
+use Rattle.object_shapes.specs.Links.{built_in_count, props_links, proto_links, value_links, values_links}
+
+-- built in or walked
+abbrev pub IsKnown : List ℕ → ℕ → Type 0
+IsKnown things k = (k < built_in_count) ⊎ (is_in k things ≡ true)
+
+-- ---- things
+
+module _ (s : Store) (things : List ℕ) (walk : IsWalk s things) (n : ℕ) (below : n < length things) where
+  pub young_at : built_in_count ≤ nth things n
+  young_at =
+      leb-true built_in_count (nth things n)
+      (and_parts (nat_le built_in_count (nth things n)) (nat_lt (nth things n) (length s.heap.objects)) (is_thing_at s things n walk below)).0
+
+  pub there_at : nth things n < length s.heap.objects
+  there_at =
+      ltb-true (nth things n) (length s.heap.objects)
+      (and_parts (nat_le built_in_count (nth things n)) (nat_lt (nth things n) (length s.heap.objects)) (is_thing_at s things n walk below)).1
+
+none_of : {A : Type 0} (xs : List A) → is_none xs ≡ true → xs ≡ []
+none_of [] h = refl
+none_of (x ∷ xs) h = cc h
+
+-- a function at rest that needs no variables
+pub record IsSimple (s : Store) (k : ℕ) (source : Code) (env : Option EnvId) : Type 0 where
+  pub rest : IsFunctionAtRest s k source env
+  pub none : needed_variables source ≡ []
+
+pub simple_at : (s : Store) (things : List ℕ) → Still s → IsWalk s things → NeedNone s things → (n : ℕ) → n < length things
+    → (source : Code) (env : Option EnvId) → (object_at s.heap.objects (nth things n)).class ≡ class.Page source env
+    → IsSimple s (nth things n) source env
+simple_at s things still walk need_none n below source env is =
+    let k : ℕ = nth things n in
+    let none : needs_none (class.Page source env) ≡ true =
+    subst (λ d. needs_none d ≡ true) is (all_at (λ j. needs_none (object_at s.heap.objects j).class) things n need_none below)
+    in
+    record { rest = still.functions k source env (walk.sound k (place_in things n below)) is; none = none_of (needed_variables source) none }
+
+-- ---- what is named
+
+self_in : (k : ℕ) → is_in k (k ∷ []) ≡ true
+self_in k = rw (eq-eqb k k refl) refl
+
+left_in : (j : ℕ) (ks js : List ℕ) → is_in j ks ≡ true → is_in j (ks ++ js) ≡ true
+left_in j ks js h = list_any-append _ ks js ∙ rw h refl
+
+right_in : (j : ℕ) (ks js : List ℕ) → is_in j js ≡ true → is_in j (ks ++ js) ≡ true
+right_in j ks js h = list_any-append _ ks js ∙ rw h (or-true (is_in j ks))
+
+module _ (s : Store) (h : Contents) (things sites : List ℕ) (walk : IsWalk s things) (count : length sites ≡ length things) where
+  abbrev W : World
+  W = rebuilt_world s h things sites
+
+  pub named_site : (k : ℕ) → IsKnown things k → Named (rebuilt_world s h things sites) k (site sites (place_of things k))
+  named_site k (inl low) =
+      let same : site sites (place_of things k) ≡ k = site_of_built_in things sites k low (λ n below. young_at s things walk n below) in
+      subst (λ j. Named W k j) (sym same) (record { named = built_in_paired things sites k low })
+  named_site k (inr found) =
+      let t = thing_at things sites k found in
+      let pair : Named W (nth things t.place) (nth sites t.place) = record { named = thing_paired things sites count t.place t.below } in
+      subst (λ j. Named W k j) (sym t.two) (subst (λ i. Named W i (nth sites t.place)) (sym t.one) pair)
+
+  pub value_rel : (v : Value) → ((j : ℕ) → is_in j (value_links v) ≡ true → IsKnown things j)
+      → ValueRel (named (rebuilt_world s h things sites)) v (sited_value sites (moved_value things v))
+  value_rel value.Undefined known = undefined
+  value_rel value.Null known = null
+  value_rel (value.Bool b) known = truth
+  value_rel (value.Num n) known = num
+  value_rel (value.Text t) known = text
+  value_rel (value.Object at) known = object (named_site at.0 (known at.0 (self_in at.0)))
+
+  values_rel : (vs : List Value) → ((j : ℕ) → is_in j (values_links vs) ≡ true → IsKnown things j)
+      → Each (ValueRel (named W)) vs (sited_values sites (moved_values things vs))
+  values_rel [] known = no_more
+  values_rel (v ∷ vs) known =
+      each (value_rel v (λ j g. known j (left_in j (value_links v) (values_links vs) g)))
+      (values_rel vs (λ j g. known j (right_in j (value_links v) (values_links vs) g)))
+
+  proto_rel : (proto : Option ObjId) → ((j : ℕ) → is_in j (proto_links proto) ≡ true → IsKnown things j)
+      → Maybe (ObjectIds (named W)) proto (sited_proto sites (moved_proto things proto))
+  proto_rel None known = none
+  proto_rel (Some at) known = some (record { linked = named_site at.0 (known at.0 (self_in at.0)) })
+
+  pub props_rel : (ps : Props) → ((j : ℕ) → is_in j (props_links ps) ≡ true → IsKnown things j)
+      → Entries (PropRel (named (rebuilt_world s h things sites))) ps (sited_props sites (moved_props things ps))
+  props_rel [] known = no_entries
+  props_rel ((x, p) ∷ ps) known =
+      let first : ValueRel (named W) p.value (sited_value sites (moved_value things p.value)) =
+      value_rel p.value (λ j g. known j (left_in j (value_links p.value) (props_links ps) g))
+      in
+      entry (record { value = first; writable = refl; enumerable = refl; configurable = refl })
+      (props_rel ps (λ j g. known j (right_in j (value_links p.value) (props_links ps) g)))
+
+  -- ---- the things
+
+  class_rel : (c : Scene) (n : ℕ) → n < length things → (a b : Class) → (object_at s.heap.objects (nth things n)).class ≡ a
+      → (object_at h.objects (nth sites n)).class ≡ b
+      → ((j : ℕ) → is_in j (class_links s a) ≡ true → IsKnown things j)
+      → ((source : Code) (env : Option EnvId) → a ≡ class.Page source env → code_fits any_code (round_frame source ∷ []) source ≡ true)
+      → ClassIsRebuilt c h.environments things sites (nth sites n) a b → ClassRel (named W) a b
+  class_rel c n below a b one two known fits rebuilt.plain = plain
+  class_rel c n below a b one two known fits rebuilt.list = array
+  class_rel c n below a b one two known fits rebuilt.fault = fault
+  class_rel c n below a b one two known fits (rebuilt.page {code = source} {env = env} {round = round} r) =
+      page (record {
+        frames = round_frame source ∷ [];
+        code = refl;
+        fits = fits source env refl;
+        round = based (record { one = env; two = round; frame = round_frame source })
+            (based_at s.heap.objects h.objects things sites n below count source source env round one two);
+      })
+  class_rel c n below a b one two known fits (rebuilt.bound {target = target} {this = this} {args = args}) =
+      let others : (j : ℕ) → is_in j (value_links this ++ values_links args) ≡ true → IsKnown things j =
+      λ j g. known j (right_in j (target.0 ∷ []) (value_links this ++ values_links args) g)
+      in
+      bound (named_site target.0 (known target.0 (left_in target.0 (target.0 ∷ []) (value_links this ++ values_links args) (self_in target.0))))
+      (value_rel this (λ j g. others j (left_in j (value_links this) (values_links args) g)))
+      (values_rel args (λ j g. others j (right_in j (value_links this) (values_links args) g)))
+
+  pub thing_rel : (c : Scene) (n : ℕ) → n < length things → Still s
+      → ((source : Code) (env : Option EnvId) → (object_at s.heap.objects (nth things n)).class ≡ class.Page source env
+      → code_fits any_code (round_frame source ∷ []) source ≡ true)
+      → IsRebuiltAs c h.environments things sites (nth sites n) (object_at s.heap.objects (nth things n)) (object_at h.objects (nth sites n))
+      → ObjectRel (named (rebuilt_world s h things sites)) (object_at s.heap.objects (nth things n)) (object_at h.objects (nth sites n))
+  thing_rel c n below still fits is =
+      let k : ℕ = nth things n in
+      let o : Object = object_at s.heap.objects k in
+      let p : Object = object_at h.objects (nth sites n) in
+      let linked : (j : ℕ) → is_in j (proto_links o.proto ++ class_links s o.class) ≡ true → IsKnown things j =
+      λ j g. links_in_walk s things still walk k (place_in things n below) j (made_among s k j g)
+      in
+      let held : (j : ℕ) → is_in j (props_links o.props) ≡ true → IsKnown things j =
+      λ j g. links_in_walk s things still walk k (place_in things n below) j (props_among s k j g)
+      in
+      let above : Maybe (ObjectIds (named W)) o.proto (sited_proto sites (moved_proto things o.proto)) =
+      proto_rel o.proto (λ j g. linked j (left_in j (proto_links o.proto) (class_links s o.class) g))
+      in
+      record {
+        class = class_rel c n below o.class p.class refl refl
+            (λ j g. linked j (right_in j (proto_links o.proto) (class_links s o.class) g)) fits is.class;
+        proto = subst (λ q. Maybe (ObjectIds (named W)) o.proto q) (sym is.proto) above;
+        extensible = sym is.extensible;
+        closed = still.shaped.not_closed k (is_thing_at s things n walk below) ∙ sym is.closed;
+        props = subst (λ qs. Entries (PropRel (named W)) o.props qs) (sym is.props) (props_rel o.props held);
+      }

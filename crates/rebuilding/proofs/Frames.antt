@@ -1,0 +1,139 @@
+-- The code of a function at rest that needs no variables fits in the frame round it.
+use Rattle.std.proofs.Common.{◌≡◌, refl, sym, ap, ◌∙◌, ℕ, ◌+◌, ◌≤◌, Bool, true, false, true≢false, not, ◌&&◌, List, [], ◌∷◌, ◌++◌, Option, Some, None, IsTrue, bytes_eq, map, arith, if◌then◌else◌}
+use Rattle.std.proofs.lemmas.Bool.{and_from, or_from, or_left, or_parts, or_right}
+use Rattle.std.proofs.lemmas.List.Folds.{list_any-append}
+use Rattle.code_table.specs.Declarations.{name_of}
+use Rattle.js_core.specs.Height.{code_height}
+use Rattle.js_core.specs.Tree as tree
+use Rattle.js_core.specs.Tree.{code}
+use Rattle.js_values.specs.declared.ids.EnvId.{EnvId}
+use Rattle.heap_walker.specs.Still.{IsFunctionAtRest, other_names, wrapped}
+use Rattle.page_meaning.specs.Store.{Store}
+use Rattle.scope_analysis.specs.EarlyRules.{early_rule}
+use Rattle.scope_analysis.specs.Form.{in_form, is_declaration}
+use Rattle.scope_analysis.specs.FreeUses.{needed_variables}
+use Rattle.scope_analysis.specs.Names.{bound_names, is_among, maybe_name}
+use Rattle.scope_analysis.specs.Nodes.{stmts_any}
+use Rattle.scope_analysis.specs.Uses.{crossing, is_assigned, leaving_function, stmts_uses}
+use Rattle.scope_analysis.specs.declared.name_use.Use.{Use}
+use Rattle.heap_relations.specs.Naming.{Absent, Fixed, Frame, Itself, Sealed, Unused, resolve, resolved}
+use Rattle.agreement.specs.Trees.{any_code, code_fits, entry_frame, is_reached}
+use Rattle.rebuilding.specs.Frames.{is_own, round_frame}
+use Rattle.rebuilding.proofs.Entries.{binds, entry_binds}
+use Rattle.rebuilding.proofs.Pieces.{few, stmts_stand}
+use Rattle.rebuilding.proofs.Uses.{Apt, are_reached, kept_bound, kept_reached, reaches}
+use Rattle.rebuilding.proofs.Basics.{same_name}
+use Rattle.rebuilding.proofs.Wrapped.{declares_none, left_are_others, own_unassigned}
+
+-- ---- names in the frame round it
+
+-- its own name is fixed
+pub round_own : (c : tree.Code) (y : List ℕ) → is_own (name_of c) y ≡ true → resolve (round_frame c ∷ []) y ≡ Fixed
+round_own c y h = by_case (is_own (name_of c) y) h
+  where
+    by_case : (b : Bool) → b ≡ true → resolved (if b then Sealed else (if is_among y (other_names c) then Absent else Unused)) 0 Itself ≡ Fixed
+    by_case true e = refl
+    by_case false e = absurd (true≢false (sym e))
+
+-- its other names are themselves
+pub round_other : (c : tree.Code) (y : List ℕ) → is_own (name_of c) y ≡ false → is_among y (other_names c) ≡ true
+    → resolve (round_frame c ∷ []) y ≡ Itself
+round_other c y h k = by_case (is_own (name_of c) y) (is_among y (other_names c)) h k
+  where
+    by_case : (a b : Bool) → a ≡ false → b ≡ true → resolved (if a then Sealed else (if b then Absent else Unused)) 0 Itself ≡ Itself
+    by_case true b e f = absurd (true≢false e)
+    by_case false true e f = refl
+    by_case false false e f = absurd (true≢false (sym f))
+
+-- ---- uses
+
+and_other : (a b : Bool) → (a && b) ≡ false → b ≡ true → a ≡ false
+and_other true b h e = sym e ∙ h
+and_other false b h e = refl
+
+own_among : (x : Option (List ℕ)) (y : List ℕ) → is_own x y ≡ false → is_among y (maybe_name x) ≡ false
+own_among None y h = refl
+own_among (Some z) y h = or_from _ _ h refl
+
+abbrev names_of : List Use → List (List ℕ)
+names_of us = map (λ u. u.name) us
+
+-- a use that is not bound is left, and others are
+use_left : (bound : List (List ℕ)) (u : Use) (us : List Use) → is_among u.name bound ≡ false
+    → is_among u.name (names_of (leaving_function bound (u ∷ us))) ≡ true
+use_left bound u us h = by_case (is_among u.name bound) h
+  where
+    by_case : (b : Bool) → b ≡ false
+        → is_among u.name (names_of (if b then leaving_function bound us else (crossing u ∷ leaving_function bound us))) ≡ true
+    by_case true e = absurd (true≢false e)
+    by_case false e = or_left _ _ (same_name u.name)
+
+more_left : (bound : List (List ℕ)) (u : Use) (us : List Use) (y : List ℕ) → is_among y (names_of (leaving_function bound us)) ≡ true
+    → is_among y (names_of (leaving_function bound (u ∷ us))) ≡ true
+more_left bound u us y h = by_case (is_among u.name bound)
+  where
+    by_case : (b : Bool) → is_among y (names_of (if b then leaving_function bound us else (crossing u ∷ leaving_function bound us))) ≡ true
+    by_case true = h
+    by_case false = or_right _ _ h
+
+-- the code of one function
+module _ (x : Option (List ℕ)) (formals : List (List ℕ)) (body : tree.Stmts) where
+  abbrev whole : tree.Code
+  whole = code x formals body
+
+  abbrev bound : List (List ℕ)
+  bound = bound_names whole
+
+  abbrev round : List Frame
+  round = round_frame whole ∷ []
+
+  abbrev inside : List Frame
+  inside = entry_frame formals body ∷ round
+
+  -- it is bound inside, or is the own name and not assigned to, or one of the other names
+  use_reached : stmts_any is_declaration body ≡ false → (u : Use) (b own : Bool) → is_among u.name bound ≡ b → is_own x u.name ≡ own
+      → (b ≡ false → own ≡ true → u.assigns ≡ false)
+      → (b ≡ false → own ≡ false → is_among u.name (other_names whole) ≡ true) → reaches inside u ≡ true
+  use_reached plain u true own e o f g =
+      ap (is_reached u.assigns) (kept_bound (binds formals body u.name) 1 (resolve round u.name) (entry_binds formals body u.name plain e))
+  use_reached plain u false true e o f g =
+      kept_reached u.assigns (binds formals body u.name) 1 (resolve round u.name)
+      (ap (is_reached u.assigns) (round_own whole u.name o) ∙ ap not (f refl refl))
+  use_reached plain u false false e o f g =
+      kept_reached u.assigns (binds formals body u.name) 1 (resolve round u.name)
+      (ap (is_reached u.assigns) (round_other whole u.name o (g refl refl)))
+
+  uses_reached : stmts_any is_declaration body ≡ false → (us : List Use)
+      → ((y : List ℕ) → is_among y bound ≡ false → is_own x y ≡ true → is_assigned y us ≡ false)
+      → ((y : List ℕ) → is_among y (names_of (leaving_function (maybe_name x ++ bound) us)) ≡ true → is_among y (other_names whole) ≡ true)
+      → are_reached inside us ≡ true
+  uses_reached plain [] f g = refl
+  uses_reached plain (u ∷ us) f g =
+      and_from _ _ (use_reached plain u (is_among u.name bound) (is_own x u.name) refl refl unassigned other)
+      (uses_reached plain us (λ y e o. (or_parts _ _ (f y e o)).1) (λ y h. g y (more_left (maybe_name x ++ bound) u us y h)))
+    where
+      unassigned : is_among u.name bound ≡ false → is_own x u.name ≡ true → u.assigns ≡ false
+      unassigned e o = and_other _ _ (or_parts _ _ (f u.name e o)).0 (same_name u.name)
+
+      other : is_among u.name bound ≡ false → is_own x u.name ≡ false → is_among u.name (other_names whole) ≡ true
+      other e o =
+          let neither = list_any-append (bytes_eq u.name) (maybe_name x) bound ∙ or_from _ _ (own_among x u.name o) e in
+          g u.name (use_left (maybe_name x ++ bound) u us neither)
+
+-- ---- the whole function
+
+pub fits_round_in_form : (c : tree.Code) → IsTrue (in_form (wrapped c)) → early_rule (wrapped c) ≡ None → code_height c + 1 ≤ 400
+    → needed_variables c ≡ []
+    → code_fits any_code (round_frame c ∷ []) c ≡ true
+fits_round_in_form (code x formals body) formed early low none =
+    let c = code x formals body in
+    let plain = declares_none x formals body formed in
+    let uses = uses_reached x formals body plain (stmts_uses body) (own_unassigned x formals body early) (left_are_others c none) in
+    let apt : Apt (entry_frame formals body ∷ round_frame c ∷ []) (stmts_uses body) (stmts_any is_declaration body) =
+    record { reached = uses; plain = plain } in
+    and_from _ _ (few (round_frame c ∷ []) (omega arith)) (stmts_stand body apt (omega arith))
+
+-- what a page at rest knows of each of its functions is enough
+pub fits_at_rest : {s : Store} {k : ℕ} {env : Option EnvId} (c : tree.Code) → IsFunctionAtRest s k c env → needed_variables c ≡ []
+    → code_fits any_code (round_frame c ∷ []) c ≡ true
+fits_at_rest c h none = fits_round_in_form c h.formed h.orderly h.low none

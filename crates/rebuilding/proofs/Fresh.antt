@@ -1,0 +1,191 @@
+-- A maker leaves a thing as it says.
+use Rattle.std.proofs.Common.{◌≡◌, refl, sym, ap, subst, ◌∙◌, ℕ, suc, ◌+◌, ◌-◌, true, false, nat_lt, List, [], ◌∷◌, ◌++◌, Option, Some, length}
+use Rattle.std.proofs.lemmas.Bool.{eq-eqb}
+use Rattle.std.specs.Prelude.{codes}
+use Rattle.heap_walker.specs.Things.{IsWalk, bound_values, class_links, is_in}
+use Rattle.js_core.specs.Tree.{Code}
+use Rattle.js_values.specs.declared.built_in.BuiltIn.TheVariants.{FunctionPrototypeBind}
+use Rattle.js_values.specs.declared.ids.EnvId.{EnvId}
+use Rattle.js_values.specs.declared.ids.ObjId.{ObjId}
+use Rattle.js_values.specs.declared.throw.ErrorKind.{ErrorKind}
+use Rattle.js_values.specs.declared.throw.ErrorKind.TheVariants as kind
+use Rattle.js_values.specs.declared.value.Value.{Value}
+use Rattle.js_values.specs.declared.value.Value.TheVariants.{Object as Reference}
+use Rattle.object_heap.specs.Chain.{get, object_at}
+use Rattle.object_heap.specs.Define.{length_name, number}
+use Rattle.object_heap.specs.Environment.{Environment}
+use Rattle.object_heap.specs.Heap.{Contents, new_object}
+use Rattle.object_heap.specs.Object.{Object, whole_object}
+use Rattle.object_heap.specs.Property.{fixed}
+use Rattle.object_heap.specs.declared.object.Class.{Class}
+use Rattle.object_heap.specs.declared.object.Class.TheVariants as class
+use Rattle.page_meaning.specs.Elements.{length_of}
+use Rattle.page_meaning.specs.Places.{array_prototype, at_place, error_prototype, error_prototype_place, function_at, function_prototype, range_error_prototype_place, reference_error_prototype_place, type_error_prototype_place}
+use Rattle.page_meaning.specs.Pristine.{pristine}
+use Rattle.page_meaning.specs.Properties.{class_at, is_function}
+use Rattle.page_meaning.specs.Store.{Store, with_heap}
+use Rattle.rebuild_plan.specs.Compact.{kind_of, maker_as, moved, moved_needs, moved_proto, moved_values}
+use Rattle.rebuild_plan.specs.Stands.{maker_names}
+use Rattle.rebuilding.specs.Rebuilt.{ClassIsRebuilt, bound, fault, is_none, list, needs_none, page, plain}
+use Rattle.rebuilding.specs.Running.{CanMake, IsMade}
+use Rattle.rebuilding.specs.Scene.{Scene}
+use Rattle.rebuilding.specs.Sites.{site, sited, sited_proto, sited_values}
+use Rattle.rebuilding.proofs.Placed.{array_low, error_low, function_low, proto_stays}
+use Rattle.rebuilding.proofs.Stages.{IsFresh, MadeProps}
+use Rattle.rebuilding.proofs.Lasting.{bound_same, proto_is}
+use Rattle.object_shapes.specs.Shapes.{HasBoundLength, HasShape}
+use Rattle.rebuilding.proofs.Basics.{left_of}
+use Rattle.object_shapes.specs.Links.{built_in_count, all_below}
+
+-- ---- what is bound
+
+-- what a page had in this place stands, as a function of the same length
+pub record IsKept (s : Store) (things : List ℕ) (h : Contents) (sites : List ℕ) (target : ObjId) : Type 0 where
+  pub class : is_function (Some (object_at h.objects (site sites (moved things target).0)).class) ≡ true
+  pub bind : get h.objects (site sites (moved things target).0) (codes "bind") ≡ Some (Reference (function_at FunctionPrototypeBind))
+  pub length : length_of (sited sites (moved things target)) (with_heap pristine h) ≡ length_of target s
+
+-- so do all functions that this class refers to
+abbrev pub AreKept : Store → List ℕ → Contents → List ℕ → Class → Type 0
+AreKept s things h sites a =
+    (target : ObjId) → is_in target.0 (class_links s a) ≡ true → is_function (Some (class_at s target)) ≡ true → nat_lt (moved things target).0
+    (built_in_count + length sites) ≡ true
+    → IsKept s things h sites target
+
+target_in : (s : Store) (target : ObjId) (this : Value) (args : List Value) → is_in target.0 (class_links s (class.Bound target this args)) ≡ true
+target_in s target this args = rw (eq-eqb target.0 target.0 refl) refl
+
+-- ---- a thing can be made
+
+no_needs : (s : Store) (things : List ℕ) (env : Option EnvId) (xs : List (List ℕ)) → is_none xs ≡ true
+    → moved_needs things (bound_values s env xs) ≡ []
+no_needs s things env [] h = refl
+no_needs s things env (x ∷ xs) h = cc h
+
+pub can_make : (s : Store) (things : List ℕ) (h : Contents) (sites : List ℕ) (o : Object) (a : Class) → HasShape s o a
+    → needs_none a ≡ true
+    → all_below (built_in_count + length sites) (maker_names (maker_as s things o.proto a)) ≡ true → AreKept s things h sites a
+    → CanMake h sites (maker_as s things o.proto a)
+can_make s things h sites o (class.Page body env) made none stands kept = no_needs s things env _ none
+can_make s things h sites o (class.Bound target this args) made none stands kept =
+    let target_stands : IsKept s things h sites target = kept target (target_in s target this args) made.2 (left_of _ _ stands) in
+    (target_stands.class, target_stands.bind)
+can_make s things h sites o class.Plain made none stands kept = tt
+can_make s things h sites o class.List made none stands kept = tt
+can_make s things h sites o class.Fault made none stands kept = tt
+can_make s things h sites o (class.Native which) made none stands kept = tt
+can_make s things h sites o class.Math made none stands kept = tt
+can_make s things h sites o class.Window made none stands kept = tt
+can_make s things h sites o (class.Node m) made none stands kept = tt
+can_make s things h sites o (class.Event parts) made none stands kept = tt
+
+-- ---- it is as it was first
+
+-- what is known of a thing of this class that was made
+record IsBegun (c : Scene) (es : List Environment) (things sites : List ℕ) (k : ℕ) (a : Class) (o made : Object) : Type 0 where
+  class : ClassIsRebuilt c es things sites k a made.class
+  proto : made.proto ≡ sited_proto sites (moved_proto things o.proto)
+  extensible : made.extensible ≡ true
+  closed : made.closed ≡ false
+  props : MadeProps a o.props made.props
+
+kind_same : (k : ErrorKind) → error_prototype (kind_of (Some (error_prototype k))) ≡ error_prototype k
+unfolding error_prototype_place range_error_prototype_place reference_error_prototype_place type_error_prototype_place
+kind_same kind.Plain = refl
+kind_same kind.Type = refl
+kind_same kind.Range = refl
+kind_same kind.Reference = refl
+
+same_count : (things sites : List ℕ) (vs : List Value) → length (sited_values sites (moved_values things vs)) ≡ length vs
+same_count things sites [] = refl
+same_count things sites (v ∷ vs) = ap suc (same_count things sites vs)
+
+module _ (c : Scene) (s : Store) (things : List ℕ) (h i : Contents) (sites : List ℕ) (place : ℕ) (walk : IsWalk s things) where
+  abbrev after : List ℕ
+  after = sites ++ place ∷ []
+
+  abbrev Begun : Class → Object → Object → Type 0
+  Begun a o made = IsBegun c i.environments things after place a o made
+
+  begun_plain : (o made : Object) → all_below (built_in_count + length sites) (maker_names (maker_as s things o.proto class.Plain)) ≡ true
+      → made ≡ new_object class.Plain (sited_proto sites (moved_proto things o.proto)) → Begun class.Plain o made
+  begun_plain o made stands is = subst (λ m. Begun class.Plain o m) (sym is) (record {
+    class = plain;
+    proto = sym (proto_stays sites place (moved_proto things o.proto) stands);
+    extensible = refl;
+    closed = refl;
+    props = refl;
+  })
+
+  begun_list : (o made : Object) → o.proto ≡ Some array_prototype → made ≡ new_object class.List (Some array_prototype) → Begun class.List o made
+  begun_list o made proto is = subst (λ m. Begun class.List o m) (sym is) (record {
+    class = list;
+    proto = sym (proto_is s things after walk o.proto array_prototype proto array_low);
+    extensible = refl;
+    closed = refl;
+    props = refl;
+  })
+
+  begun_fault : (o made : Object) (of : ErrorKind) → o.proto ≡ Some (error_prototype of)
+      → made ≡ whole_object class.Fault (Some (error_prototype (kind_of o.proto))) [] → Begun class.Fault o made
+  begun_fault o made of proto is = subst (λ m. Begun class.Fault o m) (sym is) (record {
+    class = fault;
+    proto = ap Some (ap (λ p. error_prototype (kind_of p)) proto ∙ kind_same of)
+        ∙ sym (proto_is s things after walk o.proto (error_prototype of) proto (error_low of));
+    extensible = refl;
+    closed = refl;
+    props = refl;
+  })
+
+  begun_page : (o made : Object) (body : Code) (env : Option EnvId) → o.proto ≡ Some function_prototype
+      → IsMade c h i sites place (maker_as s things o.proto (class.Page body env)) made → Begun (class.Page body env) o made
+  begun_page o made body env proto is = subst (λ m. Begun (class.Page body env) o m) (sym is.object) (record {
+    class = page is.is_round;
+    proto = sym (proto_is s things after walk o.proto function_prototype proto function_low);
+    extensible = refl;
+    closed = refl;
+    props = record { prototype = Reference (at_place is.prototype); are = refl };
+  })
+
+  begun_bound : (o made : Object) (target : ObjId) (this : Value) (args : List Value) → o.proto ≡ Some function_prototype
+      → all_below (built_in_count + length sites) (maker_names (maker_as s things o.proto (class.Bound target this args))) ≡ true
+      → HasBoundLength (length_of target s) (length args) o.props
+      → length_of (sited sites (moved things target)) (with_heap pristine h) ≡ length_of target s
+      → IsMade c h i sites place (maker_as s things o.proto (class.Bound target this args)) made → Begun (class.Bound target this args) o made
+  begun_bound o made target this args proto stands had same is = subst (λ m. Begun (class.Bound target this args) o m) (sym is) (record {
+    class = subst (λ d. ClassIsRebuilt c i.environments things after place (class.Bound target this args) d)
+        (bound_same things sites place target this args stands) bound;
+    proto = sym (proto_is s things after walk o.proto function_prototype proto function_low);
+    extensible = refl;
+    closed = refl;
+    props = record {
+      count = length_of target s - length args;
+      others = had.others;
+      had = had.are;
+      are = (λ j. (length_name, fixed (number (same j - same_count things sites args j))) ∷ []);
+    };
+  })
+
+  begun : (o made : Object) (a : Class) → HasShape s o a
+      → all_below (built_in_count + length sites) (maker_names (maker_as s things o.proto a)) ≡ true → AreKept s things h sites a
+      → IsMade c h i sites place (maker_as s things o.proto a) made → Begun a o made
+  begun o made class.Plain was stands kept is = begun_plain o made stands is
+  begun o made class.List was stands kept is = begun_list o made was.0 is
+  begun o made class.Fault was stands kept is = begun_fault o made was.kind was.is is
+  begun o made (class.Page body env) was stands kept is = begun_page o made body env was.0 is
+  begun o made (class.Bound target this args) was stands kept is =
+      begun_bound o made target this args was.0 stands was.1 (kept target (target_in s target this args) was.2 (left_of _ _ stands)).length is
+  begun o made (class.Native which) was stands kept is = absurd was
+  begun o made class.Math was stands kept is = absurd was
+  begun o made class.Window was stands kept is = absurd was
+  begun o made (class.Node m) was stands kept is = absurd was
+  begun o made (class.Event parts) was stands kept is = absurd was
+
+  -- the thing that was made is as its maker left it
+  pub made_fresh : (o made : Object) → HasShape s o o.class
+      → all_below (built_in_count + length sites) (maker_names (maker_as s things o.proto o.class)) ≡ true
+      → AreKept s things h sites o.class → IsMade c h i sites place (maker_as s things o.proto o.class) made
+      → IsFresh c i.environments things after place o made
+  made_fresh o made was stands kept is =
+      let b : Begun o.class o made = begun o made o.class was stands kept is in
+      record { class = b.class; proto = b.proto; extensible = b.extensible; closed = b.closed; props = b.props }

@@ -1,0 +1,90 @@
+-- The globals that scripts made are defined behind those that are built in.
+use Rattle.std.proofs.Common.{◌≡◌, refl, sym, ap, subst, ◌∙◌, ℕ, true, false, not, ◌&&◌, is_none, is_some, drop, Option, Some, None, List, [], ◌∷◌, ◌++◌, length, bytes_eq}
+use Rattle.std.proofs.Math.Seq.{drop-append_seam}
+use Rattle.std.proofs.lemmas.Bool.{lt-ltb}
+use Rattle.std.specs.List.{IsDistinct, list_all}
+use Rattle.std.specs.Map.{keys_of}
+use Rattle.heap_walker.specs.Still.{Still}
+use Rattle.heap_walker.specs.Things.{globals_of}
+use Rattle.object_heap.specs.Chain.{object_at}
+use Rattle.object_heap.specs.Heap.{Contents}
+use Rattle.object_heap.specs.Object.{Object, is_list}
+use Rattle.object_heap.specs.Property.{HasDistinctNames, Props, own_property}
+use Rattle.object_heap.specs.declared.property.Prop.{Prop}
+use Rattle.page_meaning.specs.Places.{window}
+use Rattle.page_meaning.specs.Store.{Store}
+use Rattle.rebuild_plan.specs.Compact.{moved_props}
+use Rattle.rebuild_plan.specs.Plan.{defines}
+use Rattle.rebuild_plan.specs.declared.statement.Rebuild.{Rebuild}
+use Rattle.rebuilding.specs.Rebuilt.{Succeeds}
+use Rattle.rebuilding.specs.Scene.{IsRunning, Scene}
+use Rattle.rebuilding.specs.Sites.{site}
+use Rattle.rebuilding.proofs.Defining.{and_props, defines_succeed}
+use Rattle.rebuilding.proofs.Going.{Allowed, Going, going_begins}
+use Rattle.rebuilding.proofs.PropertyNames.{both_keys, moved_all, moved_keys, rebuilt_props}
+use Rattle.rebuilding.proofs.WindowStays.{is_built}
+use Rattle.object_shapes.specs.Shapes.{IsWindow, built_in_at, built_in_globals}
+use Rattle.rebuilding.proofs.Placed.{some_built_in}
+use Rattle.object_shapes.specs.Links.{built_in_count}
+
+pub at_window : (sites : List ℕ) → site sites window.0 ≡ window.0
+at_window sites = rw (lt-ltb 0 built_in_count some_built_in) refl
+
+-- ---- which globals scripts made
+
+counted : length (built_in_at window.0).props ≡ built_in_globals
+unfolding built_in_globals
+counted = refl
+
+-- those behind the ones that are built in
+pub globals_are : (o : Object) (rest : IsWindow o) → drop built_in_globals o.props ≡ rest.others
+globals_are o rest =
+    ap (λ n. drop n o.props) (sym counted) ∙ ap (drop (length (built_in_at window.0).props)) rest.props
+    ∙ drop-append_seam (built_in_at window.0).props rest.others
+
+-- their names are new behind the built-in ones
+globals_new : (bs others saved now left : Props) (things : List ℕ) → left ≡ others → saved ≡ bs ++ others → HasDistinctNames saved → now ≡ bs
+    → IsDistinct bytes_eq (keys_of now ++ keys_of (moved_props things left))
+globals_new bs others saved now left things same are names is =
+    subst (IsDistinct bytes_eq)
+    (ap keys_of are ∙ both_keys bs others ∙ ap (λ (l : List (List ℕ)). l ++ keys_of others) (ap keys_of (sym is))
+    ∙ ap (λ (l : List (List ℕ)). keys_of now ++ l) (ap keys_of (sym same) ∙ sym (moved_keys things left)))
+    names
+
+none_or_some : (o : Option Prop) → is_none o ≡ not (is_some o)
+none_or_some None = refl
+none_or_some (Some p) = refl
+
+own_names : (es : Props) → list_all (λ e. is_none (own_property (built_in_at window.0).props e.0)) es ≡ list_all (λ e. not (is_built e.0)) es
+unfolding is_built
+own_names [] = refl
+own_names (e ∷ es) = (λ i. none_or_some (own_property (built_in_at window.0).props e.0) i && own_names es i)
+
+-- and are none of theirs
+globals_own : (others left : Props) (things : List ℕ) → list_all (λ e. not (is_built e.0)) others ≡ true → left ≡ others
+    → list_all (λ e. not (is_built e.0)) (moved_props things left) ≡ true
+globals_own others left things own same =
+    moved_all (λ x. not (is_built x)) things left ∙ ap (λ (ps : Props). list_all (λ e. not (is_built e.0)) ps) same ∙ own
+
+-- ---- they are defined
+
+pub globals_succeed : (c : Scene) (End : Contents → List ℕ → Type 0) (s : Store) (things sites : List ℕ) (h : Contents) (rs : List Rebuild)
+    → Still s → IsRunning c h sites → (object_at h.objects window.0).props ≡ (built_in_at window.0).props
+    → Allowed (length sites) (defines false false window (moved_props things (globals_of s)) ++ rs)
+    → ((i : Contents) → Going c h i sites window.0 (and_props (object_at h.objects window.0) (rebuilt_props sites things (globals_of s)))
+    → Allowed (length sites) rs → Succeeds c End i sites rs)
+    → Succeeds c End h sites (defines false false window (moved_props things (globals_of s)) ++ rs)
+globals_succeed c End s things sites h rs still running now allowed later =
+    let o : Object = object_at h.objects window.0 in
+    let w : IsWindow (object_at s.heap.objects window.0) = still.shaped.window in
+    let left : globals_of s ≡ w.others = globals_are (object_at s.heap.objects window.0) w in
+    let ordinary : is_list o.class ≡ false = ap is_list running.window.class in
+    defines_succeed c End sites h (moved_props things (globals_of s)) h window o rs
+    (going_begins c h sites (site sites window.0) o running (ap (object_at h.objects) (at_window sites)))
+    running.window.closed running.window.extensible ordinary
+    (globals_new (built_in_at window.0).props w.others (object_at s.heap.objects window.0).props o.props (globals_of s) things left w.props
+    (still.sound.names window.0) now)
+    (globals_own w.others (globals_of s) things (sym (own_names w.others) ∙ w.own) left)
+    allowed
+    (λ i now_there more. later i
+    (subst (λ k. Going c h i sites k (and_props o (rebuilt_props sites things (globals_of s)))) (at_window sites) now_there) more)

@@ -1,0 +1,165 @@
+-- While statements change one object of a page, all else stays.
+use Rattle.std.proofs.Common.{◌≡◌, refl, sym, ap, subst, ◌∙◌, ℕ, ◌+◌, Bool, true, false, ◌&&◌, nat_eq, List, [], ◌∷◌, length, bytes_eq, arith}
+use Rattle.std.proofs.lemmas.List.Elements.{All-head, All-tail}
+use Rattle.std.specs.List.{All}
+use Rattle.js_values.specs.declared.ids.ObjId.{ObjId}
+use Rattle.js_values.specs.declared.value.Value.{Value}
+use Rattle.js_values.specs.declared.value.Value.TheVariants.{Text}
+use Rattle.object_heap.specs.Attempt.{Attempt, done}
+use Rattle.object_heap.specs.Chain.{object_at}
+use Rattle.object_heap.specs.Define.{define_own, length_name, number, prevented}
+use Rattle.object_heap.specs.Function.{prototype_name}
+use Rattle.object_heap.specs.Heap.{Contents}
+use Rattle.object_heap.specs.Object.{Object, is_list}
+use Rattle.object_heap.specs.declared.property.Prop.{Prop}
+use Rattle.page_meaning.specs.Places.{window}
+use Rattle.page_writer.specs.Literals.{HaveLiterals, IsLiteral, values_of}
+use Rattle.rebuild_plan.specs.Stands.{standing}
+use Rattle.rebuild_plan.specs.declared.statement.Rebuild.{Rebuild}
+use Rattle.rebuild_plan.specs.declared.statement.Rebuild.TheVariants.{Define, DefineLength, DefinePrototype, Prevent}
+use Rattle.rebuilding.specs.Rebuilt.{Succeeds}
+use Rattle.rebuilding.specs.Running.{HasChanged, Stays, short_change, whole_change}
+use Rattle.rebuilding.specs.Scene.{IsRunning, Scene}
+use Rattle.rebuilding.specs.Sites.{site}
+use Rattle.rebuilding.proofs.WindowStays.{is_built}
+use Rattle.rebuilding.proofs.Basics.{left_of, right_of}
+use Rattle.object_shapes.specs.Links.{built_in_count, value_links, all_below}
+
+-- ---- what statements may name and write
+
+pub record Allowed (n : ℕ) (rs : List Rebuild) : Type 0 where
+  pub stands : standing n rs ≡ true
+  pub in_range : HaveLiterals rs
+
+pub range_first : (r : Rebuild) (rs : List Rebuild) → HaveLiterals (r ∷ rs) → All IsLiteral (values_of r)
+range_first r rs h = All-head (λ q. All IsLiteral (values_of q)) r rs h
+
+pub range_rest : (r : Rebuild) (rs : List Rebuild) → HaveLiterals (r ∷ rs) → HaveLiterals rs
+range_rest r rs h = All-tail (λ q. All IsLiteral (values_of q)) r rs h
+
+-- ---- what stays
+
+pub stays_same : (h : Contents) (but : List ℕ) → Stays h h but
+stays_same h but = record {
+  more = omega arith;
+  objects = λ k there other. refl;
+  more_environments = omega arith;
+  environments = λ k there. refl;
+}
+
+pub stays_on : (f g h : Contents) (but : List ℕ) → Stays f g but → Stays g h but → Stays f h but
+stays_on f g h but a b = record {
+  more = omega (arith, a.more, b.more);
+  objects = λ k there other. b.objects k (omega (arith, there, a.more)) other ∙ a.objects k there other;
+  more_environments = omega (arith, a.more_environments, b.more_environments);
+  environments = λ k there. b.environments k (omega (arith, there, a.more_environments)) ∙ a.environments k there;
+}
+
+-- since the page was g, the object at the place became o, and all else stayed
+pub record Going (c : Scene) (g h : Contents) (sites : List ℕ) (k : ℕ) (o : Object) : Type 0 where
+  pub running : IsRunning c h sites
+  pub stays : Stays g h (k ∷ [])
+  pub object : object_at h.objects k ≡ o
+
+pub going_begins : (c : Scene) (h : Contents) (sites : List ℕ) (k : ℕ) (o : Object) → IsRunning c h sites → object_at h.objects k ≡ o
+    → Going c h h sites k o
+going_begins c h sites k o running is = record { running = running; stays = stays_same h (k ∷ []); object = is }
+
+changed_next : (c : Scene) (g h i : Contents) (sites after : List ℕ) (k : ℕ) (o p next : Object) → Going c g h sites k o → IsRunning c i after
+    → HasChanged h i sites after k p → p ≡ next
+    → Going c g i sites k next
+changed_next c g h i sites after k o p next going running ran is = record {
+  running = subst (IsRunning c i) ran.same running;
+  stays = stays_on g h i (k ∷ []) going.stays ran.stays;
+  object = ran.object ∙ is;
+}
+
+-- ---- one statement
+
+module _ (c : Scene) (End : Contents → List ℕ → Type 0) (sites : List ℕ) (g : Contents) where
+  pub define_next : (h : Contents) (at : ObjId) (x : List ℕ) (p : Prop) (rs : List Rebuild) (o next : Object) → Going c g h sites (site sites at.0) o
+      → Allowed (length sites) (Define at x p ∷ rs) → (is_list o.class && bytes_eq x length_name) ≡ false
+      → (nat_eq at.0 window.0 && is_built x) ≡ false → define_own o x (whole_change sites p) ≡ done next
+      → ((i : Contents) → Going c g i sites (site sites at.0) next → Allowed (length sites) rs → Succeeds c End i sites rs)
+      → Succeeds c End h sites (Define at x p ∷ rs)
+  unfolding is_built
+  define_next h at x p rs o next going allowed other own does later = (
+    record {
+      stands = left_of (all_below (built_in_count + length sites) (at.0 ∷ value_links p.value)) (standing (length sites) rs) allowed.stands;
+      in_range = All-head IsLiteral p.value [] (All-tail IsLiteral (Text x) (p.value ∷ []) (range_first (Define at x p) rs allowed.in_range));
+      other = ap (λ (q : Object). is_list q.class && bytes_eq x length_name) going.object ∙ other;
+      own = own;
+      defined = ap (λ (q : Object). (define_own q x (whole_change sites p)).thrown) going.object ∙ ap (λ (a : Attempt Object). a.thrown) does;
+    },
+    λ i after running ran. subst (λ l. Succeeds c End i l rs) (sym ran.same) (later i
+        (changed_next c g h i sites after (site sites at.0) o _ next going running ran
+        (ap (λ (q : Object). (define_own q x (whole_change sites p)).after) going.object ∙ ap (λ (a : Attempt Object). a.after) does))
+        (record { stands = right_of _ (standing (length sites) rs) allowed.stands; in_range = range_rest (Define at x p) rs allowed.in_range })),
+  )
+
+  pub prototype_next : (h : Contents) (at : ObjId) (v : Value) (writable : Bool) (rs : List Rebuild) (o next : Object)
+      → Going c g h sites (site sites at.0) o
+      → Allowed (length sites) (DefinePrototype at v writable ∷ rs) → is_list o.class ≡ false → nat_eq at.0 window.0 ≡ false
+      → define_own o prototype_name (short_change sites v writable) ≡ done next
+      → ((i : Contents) → Going c g i sites (site sites at.0) next → Allowed (length sites) rs → Succeeds c End i sites rs)
+      → Succeeds c End h sites (DefinePrototype at v writable ∷ rs)
+  unfolding is_built
+  prototype_next h at v writable rs o next going allowed ordinary off does later = (
+    record {
+      stands = left_of (all_below (built_in_count + length sites) (at.0 ∷ value_links v)) (standing (length sites) rs) allowed.stands;
+      in_range = All-head IsLiteral v [] (range_first (DefinePrototype at v writable) rs allowed.in_range);
+      other = ap (λ (q : Object). is_list q.class && bytes_eq prototype_name length_name) going.object
+          ∙ ap (λ b. b && bytes_eq prototype_name length_name) ordinary;
+      own = ap (λ b. b && is_built prototype_name) off;
+      defined = ap (λ (q : Object). (define_own q prototype_name (short_change sites v writable)).thrown) going.object
+          ∙ ap (λ (a : Attempt Object). a.thrown) does;
+    },
+    λ i after running ran. subst (λ l. Succeeds c End i l rs) (sym ran.same) (later i
+        (changed_next c g h i sites after (site sites at.0) o _ next going running ran
+        (ap (λ (q : Object). (define_own q prototype_name (short_change sites v writable)).after) going.object
+        ∙ ap (λ (a : Attempt Object). a.after) does))
+        (record {
+          stands = right_of _ (standing (length sites) rs) allowed.stands;
+          in_range = range_rest (DefinePrototype at v writable) rs allowed.in_range;
+        })),
+  )
+
+  pub length_next : (h : Contents) (at : ObjId) (n : ℕ) (writable : Bool) (rs : List Rebuild) (o next : Object)
+      → Going c g h sites (site sites at.0) o
+      → Allowed (length sites) (DefineLength at (number n) writable ∷ rs)
+      → define_own o length_name (short_change sites (number n) writable) ≡ done next
+      → ((i : Contents) → Going c g i sites (site sites at.0) next → Allowed (length sites) rs → Succeeds c End i sites rs)
+      → Succeeds c End h sites (DefineLength at (number n) writable ∷ rs)
+  length_next h at n writable rs o next going allowed does later = (
+    record {
+      stands = left_of (all_below (built_in_count + length sites) (at.0 ∷ [])) (standing (length sites) rs) allowed.stands;
+      count = n;
+      is = refl;
+      in_range = All-head IsLiteral (number n) [] (range_first (DefineLength at (number n) writable) rs allowed.in_range);
+      defined = ap (λ (q : Object). (define_own q length_name (short_change sites (number n) writable)).thrown) going.object
+          ∙ ap (λ (a : Attempt Object). a.thrown) does;
+    },
+    λ i after running ran. subst (λ l. Succeeds c End i l rs) (sym ran.same) (later i
+        (changed_next c g h i sites after (site sites at.0) o _ next going running ran
+        (ap (λ (q : Object). (define_own q length_name (short_change sites (number n) writable)).after) going.object
+        ∙ ap (λ (a : Attempt Object). a.after) does))
+        (record {
+          stands = right_of _ (standing (length sites) rs) allowed.stands;
+          in_range = range_rest (DefineLength at (number n) writable) rs allowed.in_range;
+        })),
+  )
+
+  pub prevent_next : (h : Contents) (at : ObjId) (rs : List Rebuild) (o next : Object) → Going c g h sites (site sites at.0) o
+      → Allowed (length sites) (Prevent at ∷ rs) → prevented o ≡ done next
+      → ((i : Contents) → Going c g i sites (site sites at.0) next → Allowed (length sites) rs → Succeeds c End i sites rs)
+      → Succeeds c End h sites (Prevent at ∷ rs)
+  prevent_next h at rs o next going allowed does later = (
+    record {
+      stands = left_of (all_below (built_in_count + length sites) (at.0 ∷ [])) (standing (length sites) rs) allowed.stands;
+      done = ap (λ (q : Object). (prevented q).thrown) going.object ∙ ap (λ (a : Attempt Object). a.thrown) does;
+    },
+    λ i after running ran. subst (λ l. Succeeds c End i l rs) (sym ran.same) (later i
+        (changed_next c g h i sites after (site sites at.0) o _ next going running ran
+        (ap (λ (q : Object). (prevented q).after) going.object ∙ ap (λ (a : Attempt Object). a.after) does))
+        (record { stands = right_of _ (standing (length sites) rs) allowed.stands; in_range = range_rest (Prevent at) rs allowed.in_range })),
+  )

@@ -1,0 +1,69 @@
+-- The script of a saved page loads without a line, as a page that agrees with the one that was saved.
+use Rattle.std.proofs.Common.{◌≡◌, refl, sym, ap, subst, ◌∙◌, ℕ, suc, ◌+◌, ◌-◌, ◌<◌, ◌≤◌, false, List, [], ◌∷◌, ◌++◌, length, arith}
+use Rattle.page_meaning.specs.Act.{Act}
+use Rattle.page_meaning.specs.Calls.{calls_at}
+use Rattle.page_meaning.specs.Laws.{LoadsSound}
+use Rattle.page_meaning.specs.Pages.{load_of}
+use Rattle.page_meaning.specs.Places.{window}
+use Rattle.page_meaning.specs.Pristine.{pristine}
+use Rattle.page_meaning.specs.Statements.{exec_all}
+use Rattle.page_meaning.specs.Store.{Store, with_heap}
+use Rattle.page_meaning.specs.Tasks.{depth_limit, finished, Script, step_limit, task_of}
+use Rattle.page_writer.specs.Script.{saved_script, statements}
+use Rattle.rebuild_plan.specs.Compact.{compact, Thing, things_at}
+use Rattle.rebuild_plan.specs.Plan.{defines, fills, makes, plan, prevents}
+use Rattle.rebuild_plan.specs.declared.statement.Rebuild.{Rebuild}
+use Rattle.rebuilding.specs.Laws.{Agrees, ScriptsRebuild}
+use Rattle.rebuilding.specs.Rebuilt.{IsRebuilt, PlansRebuild, Succeeds}
+use Rattle.rebuilding.specs.Running.{StatementsRun}
+use Rattle.rebuilding.specs.Scene.{inside, IsRunning}
+use Rattle.rebuilding.proofs.Agreeing.{rebuilt_agrees}
+use Rattle.rebuilding.proofs.InOrder.{all_run, Finishes}
+use Rattle.rebuilding.proofs.Scripts.{begun, begun_running, begun_window, scene, script_run}
+
+-- ---- limits
+
+depth_left : depth_limit ≡ (depth_limit - 1) + 1
+unfolding depth_limit
+depth_left = refl
+
+few_steps : step_limit < 4294967295
+unfolding step_limit
+few_steps = omega arith
+
+makes_long : (n : ℕ) (ts : List Thing) (rest : List Rebuild) → length ts ≤ length (makes n ts ++ rest)
+makes_long n [] rest = omega arith
+makes_long n (t ∷ ts) rest = omega (arith, makes_long (suc n) ts rest)
+
+as_many : (s : Store) (things ks : List ℕ) → length (things_at s things ks) ≡ length ks
+as_many s things [] = refl
+as_many s things (k ∷ ks) = ap suc (as_many s things ks)
+
+plan_long : (s : Store) (things : List ℕ) → length things ≤ length (plan (compact s things))
+plan_long s things =
+    let ts : List Thing = things_at s things things in
+    omega (arith, as_many s things things, makes_long 0 ts (defines false false window (compact s things).globals ++ (fills 0 ts ++ prevents 0 ts)))
+
+-- ---- the page that is loaded
+
+pub scripts_rebuild : LoadsSound → StatementsRun → PlansRebuild → ScriptsRebuild
+scripts_rebuild sound run plans s things can =
+    let rs : List Rebuild = plan (compact s things) in
+    let depth : ℕ = depth_limit - 1 in
+    let running : IsRunning scene begun [] = begun_running (sound []) in
+    let able : Succeeds scene (IsRebuilt scene s things) begun [] rs =
+    plans scene s things begun can.still can.walk can.need_none can.in_range
+    (omega (arith, plan_long s things, can.few, few_steps)) running begun_window
+    in
+    let all : Act = exec_all (calls_at (depth + 1)) (inside scene) (statements rs) in
+    let out : Finishes (IsRebuilt scene s things) (with_heap pristine begun) (all.run (with_heap pristine begun) step_limit) =
+    all_run run scene (IsRebuilt scene s things) depth rs (with_heap pristine begun) [] step_limit (omega (arith, can.few)) running able
+    in
+    let loaded : load_of (saved_script rs ∷ []) ≡ with_heap pristine out.after =
+    ap (λ m. finished ((task_of (calls_at m) (Script (saved_script rs))).run pristine step_limit)) depth_left
+    ∙ ap finished (script_run (calls_at (depth + 1)) rs step_limit out.after out.left out.ends)
+    in
+    let agrees : Agrees s (with_heap pristine out.after) =
+    rebuilt_agrees scene s things out.after out.sites can.still can.walk can.need_none out.end
+    in
+    subst (λ t. (t.lines ≡ []) × Agrees s t) (sym loaded) (refl, agrees)

@@ -1,0 +1,246 @@
+-- The naming of a page that was saved and the one that was rebuilt: what is built in names itself, and each thing the object at its site.
+use Rattle.std.proofs.Common.{◌≡◌, ◌⊎◌, inl, inr, refl, sym, ap, subst, ◌∙◌, ℕ, zero, suc, ◌<◌, ◌≤◌, Bool, true, false, nat_eq, List, [], ◌∷◌, ◌++◌, Option, Some, None, length, arith}
+use Rattle.std.proofs.lemmas.Bool.{cases_eq, cases_lt, eq-eqb, eqb-true, lt-ltb, ne_eqb}
+use Rattle.std.proofs.lemmas.Bool.Decides.{nat_tests}
+use Rattle.std.proofs.lemmas.List.Kept.{AllPairs-from_increasing}
+use Rattle.std.proofs.lemmas.List.Quantifiers.{position-Some}
+use Rattle.std.specs.List.{position, position_or_len}
+use Rattle.std.specs.List.Sorted.{IsStrictlyIncreasing}
+use Rattle.js_core.specs.Tree.{Code}
+use Rattle.js_values.specs.declared.ids.EnvId.{EnvId}
+use Rattle.object_heap.specs.Chain.{object_at}
+use Rattle.object_heap.specs.Heap.{Contents}
+use Rattle.object_heap.specs.Object.{Object}
+use Rattle.object_heap.specs.declared.object.Class.{Class}
+use Rattle.object_heap.specs.declared.object.Class.TheVariants as class
+use Rattle.page_meaning.specs.Store.{Store}
+use Rattle.heap_relations.specs.Naming.{Base, here, In, Pair, pair, there, World}
+use Rattle.agreement.specs.Trees.{any_code, code_fits, HasEqualTrees}
+use Rattle.heap_walker.specs.Things.{is_in}
+use Rattle.rebuild_plan.specs.Compact.{place_of, placed}
+use Rattle.rebuilding.specs.Frames.{round_frame}
+use Rattle.rebuilding.specs.Rebuilt.{nth}
+use Rattle.rebuilding.specs.Sites.{site}
+use Rattle.rebuilding.proofs.Basics.{found_below}
+use Rattle.rebuilding.proofs.Placed.{site_thing}
+use Rattle.object_shapes.specs.Links.{built_in_count}
+
+-- ---- the world
+
+-- each place below this one names itself
+abbrev pub same_below : ℕ → List Pair
+same_below zero = []
+same_below (suc n) = pair n n ∷ same_below n
+
+abbrev pub pairs : List ℕ → List ℕ → List Pair
+pairs [] js = []
+pairs (k ∷ ks) [] = []
+pairs (k ∷ ks) (j ∷ js) = pair k j ∷ pairs ks js
+
+abbrev pub base_with : Code → Option EnvId → Class → List Base
+base_with source env (class.Page other round) = record { one = env; two = round; frame = round_frame source } ∷ []
+base_with source env c = []
+
+-- the environments round the functions of these classes
+abbrev pub base_of : Class → Class → List Base
+base_of (class.Page source env) d = base_with source env d
+base_of c d = []
+
+abbrev pub bases_of : List Object → List Object → List ℕ → List ℕ → List Base
+bases_of os ps [] js = []
+bases_of os ps (k ∷ ks) [] = []
+bases_of os ps (k ∷ ks) (j ∷ js) = base_of (object_at os k).class (object_at ps j).class ++ bases_of os ps ks js
+
+abbrev pub rebuilt_world : Store → Contents → List ℕ → List ℕ → World
+rebuilt_world s h things sites = record {
+  opens = false;
+  opened = λ fs c. c;
+  fits = code_fits any_code;
+  before = record { one = s.lines; two = [] };
+  objects = same_below built_in_count ++ pairs things sites;
+  nodes = [];
+  slots = [];
+  bases = bases_of s.heap.objects h.objects things sites;
+}
+
+pub rebuilt_trees : (s : Store) (h : Contents) (things sites : List ℕ) → HasEqualTrees (rebuilt_world s h things sites)
+rebuilt_trees s h things sites = record { asks = any_code; opens = refl; opened = λ fs c. refl; fits = λ fs c. refl }
+
+-- ---- what is in lists
+
+module _ {A : Type 0} (x : A) where
+  in_left : (xs ys : List A) → In x xs → In x (xs ++ ys)
+  in_left xs ys here = here
+  in_left (y ∷ xs) ys (there i) = there (in_left xs ys i)
+
+  in_right : (xs ys : List A) → In x ys → In x (xs ++ ys)
+  in_right [] ys i = i
+  in_right (y ∷ xs) ys i = there (in_right xs ys i)
+
+  in_either : (xs ys : List A) → In x (xs ++ ys) → In x xs ⊎ In x ys
+  in_either [] ys i = inr i
+  in_either (y ∷ xs) ys here = inl here
+  in_either (y ∷ xs) ys (there i) = further (in_either xs ys i)
+    where
+      further : In x xs ⊎ In x ys → In x (y ∷ xs) ⊎ In x ys
+      further (inl j) = inl (there j)
+      further (inr j) = inr j
+
+-- ---- pairs
+
+pub record IsSame (n a b : ℕ) : Type 0 where
+  pub same : a ≡ b
+  pub below : a < n
+
+is_same : (n a b : ℕ) → In (pair a b) (same_below n) → IsSame n a b
+is_same zero a b i = elim i [ ]
+is_same (suc n) a b here = record { same = refl; below = omega arith }
+is_same (suc n) a b (there i) = let h = is_same n a b i in record { same = h.same; below = omega (arith, h.below) }
+
+below_named : (n k : ℕ) → k < n → In (pair k k) (same_below n)
+below_named zero k h = absurd (omega arith)
+below_named (suc n) k h = by_case (nat_eq k n) refl (λ below. below_named n k below)
+  where
+    by_case : (b : Bool) → nat_eq k n ≡ b → (k < n → In (pair k k) (same_below n)) → In (pair k k) (pair n n ∷ same_below n)
+    by_case true e up = let same : n ≡ k = grind (arith, nat_tests) in subst (λ m. In (pair k k) (pair m m ∷ same_below n)) (sym same) here
+    by_case false e up = there (up (grind (arith, nat_tests)))
+
+-- two objects are those of one thing
+pub record ArePlaced (ks js : List ℕ) (a b : ℕ) : Type 0 where
+  pub place : ℕ
+  pub below : place < length ks
+  pub one : a ≡ nth ks place
+  pub two : b ≡ nth js place
+
+pair_at : (ks js : List ℕ) (a b : ℕ) → In (pair a b) (pairs ks js) → ArePlaced ks js a b
+pair_at [] js a b i = elim i [ ]
+pair_at (k ∷ ks) [] a b i = elim i [ ]
+pair_at (k ∷ ks) (j ∷ js) a b here = record { place = 0; below = omega arith; one = refl; two = refl }
+pair_at (k ∷ ks) (j ∷ js) a b (there i) =
+    let h = pair_at ks js a b i in
+    record { place = suc h.place; below = omega (arith, h.below); one = h.one; two = h.two }
+
+paired : (ks js : List ℕ) (n : ℕ) → n < length ks → length js ≡ length ks → In (pair (nth ks n) (nth js n)) (pairs ks js)
+paired [] js n below same = absurd (omega (arith, below))
+paired (k ∷ ks) [] n below same = absurd (omega (arith, same))
+paired (k ∷ ks) (j ∷ js) zero below same = here
+paired (k ∷ ks) (j ∷ js) (suc n) below same = there (paired ks js n (omega (arith, below)) (omega (arith, same)))
+
+-- ---- bases
+
+-- the base is round the functions of these classes
+pub record IsBase (b : Base) (c d : Class) : Type 0 where
+  pub source : Code
+  pub other : Code
+  pub env : Option EnvId
+  pub round : Option EnvId
+  pub one : c ≡ class.Page source env
+  pub two : d ≡ class.Page other round
+  pub is : b ≡ record { one = env; two = round; frame = round_frame source }
+
+base_is_with : (source : Code) (env : Option EnvId) (d : Class) (b : Base) → In b (base_with source env d) → IsBase b (class.Page source env) d
+base_is_with source env (class.Page other round) b here =
+    record { source = source; other = other; env = env; round = round; one = refl; two = refl; is = refl }
+base_is_with source env (class.Page other round) b (there i) = elim i [ ]
+base_is_with source env d b i = elim i [ ]
+
+base_is : (c d : Class) (b : Base) → In b (base_of c d) → IsBase b c d
+base_is (class.Page source env) d b i = base_is_with source env d b i
+base_is c d b i = elim i [ ]
+
+pub record IsBaseAt (os ps : List Object) (ks js : List ℕ) (b : Base) : Type 0 where
+  pub place : ℕ
+  pub below : place < length ks
+  pub is : IsBase b (object_at os (nth ks place)).class (object_at ps (nth js place)).class
+
+pub base_at : (os ps : List Object) (ks js : List ℕ) (b : Base) → In b (bases_of os ps ks js) → IsBaseAt os ps ks js b
+base_at os ps [] js b i = elim i [ ]
+base_at os ps (k ∷ ks) [] b i = elim i [ ]
+base_at os ps (k ∷ ks) (j ∷ js) b i =
+    by (in_either b (base_of (object_at os k).class (object_at ps j).class) (bases_of os ps ks js) i) (λ more. base_at os ps ks js b more)
+  where
+    by : In b (base_of (object_at os k).class (object_at ps j).class) ⊎ In b (bases_of os ps ks js)
+        → (In b (bases_of os ps ks js) → IsBaseAt os ps ks js b) → IsBaseAt os ps (k ∷ ks) (j ∷ js) b
+    by (inl first) later = record { place = 0; below = omega arith; is = base_is (object_at os k).class (object_at ps j).class b first }
+    by (inr more) later = let h = later more in record { place = suc h.place; below = omega (arith, h.below); is = h.is }
+
+pub based_at : (os ps : List Object) (ks js : List ℕ) (n : ℕ) → n < length ks → length js ≡ length ks
+    → (source other : Code) (env round : Option EnvId) → (object_at os (nth ks n)).class ≡ class.Page source env
+    → (object_at ps (nth js n)).class ≡ class.Page other round
+    → In (record { one = env; two = round; frame = round_frame source }) (bases_of os ps ks js)
+based_at os ps [] js n below same source other env round one two = absurd (omega (arith, below))
+based_at os ps (k ∷ ks) [] n below same source other env round one two = absurd (omega (arith, same))
+based_at os ps (k ∷ ks) (j ∷ js) zero below same source other env round one two =
+    in_left _ (base_of (object_at os k).class (object_at ps j).class) (bases_of os ps ks js) (rw (one, two) here)
+based_at os ps (k ∷ ks) (j ∷ js) (suc n) below same source other env round one two =
+    in_right _ (base_of (object_at os k).class (object_at ps j).class) (bases_of os ps ks js)
+    (based_at os ps ks js n (omega (arith, below)) (omega (arith, same)) source other env round one two)
+
+-- ---- places
+
+-- numbers that rise are the same only at the same place
+pub rising_places : (ks : List ℕ) (m n : ℕ) → IsStrictlyIncreasing ks → m < length ks → n < length ks → nat_eq (nth ks m) (nth ks n) ≡ nat_eq m n
+rising_places ks m n rises one two = by (cases_lt m n) (cases_eq m n)
+  where
+    apart : (i j : ℕ) → i < j → j < length ks → nth ks i < nth ks j
+    apart i j before inside = AllPairs-from_increasing ks rises i j 0 before inside
+
+    differ : (a b c d : ℕ) → (a ≡ b → ⊥) → (c ≡ d → ⊥) → nat_eq a b ≡ nat_eq c d
+    differ a b c d far away = ne_eqb a b far ∙ sym (ne_eqb c d away)
+
+    by : (m < n) ⊎ (n ≤ m) → (m ≡ n) ⊎ (m ≡ n → ⊥) → nat_eq (nth ks m) (nth ks n) ≡ nat_eq m n
+    by order (inl same) = subst (λ k. nat_eq (nth ks m) (nth ks k) ≡ nat_eq m k) same (eq-eqb (nth ks m) (nth ks m) refl ∙ sym (eq-eqb m m refl))
+    by (inl before) (inr other) = differ (nth ks m) (nth ks n) m n (λ e. absurd (omega (arith, apart m n before two, e))) other
+    by (inr after) (inr other) = differ (nth ks m) (nth ks n) m n (λ e. absurd (omega (arith, apart n m (omega (arith, after, other)) one, e))) other
+
+-- where a thing stands
+pub record IsThingAt (things sites : List ℕ) (k : ℕ) : Type 0 where
+  pub place : ℕ
+  pub below : place < length things
+  pub one : k ≡ nth things place
+  pub two : site sites (place_of things k) ≡ nth sites place
+
+pub thing_at : (things sites : List ℕ) (k : ℕ) → is_in k things ≡ true → IsThingAt things sites k
+thing_at things sites k found =
+    let i : ℕ = position_or_len (nat_eq k) things in
+    let inside : i < length things = found_below (nat_eq k) things found in
+    let is : position (nat_eq k) things ≡ Some i = rw (lt-ltb i (length things) inside) refl in
+    record {
+      place = i;
+      below = inside;
+      one = eqb-true k (nth things i) (position-Some (nat_eq k) things i 0 is).1;
+      two = ap (λ o. site sites (placed k o)) is ∙ site_thing sites i;
+    }
+
+-- what is built in stands where it stood
+pub site_of_built_in : (things sites : List ℕ) (k : ℕ) → k < built_in_count → ((n : ℕ) → n < length things → built_in_count ≤ nth things n)
+    → site sites (place_of things k) ≡ k
+site_of_built_in things sites k low young = by (position (nat_eq k) things) refl
+  where
+    by : (o : Option ℕ) → position (nat_eq k) things ≡ o → site sites (place_of things k) ≡ k
+    by None is = ap (λ o. site sites (placed k o)) is ∙ rw (lt-ltb k built_in_count low) refl
+    by (Some i) is =
+        let found = position-Some (nat_eq k) things i 0 is in
+        absurd (omega (arith, low, young i found.0, eqb-true k (nth things i) found.1))
+
+-- ---- what the world names
+
+pub data IsPair (things sites : List ℕ) (a b : ℕ) : Type 0 where
+  built_in : a ≡ b → a < built_in_count → IsPair things sites a b
+  thing : ArePlaced things sites a b → IsPair things sites a b
+
+module _ (things sites : List ℕ) where
+  pub pair_is : (a b : ℕ) → In (pair a b) (same_below built_in_count ++ pairs things sites) → IsPair things sites a b
+  pair_is a b i = by (in_either (pair a b) (same_below built_in_count) (pairs things sites) i)
+    where
+      by : In (pair a b) (same_below built_in_count) ⊎ In (pair a b) (pairs things sites) → IsPair things sites a b
+      by (inl j) = let h = is_same built_in_count a b j in built_in h.same h.below
+      by (inr j) = thing (pair_at things sites a b j)
+
+  pub built_in_paired : (k : ℕ) → k < built_in_count → In (pair k k) (same_below built_in_count ++ pairs things sites)
+  built_in_paired k low = in_left (pair k k) (same_below built_in_count) (pairs things sites) (below_named built_in_count k low)
+
+  pub thing_paired : length sites ≡ length things → (n : ℕ) → n < length things
+      → In (pair (nth things n) (nth sites n)) (same_below built_in_count ++ pairs things sites)
+  thing_paired same n below =
+      in_right (pair (nth things n) (nth sites n)) (same_below built_in_count) (pairs things sites) (paired things sites n below same)

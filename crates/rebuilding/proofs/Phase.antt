@@ -1,0 +1,98 @@
+-- What the statements of a phase did to each thing, one thing after another.
+use Rattle.std.proofs.Common.{◌≡◌, ◌⊎◌, inl, inr, sym, ap, ◌∙◌, ℕ, ◌<◌, ◌≤◌, true, not, ◌&&◌, nat_eq, nat_le, nat_lt, List, length, arith}
+use Rattle.std.proofs.lemmas.Bool.{cases_eq, cases_order, leb-true, ltb-true}
+use Rattle.std.proofs.lemmas.List.Kept.{AllPairs-from_increasing}
+use Rattle.std.specs.List.Sorted.{IsStrictlyIncreasing}
+use Rattle.object_heap.specs.Chain.{object_at}
+use Rattle.object_heap.specs.Environment.{environment_at}
+use Rattle.object_heap.specs.Heap.{Contents}
+use Rattle.object_heap.specs.Object.{Object}
+use Rattle.object_heap.specs.Property.{Props}
+use Rattle.page_meaning.specs.Places.{window}
+use Rattle.rebuilding.specs.Rebuilt.{nth}
+use Rattle.rebuilding.specs.Scene.{IsRunning, Scene, is_site}
+use Rattle.rebuilding.proofs.Going.{Going}
+use Rattle.rebuilding.proofs.Basics.{all_at, left_of, not_in, right_of}
+use Rattle.rebuilding.proofs.Placed.{some_built_in}
+use Rattle.object_shapes.specs.Links.{built_in_count}
+
+-- ---- sites
+
+pub site_there : (c : Scene) (h : Contents) (sites : List ℕ) (n : ℕ) → IsRunning c h sites → n < length sites
+    → (built_in_count ≤ nth sites n) × (nth sites n < length h.objects)
+site_there c h sites n running inside =
+    let k : ℕ = nth sites n in
+    let is : is_site c h k ≡ true = all_at (is_site c h) sites n running.stand inside in
+    let others : (nat_lt k (length h.objects) && not (nat_eq k c.list))
+    ≡ true = right_of (nat_le built_in_count k) (nat_lt k (length h.objects) && not (nat_eq k c.list)) is in (
+      leb-true built_in_count k (left_of (nat_le built_in_count k) (nat_lt k (length h.objects) && not (nat_eq k c.list)) is),
+      ltb-true k (length h.objects) (left_of (nat_lt k (length h.objects)) (not (nat_eq k c.list)) others),
+    )
+
+sites_differ : (sites : List ℕ) (m n : ℕ) → IsStrictlyIncreasing sites → m < length sites → n < length sites → (m ≡ n → ⊥) → nth sites m
+    ≡ nth sites n → ⊥
+sites_differ sites m n rising left right other same = by (cases_order m n)
+  where
+    by : (m ≡ n) ⊎ ((m < n) ⊎ (n < m)) → ⊥
+    by (inl equal) = other equal
+    by (inr (inl below)) = omega (arith, AllPairs-from_increasing sites rising m n 0 below right, same)
+    by (inr (inr above)) = omega (arith, AllPairs-from_increasing sites rising n m 0 above left, same)
+
+-- ---- the state of a phase
+
+-- since the page was g, each thing became its state, and the global object has these properties
+pub record Phase (c : Scene) (g h : Contents) (sites : List ℕ) (own : Props) (state : ℕ → Object) : Type 0 where
+  pub running : IsRunning c h sites
+  pub more_environments : length g.environments ≤ length h.environments
+  pub environments : (k : ℕ) → k < length g.environments → environment_at h.environments k ≡ environment_at g.environments k
+  pub things : (n : ℕ) → n < length sites → object_at h.objects (nth sites n) ≡ state n
+  pub globals : (object_at h.objects window.0).props ≡ own
+
+-- once the globals are defined
+pub phase_begins : (c : Scene) (g h : Contents) (sites : List ℕ) (o : Object) → IsRunning c g sites → Going c g h sites window.0 o
+    → Phase c g h sites o.props (λ n. object_at g.objects (nth sites n))
+phase_begins c g h sites o running going = record {
+  running = going.running;
+  more_environments = going.stays.more_environments;
+  environments = going.stays.environments;
+  things =
+      λ n inside. let there = site_there c g sites n running inside in going.stays.objects (nth sites n) there.1
+      (not_in (nth sites n) 0 (λ same. omega (arith, there.0, some_built_in, same)));
+  globals = ap (λ (q : Object). q.props) going.object;
+}
+
+-- one thing changes
+pub phase_next : (c : Scene) (g h i : Contents) (sites : List ℕ) (own : Props) (state next : ℕ → Object) (n : ℕ) (o : Object)
+    → Phase c g h sites own state → n < length sites
+    → Going c h i sites (nth sites n) o → next n ≡ o → ((m : ℕ) → (m ≡ n → ⊥) → next m ≡ state m) → Phase c g i sites own next
+phase_next c g h i sites own state next n o phase inside going is kept = record {
+  running = going.running;
+  more_environments = omega (arith, phase.more_environments, going.stays.more_environments);
+  environments = λ k there. going.stays.environments k (omega (arith, there, phase.more_environments)) ∙ phase.environments k there;
+  things = λ m within. by m within (cases_eq m n);
+  globals =
+      ap (λ (q : Object). q.props)
+      (going.stays.objects window.0 low
+      (not_in 0 (nth sites n) (λ same. omega (arith, (site_there c h sites n phase.running inside).0, some_built_in, same)))) ∙ phase.globals;
+}
+  where
+    low : 0 < length h.objects
+    low = omega (arith, (site_there c h sites n phase.running inside).1)
+
+    by : (m : ℕ) → m < length sites → (m ≡ n) ⊎ (m ≡ n → ⊥) → object_at i.objects (nth sites m) ≡ next m
+    by m within (inl same) = ap (λ q. object_at i.objects (nth sites q)) same ∙ going.object ∙ sym is ∙ ap next (sym same)
+    by m within (inr other) =
+        going.stays.objects (nth sites m) (site_there c h sites m phase.running within).1
+        (not_in (nth sites m) (nth sites n) (sites_differ sites m n phase.running.rising within inside other))
+        ∙ phase.things m within ∙ sym (kept m other)
+
+-- the same states in other words
+pub phase_same : (c : Scene) (g h : Contents) (sites : List ℕ) (own : Props) (state next : ℕ → Object) → Phase c g h sites own state
+    → ((n : ℕ) → n < length sites → next n ≡ state n) → Phase c g h sites own next
+phase_same c g h sites own state next phase same = record {
+  running = phase.running;
+  more_environments = phase.more_environments;
+  environments = phase.environments;
+  things = λ n inside. phase.things n inside ∙ sym (same n inside);
+  globals = phase.globals;
+}

@@ -1,0 +1,150 @@
+-- Where what a plan names stands: built-in objects keep their places, and a thing that was made keeps its site.
+use Rattle.std.proofs.Common.{◌≡◌, refl, sym, ap, ◌∙◌, ℕ, zero, suc, ◌+◌, ◌-◌, ◌<◌, ◌≤◌, Bool, true, false, nat_eq, nat_lt, List, [], ◌∷◌, ◌++◌, Option, Some, None, length, arith}
+use Rattle.std.proofs.Math.ListN.{get_or-append}
+use Rattle.std.proofs.Math.Seq.{get_or-append_seam}
+use Rattle.std.proofs.lemmas.Bool.{eq-eqb, eqb-true, leb-true, le-ltb, lt-ltb, ltb-false, ltb-true}
+use Rattle.std.proofs.lemmas.List.Folds.{list_all-append, list_any_at}
+use Rattle.std.proofs.lemmas.List.Quantifiers.{position-Some}
+use Rattle.std.specs.List.{list_all, position, position_or_len}
+use Rattle.heap_walker.specs.Things.{IsWalk, is_in}
+use Rattle.js_values.specs.declared.ids.ObjId.{ObjId}
+use Rattle.js_values.specs.declared.throw.ErrorKind.{ErrorKind}
+use Rattle.js_values.specs.declared.throw.ErrorKind.TheVariants as kind
+use Rattle.js_values.specs.declared.value.Value.{Value}
+use Rattle.js_values.specs.declared.value.Value.TheVariants as value
+use Rattle.object_heap.specs.Chain.{object_at}
+use Rattle.object_heap.specs.Object.{Object, no_object}
+use Rattle.page_meaning.specs.Places.{array_prototype_place, error_prototype, error_prototype_place, function_prototype, range_error_prototype_place, reference_error_prototype_place, type_error_prototype_place}
+use Rattle.page_meaning.specs.Store.{Store}
+use Rattle.rebuild_plan.specs.Compact.{moved_proto, place_of, placed}
+use Rattle.heap_walker.proofs.Callers.{thing_of}
+use Rattle.rebuilding.specs.Rebuilt.{nth}
+use Rattle.rebuilding.specs.Sites.{site, sited_proto, sited_value, sited_values}
+use Rattle.rebuilding.proofs.Basics.{both, found_below, left_of, right_of}
+use Rattle.object_shapes.specs.Links.{built_in_count, is_thing, proto_links, value_links, values_links, all_below}
+
+-- ---- lists
+
+pub at_or : (p : Object → Bool) (os : List Object) (k : ℕ) → list_all p os ≡ true → p no_object ≡ true → p (object_at os k) ≡ true
+at_or p [] k all none = none
+at_or p (o ∷ os) zero all none = left_of _ _ all
+at_or p (o ∷ os) (suc k) all none = at_or p os k (right_of _ _ all) none
+
+pub below_more : (a b : ℕ) (ks : List ℕ) → a ≤ b → all_below a ks ≡ true → all_below b ks ≡ true
+below_more a b [] more h = refl
+below_more a b (k ∷ ks) more h =
+    let low : k < a = ltb-true k a (left_of _ _ h) in
+    both _ _ (lt-ltb k b (omega (arith, low, more))) (below_more a b ks more (right_of _ _ h))
+
+-- ---- places
+
+pub some_built_in : 0 < built_in_count
+unfolding built_in_count
+some_built_in = omega arith
+
+pub array_low : array_prototype_place < built_in_count
+unfolding array_prototype_place built_in_count
+array_low = omega arith
+
+pub function_low : function_prototype.0 < built_in_count
+unfolding built_in_count
+function_low = omega arith
+
+pub error_low : (k : ErrorKind) → (error_prototype k).0 < built_in_count
+unfolding error_prototype_place range_error_prototype_place reference_error_prototype_place type_error_prototype_place built_in_count
+error_low kind.Plain = omega arith
+error_low kind.Type = omega arith
+error_low kind.Range = omega arith
+error_low kind.Reference = omega arith
+
+pub place_in : (things : List ℕ) (i : ℕ) → i < length things → is_in (nth things i) things ≡ true
+place_in things i inside = list_any_at (nat_eq (nth things i)) things i 0 inside (eq-eqb (nth things i) (nth things i) refl)
+
+pub is_thing_at : (s : Store) (things : List ℕ) (i : ℕ) → IsWalk s things → i < length things → is_thing s (nth things i) ≡ true
+is_thing_at s things i walk inside = thing_of s (nth things i) (walk.sound (nth things i) (place_in things i inside))
+
+-- what is built in keeps its place
+pub place_built_in : (s : Store) (things : List ℕ) (k : ℕ) → IsWalk s things → k < built_in_count → place_of things k ≡ k
+place_built_in s things k walk low = by (position (nat_eq k) things) refl
+  where
+    by : (o : Option ℕ) → position (nat_eq k) things ≡ o → place_of things k ≡ k
+    by None is = ap (placed k) is
+    by (Some i) is =
+        let found = position-Some (nat_eq k) things i 0 is in
+        let same : k ≡ nth things i = eqb-true k (nth things i) found.1 in
+        let high : built_in_count ≤ nth things i = leb-true built_in_count (nth things i) (left_of _ _ (is_thing_at s things i walk found.0)) in
+        absurd (omega (arith, low, same, high))
+
+-- the place of a thing, which has this number
+pub number_at : (things : List ℕ) (k : ℕ) → is_in k things ≡ true
+    → (i : ℕ) × (place_of things k ≡ built_in_count + i) × (i < length things) × (nth things i ≡ k)
+number_at things k h =
+    let i : ℕ = position_or_len (nat_eq k) things in
+    let inside : i < length things = found_below (nat_eq k) things h in
+    let is : position (nat_eq k) things ≡ Some i = rw (lt-ltb i (length things) inside) refl in
+    (i, ap (placed k) is, inside, sym (eqb-true k (nth things i) (position-Some (nat_eq k) things i 0 is).1))
+
+-- ---- sites
+
+pub site_built_in : (sites : List ℕ) (k : ℕ) → k < built_in_count → site sites k ≡ k
+site_built_in sites k low = rw (lt-ltb k built_in_count low) refl
+
+pub site_thing : (sites : List ℕ) (n : ℕ) → site sites (built_in_count + n) ≡ nth sites n
+site_thing sites n =
+    let high : nat_lt (built_in_count + n) built_in_count ≡ false = le-ltb (built_in_count + n) built_in_count (omega arith) in
+    let back : (built_in_count + n) - built_in_count ≡ n = omega arith in
+    rw high (ap (nth sites) back)
+
+pub nth_more : (sites : List ℕ) (place j : ℕ) → j < length sites → nth (sites ++ place ∷ []) j ≡ nth sites j
+nth_more sites place j inside = get_or-append sites (place ∷ []) 0 j inside
+
+pub nth_last : (sites : List ℕ) (place : ℕ) → nth (sites ++ place ∷ []) (length sites) ≡ place
+nth_last sites place = get_or-append_seam sites place [] 0
+
+-- what stands stays where it is when one more thing is made
+pub site_more : (sites : List ℕ) (place k : ℕ) → k < built_in_count + length sites → site (sites ++ place ∷ []) k ≡ site sites k
+site_more sites place k stands = by (nat_lt k built_in_count) refl
+  where
+    by : (b : Bool) → nat_lt k built_in_count ≡ b → site (sites ++ place ∷ []) k ≡ site sites k
+    by true low = rw low refl
+    by false high =
+        let past : built_in_count ≤ k = ltb-false k built_in_count high in
+        rw high (nth_more sites place (k - built_in_count) (omega (arith, past, stands)))
+
+-- a built-in prototype is that of the rebuilt object
+pub proto_built_in : (s : Store) (things sites : List ℕ) (k : ℕ) → IsWalk s things → k < built_in_count
+    → sited_proto sites (moved_proto things (Some (record { 0 = k }))) ≡ Some (record { 0 = k })
+proto_built_in s things sites k walk low =
+    ap (λ n. Some (record { 0 = n })) (ap (site sites) (place_built_in s things k walk low) ∙ site_built_in sites k low)
+
+-- ---- what refers to what stands stays
+
+module _ (sites : List ℕ) (place : ℕ) where
+  abbrev stand : List ℕ → Bool
+  stand ks = all_below (built_in_count + length sites) ks
+
+  abbrev after : List ℕ
+  after = sites ++ place ∷ []
+
+  pub site_stays : (k : ℕ) → nat_lt k (built_in_count + length sites) ≡ true → site after k ≡ site sites k
+  site_stays k h = site_more sites place k (ltb-true k (built_in_count + length sites) h)
+
+  pub value_stays : (v : Value) → stand (value_links v) ≡ true → sited_value after v ≡ sited_value sites v
+  value_stays (value.Object at) h = ap (λ n. value.Object (record { 0 = n })) (site_stays at.0 (left_of _ _ h))
+  value_stays value.Undefined h = refl
+  value_stays value.Null h = refl
+  value_stays (value.Bool b) h = refl
+  value_stays (value.Num n) h = refl
+  value_stays (value.Text t) h = refl
+
+  pub values_stay : (vs : List Value) → stand (values_links vs) ≡ true → sited_values after vs ≡ sited_values sites vs
+  values_stay [] h = refl
+  values_stay (v ∷ vs) h =
+      let split = sym (list_all-append (λ k. nat_lt k (built_in_count + length sites)) (value_links v) (values_links vs)) ∙ h in
+      let here = value_stays v (left_of _ _ split) in
+      let others = values_stay vs (right_of _ _ split) in
+      (λ i. here i ∷ others i)
+
+  pub proto_stays : (proto : Option ObjId) → stand (proto_links proto) ≡ true → sited_proto after proto ≡ sited_proto sites proto
+  proto_stays None h = refl
+  proto_stays (Some at) h = ap (λ n. Some (record { 0 = n })) (site_stays at.0 (left_of _ _ h))

@@ -1,0 +1,270 @@
+-- Each statement that can run does, and leaves the page that is wanted.
+use Rattle.std.proofs.Common.{◌≡◌, refl, sym, ap, subst, ◌∙◌, ℕ, suc, ◌+◌, ◌<◌, ◌≤◌, Bool, true, false, ◌&&◌, nat_eq, nat_lt, List, [], ◌∷◌, ◌++◌, Some, None, length, add-one, length-set, lt_of_lt_of_le, bytes_eq, arith}
+use Rattle.std.proofs.lemmas.Bool.{and_from, and_parts, and_right, lt-ltb}
+use Rattle.std.specs.Fmt.{decimal}
+use Rattle.std.specs.List.{All}
+use Rattle.built_in_paths.specs.Laws.{EachHasPath, PathsLead}
+use Rattle.code_table.specs.Declarations.{name_of}
+use Rattle.js_core.specs.Tree as tree
+use Rattle.js_core.specs.Tree.{expr}
+use Rattle.js_values.specs.declared.ids.ObjId.{ObjId}
+use Rattle.js_values.specs.declared.value.Value.{Value}
+use Rattle.js_values.specs.declared.value.Value.TheVariants.{Object as Reference}
+use Rattle.object_heap.proofs.Callers.{object_before, object_set_other}
+use Rattle.object_heap.specs.Chain.{object_at}
+use Rattle.object_heap.specs.Define as object
+use Rattle.object_heap.specs.Define.{length_name, number, prevented}
+use Rattle.object_heap.specs.Function.{prototype_name}
+use Rattle.object_heap.specs.Heap.{Contents, define_own, prevent_extensions}
+use Rattle.object_heap.specs.Object.{Object, is_list}
+use Rattle.object_heap.specs.Property.{HasDistinctNames, Props}
+use Rattle.object_heap.specs.declared.property.Change.{Change}
+use Rattle.object_heap.specs.declared.property.Prop.{Prop}
+use Rattle.page_meaning.specs.Act.{Ended, Outcome, done, nothing}
+use Rattle.page_meaning.specs.Calls.{calls_at}
+use Rattle.page_meaning.specs.Descriptors.{change_in, define_in, descriptor_props}
+use Rattle.page_meaning.specs.Expressions.{assigned, eval}
+use Rattle.page_meaning.specs.Places.{at_place, window}
+use Rattle.page_meaning.specs.Primitives.{next_place}
+use Rattle.page_meaning.specs.Properties.{is_length_of, put_member}
+use Rattle.page_meaning.specs.Statements.{exec}
+use Rattle.page_meaning.specs.Store.{Store, with_heap}
+use Rattle.page_meaning.specs.declared.signal.Signal.{Signal}
+use Rattle.page_meaning.specs.declared.signal.Signal.TheVariants.{Value as Val}
+use Rattle.page_writer.specs.Literals.{IsLiteral, maker_values}
+use Rattle.page_writer.specs.Statements.{define_expr, function_expr, maker_expr, short_descriptor, statement, whole_descriptor}
+use Rattle.rebuild_plan.specs.Stands.{maker_names}
+use Rattle.rebuild_plan.specs.declared.statement.Maker.{Maker}
+use Rattle.rebuild_plan.specs.declared.statement.Maker.TheVariants.{Plain, List as Array, Fault, Func, Bind}
+use Rattle.rebuild_plan.specs.declared.statement.Rebuild.{Rebuild}
+use Rattle.rebuild_plan.specs.declared.statement.Rebuild.TheVariants.{Make, Define, DefinePrototype, DefineLength, Prevent}
+use Rattle.rebuilding.specs.Running.{CanBeMade, CanDefine, CanMake, CanPrevent, CanRun, HasChanged, IsMade, Runs, StatementsRun, short_change, whole_change}
+use Rattle.rebuilding.specs.Scene.{IsRoundOf, IsRunning, Scene, inside, is_site, list_of}
+use Rattle.rebuilding.specs.Sites.{site, sited, sited_prop, sited_value}
+use Rattle.rebuilding.proofs.Calling.{also_on}
+use Rattle.rebuilding.proofs.Changing.{IsChanged, defined_at, prevented_at}
+use Rattle.rebuilding.proofs.Closures.{function_made}
+use Rattle.rebuilding.proofs.List.{list_grown, with_thing}
+use Rattle.rebuilding.proofs.Literals.{literal_object, literal_running, short_asks, short_fields, short_names, short_read, whole_asks, whole_names, whole_read, with_literal}
+use Rattle.rebuilding.proofs.Making.{Makes, array_made, bound_made, error_made, plain_made}
+use Rattle.rebuilding.proofs.Reading.{thing_assigned, thing_put_and_given}
+use Rattle.rebuilding.proofs.Rows.{define_ran, length_defined, other_defined, prevent_ran}
+use Rattle.rebuilding.proofs.Staying.{all_through, site_stands, site_there, stands_site, stays_changed, stays_made, stays_on}
+use Rattle.rebuilding.proofs.WindowStays.{is_built}
+use Rattle.object_shapes.specs.Links.{built_in_count, value_links, all_below}
+
+length_not_built : is_built length_name ≡ false
+unfolding is_built
+length_not_built = refl
+
+-- a statement ends, and has changed the object at the place so
+record Changes (c : Scene) (s : Store) (sites : List ℕ) (n k : ℕ) (o : Object) (out : Outcome Signal) : Type 0 where
+  after : Contents
+  ends : out ≡ Ended nothing (with_heap s after) n
+  changed : HasChanged s.heap after sites sites k o
+  running : IsRunning c after sites
+
+-- what was made is so in a heap with the same environments
+made_still : (c : Scene) (h i j : Contents) (sites : List ℕ) (k : ℕ) (o : Object) (m : Maker) → i.environments ≡ j.environments
+    → IsMade c h i sites k m o → IsMade c h j sites k m o
+made_still c h i j sites k o (Plain proto) same f = f
+made_still c h i j sites k o Array same f = f
+made_still c h i j sites k o (Fault kind) same f = f
+made_still c h i j sites p o (Func k needs) same f = record {
+  round = f.round;
+  prototype = f.prototype;
+  object = f.object;
+  is_round = subst (λ es. IsRoundOf c es p (name_of k) f.round) same f.is_round;
+}
+made_still c h i j sites k o (Bind target this args) same f = f
+
+module _ (c : Scene) (s : Store) (sites : List ℕ) (r : IsRunning c s.heap sites) (lead : PathsLead) (each : EachHasPath) (d n : ℕ) where
+  -- ---- a thing is made
+
+  makes_so : (m : Maker) → all_below (built_in_count + length sites) (maker_names m) ≡ true → CanMake s.heap sites m → All IsLiteral (maker_values m)
+      → Makes c s sites m (suc n) ((eval (calls_at (suc d)) (inside c) (maker_expr m)).run s (suc n))
+  makes_so (Plain proto) stands able range = plain_made c s sites r lead each d n proto stands
+  makes_so Array stands able range = array_made c s sites r (suc d) (suc n)
+  makes_so (Fault kind) stands able range = error_made c s sites r d n kind
+  makes_so (Func k needs) stands able range =
+      subst (λ ns. Makes c s sites (Func k ns) (suc n) ((eval (calls_at (suc d)) (inside c) (function_expr k ns)).run s (suc n))) (sym able)
+      (function_made c s sites r (calls_at (suc d)) (suc n) k)
+  makes_so (Bind target this args) stands able range = bound_made c s sites r lead each d n target this args stands range able
+
+  make_runs : (number : ℕ) (m : Maker) → CanBeMade s.heap sites number m
+      → Runs c s sites (Make number m) (suc n) ((exec (calls_at (suc d)) (inside c) (statement (Make number m))).run s (suc n))
+  make_runs number m can =
+      let calls = calls_at (suc d) in
+      let makes = makes_so m can.stands can.able can.in_range in
+      let k = makes.place in
+      let i = with_thing c makes.after sites k in
+      let t = with_heap s makes.after in
+      let other : k ≡ c.list → ⊥ = λ e. omega (arith, e, makes.young, r.list_there) in
+      let young : built_in_count ≤ k = omega (arith, makes.young, r.list_there, r.list_young) in
+      let below : all_below k sites ≡ true = all_through (is_site c s.heap) (λ j. nat_lt j k) sites
+      (λ j e. lt-ltb j k (lt_of_lt_of_le (site_stands c s.heap j e).there makes.young)) r.stand
+      in
+      record {
+        after = i;
+        new_sites = sites ++ k ∷ [];
+        left = makes.left;
+        steps = makes.steps;
+        ends = also_on (λ _. done) (thing_assigned c s sites r calls (suc n) number (maker_expr m)
+            ∙ also_on (assigned (put_member (Reference (at_place c.list)) (decimal number))) makes.ends
+            ∙ thing_put_and_given c t sites makes.running makes.left number k can.next can.index);
+        has_run = record {
+          place = k;
+          joins = refl;
+          young = makes.young;
+          there = subst (λ l. k < l) (sym (length-set makes.after.objects c.list (list_of (sites ++ k ∷ [])))) makes.there;
+          object = made_still c s.heap makes.after i sites k (object_at i.objects k) m refl
+              (subst (λ o. IsMade c s.heap makes.after sites k m o)
+              (sym (object_set_other makes.after.objects c.list k (list_of (sites ++ k ∷ [])) other)) makes.object);
+          stays = stays_on s.heap makes.after i (c.list ∷ []) makes.stays (stays_changed makes.after c.list (list_of (sites ++ k ∷ [])));
+        };
+        running = list_grown c makes.after sites makes.running k (subst (λ l. l < 4294967295) can.next can.index)
+            (stands_site c makes.after k (record { young = young; there = makes.there; other = other })) below;
+      }
+
+  -- ---- an object is changed
+
+  -- `Object.defineProperty` with a descriptor that has these fields and is read as this change
+  module _ (at : ObjId) (x : List ℕ) (e : tree.Expr) (props : Props) (change : Change) (names : HasDistinctNames props)
+      (stands : all_below (built_in_count + length sites) (at.0 ∷ []) ≡ true)
+      (own : nat_eq at.0 window.0 && is_built x ≡ false)
+      (thrown : (object.define_own (object_at s.heap.objects (site sites at.0)) x change).thrown ≡ None) where
+    below : nat_lt at.0 (built_in_count + length sites) ≡ true
+    below = (and_parts (nat_lt at.0 (built_in_count + length sites)) true stands).0
+
+    same_object : object_at (with_literal s.heap props).objects (site sites at.0) ≡ object_at s.heap.objects (site sites at.0)
+    same_object = object_before s.heap.objects (literal_object props) (site sites at.0) (site_there c s.heap sites r at.0 below)
+
+    defined_thing : IsChanged c (with_literal s.heap props) sites (site sites at.0)
+        (define_own (with_literal s.heap props) (site sites at.0) x change)
+        (object.define_own (object_at s.heap.objects (site sites at.0)) x change).after
+    defined_thing =
+        let g = with_literal s.heap props in
+        let k = site sites at.0 in
+        subst (λ (o : Object). IsChanged c g sites k (define_own g k x change) (object.define_own o x change).after) same_object
+        (defined_at c g sites (literal_running c s.heap sites r props names) at.0 below x change own
+        (subst (λ (o : Object). (object.define_own o x change).thrown ≡ None) (sym same_object) thrown))
+
+    define_runs : (eval (calls_at (suc d)) (inside c) e).run s (suc n)
+        ≡ Ended (Val (Reference (next_place s.heap))) (with_heap s (with_literal s.heap props)) (suc n)
+        → change_in (with_heap s (with_literal s.heap props)) (Reference (next_place s.heap)) ≡ Some change
+        → ((define_own (with_literal s.heap props) (site sites at.0) x change).thrown ≡ None
+        → (define_in (sited sites at) x change).run (with_heap s (with_literal s.heap props)) n
+        ≡ Ended nothing (with_heap s (define_own (with_literal s.heap props) (site sites at.0) x change).after) n)
+        → Changes c s sites n (site sites at.0) (object.define_own (object_at s.heap.objects (site sites at.0)) x change).after
+        ((exec (calls_at (suc d)) (inside c) (expr (define_expr at x e))).run s (suc n))
+    define_runs read asks ends =
+        let g = with_literal s.heap props in
+        let k = site sites at.0 in
+        let i = (define_own g k x change).after in
+        let done = defined_thing in
+        record {
+          after = i;
+          ends = define_ran c s sites r lead each d n at stands x e props change i (literal_running c s.heap sites r props names) read asks
+              (ends done.thrown);
+          changed = record {
+            same = refl;
+            object = done.changed.object;
+            stays = stays_on s.heap g i (k ∷ [])
+                (stays_made s.heap (literal_object props)) done.changed.stays;
+          };
+          running = done.running;
+        }
+
+  no_length : (at : ObjId) (x : List ℕ) (props : Props) → (nat_lt at.0 (built_in_count + length sites) ≡ true)
+      → is_list (object_at s.heap.objects (site sites at.0)).class && bytes_eq x length_name ≡ false
+      → is_length_of (with_heap s (with_literal s.heap props)) (sited sites at) x ≡ false
+  no_length at x props below other =
+      ap (λ (o : Object). is_list o.class && bytes_eq x length_name)
+      (object_before s.heap.objects (literal_object props) (site sites at.0) (site_there c s.heap sites r at.0 below)) ∙ other
+
+  defines_whole : (at : ObjId) (x : List ℕ) (p : Prop) → CanDefine s.heap sites at x p.value (whole_change sites p)
+      → Changes c s sites n (site sites at.0) (object.define_own (object_at s.heap.objects (site sites at.0)) x (whole_change sites p)).after
+      ((exec (calls_at (suc d)) (inside c) (expr (define_expr at x (whole_descriptor p)))).run s (suc n))
+  unfolding is_built
+  defines_whole at x p can =
+      let parts = and_parts (nat_lt at.0 (built_in_count + length sites))
+      (all_below (built_in_count + length sites) (value_links p.value)) can.stands in
+      let props = descriptor_props (sited_prop sites p) in
+      let change = whole_change sites p in
+      let one = and_from (nat_lt at.0 (built_in_count + length sites)) true parts.0 refl in
+      define_runs at x (whole_descriptor p) props change (whole_names (sited_prop sites p)) one can.own can.defined
+      (whole_read c s sites r (calls_at (suc d)) (suc n) lead each p can.in_range parts.1) (whole_asks c s sites r p)
+      (λ fine. other_defined (sited sites at) x change (with_heap s (with_literal s.heap props)) n (no_length at x props parts.0 can.other) fine)
+
+  defines_short : (at : ObjId) (x : List ℕ) (v : Value) (writable : Bool) → CanDefine s.heap sites at x v (short_change sites v writable)
+      → Changes c s sites n (site sites at.0) (object.define_own (object_at s.heap.objects (site sites at.0)) x
+      (short_change sites v writable)).after
+      ((exec (calls_at (suc d)) (inside c) (expr (define_expr at x (short_descriptor v writable)))).run s (suc n))
+  unfolding is_built
+  defines_short at x v writable can =
+      let parts = and_parts (nat_lt at.0 (built_in_count + length sites)) (all_below (built_in_count + length sites) (value_links v)) can.stands in
+      let props = short_fields (sited_value sites v) writable in
+      let change = short_change sites v writable in
+      let one = and_from (nat_lt at.0 (built_in_count + length sites)) true parts.0 refl in
+      define_runs at x (short_descriptor v writable) props change (short_names (sited_value sites v) writable) one can.own can.defined
+      (short_read c s sites r (calls_at (suc d)) (suc n) lead each v writable can.in_range parts.1) (short_asks c s sites r v writable)
+      (λ fine. other_defined (sited sites at) x change (with_heap s (with_literal s.heap props)) n (no_length at x props parts.0 can.other) fine)
+
+  -- the name of a length is none of the built-in ones
+  length_own : (at : ObjId) → nat_eq at.0 window.0 && is_built length_name ≡ false
+  length_own at = and_right (nat_eq at.0 window.0) (is_built length_name) length_not_built
+
+  defines_length : (at : ObjId) (count : ℕ) (writable : Bool) → all_below (built_in_count + length sites) (at.0 ∷ []) ≡ true
+      → IsLiteral (number count)
+      → (object.define_own (object_at s.heap.objects (site sites at.0)) length_name (short_change sites (number count) writable)).thrown ≡ None
+      → Changes c s sites n (site sites at.0) (object.define_own (object_at s.heap.objects (site sites at.0)) length_name
+      (short_change sites (number count) writable)).after
+      ((exec (calls_at (suc d)) (inside c) (expr (define_expr at length_name (short_descriptor (number count) writable)))).run s (suc n))
+  defines_length at count writable stands range defined =
+      let props = short_fields (number count) writable in
+      define_runs at length_name (short_descriptor (number count) writable) props (short_change sites (number count) writable)
+      (short_names (number count) writable) stands (length_own at) defined
+      (short_read c s sites r (calls_at (suc d)) (suc n) lead each (number count) writable range refl)
+      (short_asks c s sites r (number count) writable)
+      (λ fine. length_defined (sited sites at) count writable sites (with_heap s (with_literal s.heap props)) n fine)
+
+  prevents : (at : ObjId) → CanPrevent s.heap sites at
+      → Changes c s sites n (site sites at.0) (prevented (object_at s.heap.objects (site sites at.0))).after
+      ((exec (calls_at (suc d)) (inside c) (statement (Prevent at))).run s (suc n))
+  prevents at can =
+      let below = (and_parts (nat_lt at.0 (built_in_count + length sites)) true can.stands).0 in
+      let done = prevented_at c s.heap sites r at.0 below can.done in
+      record {
+        after = (prevent_extensions s.heap (site sites at.0)).after;
+        ends = prevent_ran c s sites r lead each d n at can.stands done.thrown;
+        changed = done.changed;
+        running = done.running;
+      }
+
+  -- ---- each statement
+
+  runs : (q : Rebuild) → CanRun s.heap sites q → Runs c s sites q (suc n) ((exec (calls_at (suc d)) (inside c) (statement q)).run s (suc n))
+  runs (Make number m) can = make_runs number m can
+  runs (Define at x p) can =
+      let f = defines_whole at x p can in
+      record { after = f.after; new_sites = sites; left = n; steps = omega arith; ends = f.ends; has_run = f.changed; running = f.running }
+  runs (DefinePrototype at v writable) can =
+      let f = defines_short at prototype_name v writable can in
+      record { after = f.after; new_sites = sites; left = n; steps = omega arith; ends = f.ends; has_run = f.changed; running = f.running }
+  runs (DefineLength at v writable) can =
+      subst (λ w. Runs c s sites (DefineLength at w writable) (suc n)
+      ((exec (calls_at (suc d)) (inside c) (statement (DefineLength at w writable))).run s (suc n))) (sym can.is)
+      (let f = defines_length at can.count writable can.stands (subst IsLiteral can.is can.in_range)
+      (subst (λ w. (object.define_own (object_at s.heap.objects (site sites at.0)) length_name (short_change sites w writable)).thrown
+      ≡ None) can.is can.defined) in
+      record { after = f.after; new_sites = sites; left = n; steps = omega arith; ends = f.ends; has_run = f.changed; running = f.running })
+  runs (Prevent at) can =
+      let f = prevents at can in
+      record { after = f.after; new_sites = sites; left = n; steps = omega arith; ends = f.ends; has_run = f.changed; running = f.running }
+
+-- by what the paths of built-in objects lead to
+pub statements_run : PathsLead → EachHasPath → StatementsRun
+statements_run lead each c s sites q depth n r can =
+    subst (λ k. Runs c s sites q k ((exec (calls_at (depth + 1)) (inside c) (statement q)).run s k)) (sym (add-one n))
+    (subst (λ d. Runs c s sites q (suc n) ((exec (calls_at d) (inside c) (statement q)).run s (suc n))) (sym (add-one depth))
+    (runs c s sites r lead each depth n q can))

@@ -1,0 +1,190 @@
+-- What stays where objects are made and changed: a page on which the statements of a saved page run remains one.
+use Rattle.std.proofs.Common.{◌≡◌, ◌⊎◌, inl, inr, refl, sym, ap, subst, ◌∙◌, ℕ, ◌+◌, ◌-◌, ◌<◌, ◌≤◌, Bool, true, false, not, ◌&&◌, nat_eq, nat_le, nat_lt, List, [], ◌∷◌, Some, None, length, slice_index_or, slice_set, le_refl, le_trans, lt_of_lt_of_le, length-append, length-set, arith}
+use Rattle.std.proofs.lemmas.Bool.{and_from, and_parts, eqb-false, le-leb, leb-true, lt-ltb, ltb-false, ltb-true, ne_eqb, not-true, or_parts}
+use Rattle.std.proofs.lemmas.List.Sums.{AllPass-from_list_all}
+use Rattle.std.specs.List.{list_all}
+use Rattle.std.specs.Option.{ForSome}
+use Rattle.heap_walker.specs.Things.{is_in}
+use Rattle.js_values.specs.declared.ids.ObjId.{ObjId}
+use Rattle.object_heap.proofs.Callers.{object_before, object_set_other, object_set_same, settled_same, sound_pushed}
+use Rattle.object_heap.specs.Chain.{object_at}
+use Rattle.object_heap.specs.Heap.{Contents, IsFit, IsSound, with_new_object, with_object}
+use Rattle.object_heap.specs.Object.{Object, target_of}
+use Rattle.page_meaning.specs.Act.{Ended}
+use Rattle.page_meaning.specs.Places.{window}
+use Rattle.page_meaning.specs.Primitives.{make, next_place}
+use Rattle.page_meaning.specs.Store.{Store, with_heap}
+use Rattle.rebuilding.specs.Running.{Stays}
+use Rattle.rebuilding.specs.Scene.{IsRunning, Scene, is_site}
+use Rattle.rebuilding.specs.Sites.{site}
+use Rattle.object_shapes.specs.Shapes.{IsWindow}
+use Rattle.rebuilding.proofs.Basics.{not_in}
+use Rattle.object_shapes.specs.Links.{built_in_count}
+
+-- ---- sites
+
+-- a thing may stand at the place
+pub record Stands (c : Scene) (h : Contents) (k : ℕ) : Type 0 where
+  pub young : built_in_count ≤ k
+  pub there : k < length h.objects
+  pub other : k ≡ c.list → ⊥
+
+pub site_stands : (c : Scene) (h : Contents) (k : ℕ) → is_site c h k ≡ true → Stands c h k
+site_stands c h k e =
+    let one = and_parts (nat_le built_in_count k) (nat_lt k (length h.objects) && not (nat_eq k c.list)) e in
+    let two = and_parts (nat_lt k (length h.objects)) (not (nat_eq k c.list)) one.1 in
+    record {
+      young = leb-true built_in_count k one.0;
+      there = ltb-true k (length h.objects) two.0;
+      other = eqb-false k c.list (not-true (nat_eq k c.list) two.1);
+    }
+
+pub stands_site : (c : Scene) (h : Contents) (k : ℕ) → Stands c h k → is_site c h k ≡ true
+stands_site c h k s =
+    let last : not (nat_eq k c.list) ≡ true = ap not (ne_eqb k c.list s.other) in
+    and_from (nat_le built_in_count k) (nat_lt k (length h.objects) && not (nat_eq k c.list)) (le-leb built_in_count k s.young)
+    (and_from (nat_lt k (length h.objects)) (not (nat_eq k c.list)) (lt-ltb k (length h.objects) s.there) last)
+
+site_stays : (c : Scene) (h i : Contents) → length h.objects ≤ length i.objects → (k : ℕ) → is_site c h k ≡ true → is_site c i k ≡ true
+site_stays c h i more k e =
+    let s = site_stands c h k e in
+    stands_site c i k (record { young = s.young; there = lt_of_lt_of_le s.there more; other = s.other })
+
+pub all_through : {X : Type 0} (p q : X → Bool) (xs : List X) → ((x : X) → p x ≡ true → q x ≡ true) → list_all p xs ≡ true → list_all q xs ≡ true
+all_through p q [] f h = refl
+all_through p q (x ∷ xs) f h =
+    let both = and_parts (p x) (list_all p xs) h in
+    and_from (q x) (list_all q xs) (f x both.0) (all_through p q xs f both.1)
+
+module _ (c : Scene) (h : Contents) (sites : List ℕ) (r : IsRunning c h sites) where
+  -- what is named and not built in is a thing
+  pub site_thing : (k : ℕ) → nat_lt k (built_in_count + length sites) ≡ true → nat_lt k built_in_count ≡ false → Stands c h (site sites k)
+  site_thing k below e =
+      let there : k - built_in_count < length sites = omega
+      (arith, ltb-false k built_in_count e, ltb-true k (built_in_count + length sites) below) in
+      let passes : is_site c h (slice_index_or sites (k - built_in_count) 0) ≡ true = AllPass-from_list_all (is_site c h) sites r.stand
+      (k - built_in_count) 0 there in
+      rw e (site_stands c h (slice_index_or sites (k - built_in_count) 0) passes)
+
+  -- what is named stands: it is built in, or a thing
+  pub site_place : (k : ℕ) → nat_lt k (built_in_count + length sites) ≡ true → (site sites k < built_in_count) ⊎ Stands c h (site sites k)
+  site_place k below = by (nat_lt k built_in_count) refl
+    where
+      by : (b : Bool) → nat_lt k built_in_count ≡ b → (site sites k < built_in_count) ⊎ Stands c h (site sites k)
+      by true e = rw e (inl (ltb-true k built_in_count e))
+      by false e = inr (site_thing k below e)
+
+  pub low_there : (k : ℕ) → k < built_in_count → k < length h.objects
+  low_there k low = omega (arith, low, r.list_young, r.list_there)
+
+  pub place_there : (k : ℕ) → (k < built_in_count) ⊎ Stands c h k → k < length h.objects
+  place_there k (inl low) = low_there k low
+  place_there k (inr s) = s.there
+
+  pub place_other : (k : ℕ) → (k < built_in_count) ⊎ Stands c h k → k ≡ c.list → ⊥
+  place_other k (inl low) e = absurd (omega (arith, low, e, r.list_young))
+  place_other k (inr s) e = s.other e
+
+  pub site_there : (k : ℕ) → nat_lt k (built_in_count + length sites) ≡ true → site sites k < length h.objects
+  site_there k below = place_there (site sites k) (site_place k below)
+
+  pub window_there : window.0 < length h.objects
+  window_there = omega (arith, r.list_there)
+
+-- ---- what stays
+
+pub stays_on : (h i j : Contents) (but : List ℕ) → Stays h i [] → Stays i j but → Stays h j but
+stays_on h i j but f g = record {
+  more = le_trans f.more g.more;
+  objects = λ k there other. g.objects k (lt_of_lt_of_le there f.more) other ∙ f.objects k there refl;
+  more_environments = le_trans f.more_environments g.more_environments;
+  environments = λ k there. g.environments k (lt_of_lt_of_le there f.more_environments) ∙ f.environments k there;
+}
+
+pub stays_made : (h : Contents) (o : Object) → Stays h (with_new_object h o) []
+stays_made h o = record {
+  more = omega (arith, length-append h.objects (o ∷ []));
+  objects = λ k there other. object_before h.objects o k there;
+  more_environments = le_refl (length h.environments);
+  environments = λ k there. refl;
+}
+
+other_of : (j k : ℕ) → is_in j (k ∷ []) ≡ false → j ≡ k → ⊥
+other_of j k e = eqb-false j k (or_parts (nat_eq j k) false e).0
+
+pub stays_changed : (h : Contents) (k : ℕ) (o : Object) → Stays h (with_object h k o) (k ∷ [])
+stays_changed h k o = record {
+  more = omega (arith, length-set h.objects k o);
+  objects = λ j there e. object_set_other h.objects k j o (other_of j k e);
+  more_environments = le_refl (length h.environments);
+  environments = λ j there. refl;
+}
+
+-- ---- the page
+
+pub running_on : (c : Scene) (h i : Contents) (sites but : List ℕ) → IsRunning c h sites → IsSound i → Stays h i but
+    → IsWindow (object_at i.objects window.0)
+    → ((k : ℕ) → 0 < k → k < built_in_count → is_in k but ≡ false) → is_in c.list but ≡ false → IsRunning c i sites
+running_on c h i sites but r sound stays rest low other = record {
+  sound = sound;
+  built_ins = λ k positive below. stays.objects k (low_there c h sites r k below) (low k positive below) ∙ r.built_ins k positive below;
+  window = rest;
+  list = stays.objects c.list r.list_there other ∙ r.list;
+  list_young = r.list_young;
+  list_there = lt_of_lt_of_le r.list_there stays.more;
+  scope = stays.environments c.env r.scope_there ∙ r.scope;
+  scope_there = lt_of_lt_of_le r.scope_there stays.more_environments;
+  stand = all_through (is_site c h) (is_site c i) sites (site_stays c h i stays.more) r.stand;
+  rising = r.rising;
+}
+
+-- where no old object changes
+pub running_after : (c : Scene) (h i : Contents) (sites : List ℕ) → IsRunning c h sites → IsSound i → Stays h i [] → IsRunning c i sites
+running_after c h i sites r sound stays =
+    running_on c h i sites [] r sound stays (subst IsWindow (sym (stays.objects window.0 (window_there c h sites r) refl)) r.window)
+    (λ k positive below. refl) refl
+
+-- ---- one object more
+
+pub some_below : (p : ObjId) (k : ℕ) → p.0 < k → ForSome (Some p) (λ q. q.0 < k)
+some_below p k h q e = let same : p ≡ q = cc e in subst (λ (x : ObjId). x.0 < k) same h
+
+pub none_below : (k : ℕ) → ForSome None (λ (q : ObjId). q.0 < k)
+none_below k q e = cc e
+
+pub running_made : (c : Scene) (h : Contents) (sites : List ℕ) (o : Object) → IsRunning c h sites → IsFit o
+    → ForSome o.proto (λ p. p.0 < length h.objects)
+    → ForSome (target_of o.class) (λ t. t.0 < length h.objects) → IsRunning c (with_new_object h o) sites
+running_made c h sites o r fit proto target =
+    running_after c h (with_new_object h o) sites r (sound_pushed h r.sound o fit proto target) (stays_made h o)
+
+pub made_there : (h : Contents) (o : Object) → length h.objects < length (with_new_object h o).objects
+made_there h o = omega (arith, length-append h.objects (o ∷ []))
+
+-- the act that makes it
+pub make_run : (o : Object) (fit : IsFit o) (s : Store) (n : ℕ) → ForSome o.proto (λ p. p.0 < length s.heap.objects)
+    → ForSome (target_of o.class) (λ t. t.0 < length s.heap.objects)
+    → (make o fit).run s n ≡ Ended (next_place s.heap) (with_heap s (with_new_object s.heap o)) n
+make_run o fit s n proto target =
+    ap (λ x. Ended (next_place s.heap) (with_heap s (with_new_object s.heap x)) n) (settled_same (length s.heap.objects) o proto target)
+
+-- ---- an object that changes
+
+positive : 0 < built_in_count
+unfolding built_in_count
+positive = omega arith
+
+-- an old object may change that is a thing, or the global object, which stays at rest
+pub running_changed : (c : Scene) (h : Contents) (sites : List ℕ) (k : ℕ) (o : Object) → IsRunning c h sites → IsSound (with_object h k o)
+    → k < length h.objects
+    → (k ≡ c.list → ⊥) → (built_in_count ≤ k) ⊎ ((k ≡ window.0) × IsWindow o) → IsRunning c (with_object h k o) sites
+running_changed c h sites k o r sound there other (inl young) =
+    let apart : window.0 ≡ k → ⊥ = λ e. omega (arith, e, young, positive) in
+    running_on c h (with_object h k o) sites (k ∷ []) r sound (stays_changed h k o)
+    (subst IsWindow (sym (object_set_other h.objects k window.0 o apart)) r.window)
+    (λ j above below. not_in j k (λ e. omega (arith, e, young, below))) (not_in c.list k (λ e. other (sym e)))
+running_changed c h sites k o r sound there other (inr rest) =
+    let same : object_at (slice_set h.objects k o) window.0 ≡ o = subst (λ j. object_at (slice_set h.objects k o) j ≡ o) rest.0
+    (object_set_same h.objects k o there) in
+    running_on c h (with_object h k o) sites (k ∷ []) r sound (stays_changed h k o) (subst IsWindow (sym same) rest.1)
+    (λ j above below. not_in j k (λ e. omega (arith, e, above, rest.0))) (not_in c.list k (λ e. other (sym e)))

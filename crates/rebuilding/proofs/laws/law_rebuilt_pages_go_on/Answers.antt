@@ -1,0 +1,11 @@
+use Rattle.rebuilding.proofs.GoingOn.{rebuilt_pages_go_on}
+use Rattle.rebuilding.proofs.Loading.{scripts_rebuild}
+use Rattle.rebuilding.proofs.Rebuilds.{plans_rebuild}
+use Rattle.rebuilding.proofs.Statements.{statements_run}
+use Rattle.rebuilding.proofs.laws.law_rebuilt_pages_go_on.Goals as goal
+
+pub returns : goal.returns
+returns c =
+    rebuilt_pages_go_on c.law_events_agree.ensures
+    (scripts_rebuild c.law_heaps_stay_sound.ensures.loaded
+    (statements_run c.law_paths_lead.ensures.lead c.law_paths_lead.ensures.each) plans_rebuild)

@@ -1,0 +1,71 @@
+-- A page while the statements of a saved page run: a catch clause binds `$$` to a list, which holds the things that stand.
+use Rattle.std.specs.Prelude.{◌≡◌, ℕ, suc, ◌<◌, ◌≤◌, Bool, true, false, not, ◌&&◌, nat_eq, nat_le, nat_lt, List, [], ◌∷◌, Option, Some, None, length, codes, IsTrue}
+use Rattle.std.specs.Fmt.{decimal}
+use Rattle.std.specs.List.{list_all}
+use Rattle.std.specs.List.Sorted.{IsStrictlyIncreasing}
+use Rattle.js_values.specs.declared.ids.EnvId.{EnvId}
+use Rattle.js_values.specs.declared.value.Value.TheVariants.{Object as Reference}
+use Rattle.object_heap.specs.Chain.{object_at}
+use Rattle.object_heap.specs.Define.{length_name, number}
+use Rattle.object_heap.specs.Environment.{Environment, environment_at, new_environment}
+use Rattle.object_heap.specs.Heap.{Contents, IsSound}
+use Rattle.object_heap.specs.Object.{Object, whole_object}
+use Rattle.object_heap.specs.Property.{Props}
+use Rattle.object_heap.specs.declared.object.Class.TheVariants as class
+use Rattle.object_heap.specs.declared.property.Prop.{Prop}
+use Rattle.page_meaning.specs.Descriptors.{open_property}
+use Rattle.page_meaning.specs.Names.{Here}
+use Rattle.page_meaning.specs.Places.{array_prototype, at_place, window}
+use Rattle.object_shapes.specs.Shapes.{IsWindow, built_in_at}
+use Rattle.object_shapes.specs.Links.{built_in_count}
+
+-- the environment of the catch clause, and the place of the list
+pub record Scene : Type 0 where
+  pub env : ℕ
+  pub list : ℕ
+
+abbrev pub env_at : ℕ → EnvId
+env_at k = record { 0 = k }
+
+-- where the statements run
+abbrev pub inside : Scene → Here
+inside c = record { env = Some (env_at c.env); this = Reference window }
+
+-- ---- the list
+
+abbrev pub elements : ℕ → List ℕ → Props
+elements n [] = []
+elements n (k ∷ ks) = (decimal n, open_property (Reference (at_place k))) ∷ elements (suc n) ks
+
+abbrev pub list_length : ℕ → Prop
+list_length n = record { value = number n; writable = true; enumerable = false; configurable = false }
+
+abbrev pub list_of : List ℕ → Object
+list_of sites = whole_object class.List (Some array_prototype) ((length_name, list_length (length sites)) ∷ elements 0 sites)
+
+-- ---- the environments of a function
+
+-- a function at this place stands in that of the catch clause; where it has a name, one between binds the name to it
+pub data IsRoundOf (c : Scene) (es : List Environment) (k : ℕ) : Option (List ℕ) → Option EnvId → Type 0 where
+  bare : IsRoundOf c es k None (Some (env_at c.env))
+  named : {x : List ℕ} (e : ℕ) → e < length es → environment_at es e ≡ new_environment (Some (env_at c.env)) ((x, Reference (at_place k)) ∷ [])
+      → IsRoundOf c es k (Some x) (Some (env_at e))
+
+-- ---- the page
+
+-- a thing stands at the place: it is younger than what is built in, and not the list
+abbrev pub is_site : Scene → Contents → ℕ → Bool
+is_site c h k = nat_le built_in_count k && (nat_lt k (length h.objects) && not (nat_eq k c.list))
+
+-- the things stand at these sites
+pub record IsRunning (c : Scene) (h : Contents) (sites : List ℕ) : Type 0 where
+  pub sound : IsSound h
+  pub built_ins : (k : ℕ) → 0 < k → k < built_in_count → object_at h.objects k ≡ built_in_at k
+  pub window : IsWindow (object_at h.objects window.0)
+  pub list : object_at h.objects c.list ≡ list_of sites
+  pub list_young : built_in_count ≤ c.list
+  pub list_there : c.list < length h.objects
+  pub scope : environment_at h.environments c.env ≡ new_environment None ((codes "$$", Reference (at_place c.list)) ∷ [])
+  pub scope_there : c.env < length h.environments
+  pub stand : IsTrue (list_all (is_site c h) sites)
+  pub rising : IsStrictlyIncreasing sites

@@ -1,0 +1,38 @@
+//! What holds of saved pages that are loaded.
+
+ghost use Rattle.rebuilding.specs.Laws.{RebuiltPagesGoOn, ScriptsRebuild};
+ghost use Rattle.rebuilding.specs.Rebuilt.{PlansRebuild};
+ghost use Rattle.rebuilding.specs.Running.{StatementsRun};
+
+use agreement::law_events_agree;
+use built_in_paths::law_paths_lead;
+use page_meaning::laws::law_heaps_stay_sound;
+
+/// Each statement of a saved page that can run ends by itself after at most one step, puts out nothing and does what it says.
+pub fn law_statements_run()
+    ensures { StatementsRun }
+{
+    law_paths_lead();
+}
+
+/// The statements of the plan of a page at rest whose functions need no variables can run one after another, and leave that page.
+pub fn law_plans_rebuild()
+    ensures { PlansRebuild }
+{}
+
+/// The saved script of such a page loads without a line, and the page that it leaves agrees with the one that was saved.
+pub fn law_scripts_rebuild()
+    ensures { ScriptsRebuild }
+{
+    law_paths_lead();
+    law_heaps_stay_sound();
+}
+
+/// Under every list of later events it puts out the same lines as the page that was saved.
+pub fn law_rebuilt_pages_go_on()
+    ensures { RebuiltPagesGoOn }
+{
+    law_paths_lead();
+    law_heaps_stay_sound();
+    law_events_agree();
+}

@@ -1,0 +1,9 @@
+//! What holds of rebuilt pages.
+//! A saved page, loaded, is the page that was saved: laws on the meaning of its script.
+#![tactic(auto)]
+
+mod laws;
+
+pub use laws::{
+    law_plans_rebuild, law_rebuilt_pages_go_on, law_scripts_rebuild, law_statements_run,
+};
