@@ -1,0 +1,57 @@
+-- What holds of each function in a script of a form page, wherever it stands: alone in a call, it is a script of a form page, too.
+use Rattle.std.specs.Prelude.{◌≡◌, ◌≤◌, Bool, true, false, not, ◌&&◌, ◌||◌, List, [], ◌∷◌, Option, Some, None}
+use Rattle.heap_walker.specs.Still.{wrapped}
+use Rattle.js_core.specs.Height.{stmts_height}
+use Rattle.js_core.specs.Tree as tree
+use Rattle.js_core.specs.Tree.{code, func, function}
+use Rattle.js_grammar.specs.Syntax.{IsSyntax}
+use Rattle.page_rest.specs.Trees.{keeps_code}
+use Rattle.scope_analysis.specs.EarlyRules.{early_rule}
+use Rattle.scope_analysis.specs.Form.{in_form}
+use Rattle.scope_analysis.specs.FreeUses.{needed_variables}
+use Rattle.scope_analysis.specs.Nodes.{Node, expression, statement, stmts_any}
+
+abbrev pub is_none : {A : Type 0} → List A → Bool
+is_none [] = true
+is_none (x ∷ xs) = false
+
+abbrev pub is_no : {A : Type 0} → Option A → Bool
+is_no None = true
+is_no (Some x) = false
+
+-- of a function that needs no variables of the scopes round it
+abbrev pub is_formed : tree.Code → Bool
+is_formed c = not (is_none (needed_variables c)) || (in_form (wrapped c) && is_no (early_rule (wrapped c)))
+
+-- it keeps the rules on trees, too
+abbrev pub is_asked : tree.Code → Bool
+is_asked c = keeps_code c && is_formed c
+
+-- a declared function's code is held without its name
+abbrev pub without_name : tree.Code → tree.Code
+without_name (code x formals body) = code None formals body
+
+-- the node is a function for which that does not hold
+abbrev pub is_unformed : Node → Bool
+is_unformed (expression is_callee (func c)) = not (is_formed c)
+is_unformed (statement (function c)) = not (is_formed (without_name c))
+is_unformed n = false
+
+-- the node is a function that is not asked so
+abbrev pub is_not_asked : Node → Bool
+is_not_asked (expression is_callee (func c)) = not (is_asked c)
+is_not_asked (statement (function c)) = not (is_asked (without_name c))
+is_not_asked n = false
+
+-- a script of a form page
+pub record IsFormScript (script : tree.Stmts) : Type 0 where
+  pub formed : in_form script ≡ true
+  pub orderly : early_rule script ≡ None
+  pub low : stmts_height script ≤ 420
+
+-- no function in it is such a one
+abbrev pub FunctionsAreFormed : Type 0
+FunctionsAreFormed = (script : tree.Stmts) → IsFormScript script → stmts_any is_unformed script ≡ false
+
+abbrev pub FunctionsAreAsked : Type 0
+FunctionsAreAsked = (script : tree.Stmts) → IsFormScript script → IsSyntax script → stmts_any is_not_asked script ≡ false

@@ -1,0 +1,32 @@
+-- That pages are at rest between two events.
+use Rattle.std.specs.Prelude.{◌≡◌, ℕ, List, Option}
+use Rattle.std.specs.List.{All}
+use Rattle.heap_walker.specs.Still.{Still}
+use Rattle.heap_walker.specs.Things.{IsWalk}
+use Rattle.js_core.specs.Tree as tree
+use Rattle.js_core.specs.Tree.{func}
+use Rattle.js_grammar.specs.Syntax.{IsExpr, IsSyntax}
+use Rattle.js_values.specs.declared.event.Event.{Event}
+use Rattle.js_values.specs.declared.ids.EnvId.{EnvId}
+use Rattle.object_heap.specs.Chain.{object_at}
+use Rattle.object_heap.specs.declared.object.Class.TheVariants as class
+use Rattle.heap_walker.specs.Things.{Reach}
+use Rattle.page_meaning.specs.Pages.{run_of}
+use Rattle.page_meaning.specs.Store.{Store}
+use Rattle.heap_walker.specs.Alone.{StandAlone}
+use Rattle.page_rest.specs.Asks.{IsFormScript}
+
+-- a script of a form page, as tokens have it
+abbrev pub IsInForm : tree.Stmts → Type 0
+IsInForm script = IsFormScript script × IsSyntax script
+
+-- the code of each function that can be reached is a tree that some tokens have
+abbrev pub HasSyntax : Store → Type 0
+HasSyntax s =
+    (k : ℕ) (c : tree.Code) (env : Option EnvId) → Reach s k → (object_at s.heap.objects k).class ≡ class.Page c env → IsExpr (func c)
+
+-- after its scripts and any events a page in form is at rest, where its functions stand alone, and their codes have tokens
+abbrev pub PagesRest : Type 0
+PagesRest =
+    (scripts : List tree.Stmts) (es : List Event) (things : List ℕ) → All IsInForm scripts → IsWalk (run_of scripts es) things
+    → StandAlone (run_of scripts es) things → Still (run_of scripts es) × HasSyntax (run_of scripts es)

@@ -1,0 +1,18 @@
+//! What holds of pages in form.
+
+ghost use Rattle.page_rest.specs.Asks.{FunctionsAreAsked};
+ghost use Rattle.page_rest.specs.Laws.{PagesRest};
+
+use agreement::law_fitting_pages_agree;
+
+/// Each function in a script of a form page is, alone, a script of one.
+pub fn law_functions_are_asked()
+    ensures { FunctionsAreAsked }
+{}
+
+/// A page in form is at rest between two events, where its functions stand alone.
+pub fn law_pages_rest()
+    ensures { PagesRest }
+{
+    law_fitting_pages_agree();
+}

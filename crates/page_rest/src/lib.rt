@@ -1,0 +1,6 @@
+//! Pages between two events: laws on the meaning of scripts.
+#![tactic(auto)]
+
+mod laws;
+
+pub use laws::{law_functions_are_asked, law_pages_rest};
