@@ -1,0 +1,6 @@
+pub mod Accepted
+pub mod Frames
+pub mod InForm
+pub mod LinedPage
+pub mod Moved
+pub mod Written

@@ -1,0 +1,56 @@
+-- A moved page behaves as if it had never moved.
+use Rattle.std.specs.Prelude.{◌≡◌, ℕ, ◌≤◌, true, List, [], ◌∷◌, length}
+use Rattle.std.specs.List.{All, list_all}
+use Rattle.heap_walker.specs.Alone.{StandAlone}
+use Rattle.heap_walker.specs.Things.{IsWalk}
+use Rattle.heap_walker.specs.Weight.{load_of}
+use Rattle.js_core.specs.Tree as tree
+use Rattle.js_values.specs.declared.event.Event.{Event}
+use Rattle.page_check.specs.Accept.{IsAcceptedAs}
+use Rattle.page_check.specs.declared.page.Kind.{Kind}
+use Rattle.page_check.specs.declared.page.Kind.TheVariants.{Form}
+use Rattle.page_meaning.specs.Pages.{lines_after, lines_of_run, run_of}
+use Rattle.page_rest.specs.Laws.{IsInForm}
+use Rattle.page_writer.specs.Literals.{HaveLiterals}
+use Rattle.page_writer.specs.Page.{saved_page}
+use Rattle.page_writer.specs.Sizes.{text_limit, things_limit}
+use Rattle.rebuild_plan.specs.Compact.{compact}
+use Rattle.rebuild_plan.specs.Plan.{plan}
+use Rattle.scope_analysis.specs.Form.{in_form}
+
+-- scripts of form pages, after whose events these things can be reached; each function among them stands alone, what they write can be
+-- written, and they and their text are no more than a saved page may have
+pub record CanBeMoved (scripts : List tree.Stmts) (earlier : List Event) (things : List ℕ) : Type 0 where
+  pub in_form : All IsInForm scripts
+  pub walked : IsWalk (run_of scripts earlier) things
+  pub alone : StandAlone (run_of scripts earlier) things
+  pub literals : HaveLiterals (plan (compact (run_of scripts earlier) things))
+  pub few : (load_of (run_of scripts earlier) things).things ≤ things_limit
+  pub short : (load_of (run_of scripts earlier) things).text ≤ text_limit
+
+-- no page has more bytes
+abbrev pub longest_page : ℕ
+longest_page = 16777216
+
+-- the text is short enough, and accepted as a form page with this script, which is in form; the page loads without a line, and puts out, under
+-- every list of later events, exactly the lines that the page puts out for them after the earlier ones
+pub record GoesOnAs (text : List ℕ) (scripts : List tree.Stmts) (earlier : List Event) (script : tree.Stmts) : Type 0 where
+  pub fits : length text ≤ longest_page
+  pub accepted : IsAcceptedAs text Form (script ∷ [])
+  pub formed : in_form script ≡ true
+  pub silent : lines_of_run (script ∷ []) [] ≡ []
+  pub same : (later : List Event) → lines_after (script ∷ []) [] later ≡ lines_after scripts earlier later
+
+pub record GoesOn (text : List ℕ) (scripts : List tree.Stmts) (earlier : List Event) : Type 0 where
+  pub script : tree.Stmts
+  pub goes_on : GoesOnAs text scripts earlier script
+
+abbrev pub MovedPagesGoOn : Type 0
+MovedPagesGoOn =
+    (scripts : List tree.Stmts) (earlier : List Event) (things : List ℕ) → CanBeMoved scripts earlier things
+    → GoesOn (saved_page (run_of scripts earlier) things) scripts earlier
+
+-- an accepted script that is in form is one of a form page
+abbrev pub AcceptedScriptsAreInForm : Type 0
+AcceptedScriptsAreInForm =
+    (bytes : List ℕ) (kind : Kind) (scripts : List tree.Stmts) → IsAcceptedAs bytes kind scripts → list_all in_form scripts ≡ true → All IsInForm scripts
