@@ -1,8 +1,11 @@
 pub mod Causes
 pub mod Endings
+pub mod Judgement
 pub mod Moves
+pub mod Numbers
+pub mod Outcomes
 pub mod Pieces
 pub mod Refusals
-pub mod SavedDepth
-pub mod SavedItems
+pub mod Stopping
+pub mod Walking
 pub mod Works

@@ -1,56 +1,68 @@
 -- A saved page is accepted, and goes on as the page that was saved.
-use Rattle.std.proofs.Common.{◌≡◌, ℕ, List, [], ◌∷◌, false, refl, sym, ap, ◌∙◌, subst}
-use Rattle.js_values.specs.declared.line.Line.{Line}
+use Rattle.std.proofs.Common.{◌≡◌, ◌⊎◌, inl, inr, ℕ, ◌≤◌, ◌<◌, List, [], ◌∷◌, min, refl, sym, ap, ◌∙◌, arith}
+use Rattle.heap_walker.specs.Weight.{load_of, told}
 use Rattle.js_core.specs.Tree as tree
-use Rattle.page_check.specs.Accept.{is_too_deep, IsAcceptedAs}
+use Rattle.js_values.specs.declared.event.Event.{Event}
+use Rattle.moved_pages.specs.Moved.{AcceptedScriptsAreInForm, GoesOnAs, MovedPagesGoOn}
+use Rattle.moved_pages.specs.Moved as moved
+use Rattle.page_check.specs.Accept.{IsAcceptedAs}
 use Rattle.page_check.specs.declared.page.Kind.{Kind}
 use Rattle.page_check.specs.declared.page.Kind.TheVariants.{Form}
-use Rattle.js_values.specs.declared.event.Event.{Event}
-use Rattle.js_machine.specs.Run.{run_all, lines_added}
-use Rattle.js_machine.specs.Run as run
-use Rattle.js_machine.specs.Saved.{saved_script, GoesOnAs}
-use Rattle.js_machine.proofs.SavedPages.{first, goes_on}
-use Rattle.saved_pages.proofs.Accepted.{saved_scripts_are_accepted}
-use Rattle.command_line.specs.Page.{Page, Accepts, IsRunnable}
-use Rattle.command_line.specs.Behaviour.{script_of}
-use Rattle.command_line.specs.Saving.{saved_page, GoesOn, MovesTo}
-use Rattle.command_line.proofs.SavedDepth.{saved_low}
-
--- a page that runs is not too deep for a page of its kind
-runnable_low : (bytes : List ℕ) (script : tree.Stmts) → IsRunnable bytes script → (kind : Kind) × (is_too_deep kind script ≡ false)
-runnable_low bytes script r =
-    let accepted = r.accepted.accepted in
-    let same : accepted.script ≡ script = cc (accepted.only, r.runs.only) in
-    (r.page.kind, subst (λ (s : tree.Stmts). is_too_deep r.page.kind s ≡ false) same accepted.read.low.low)
-
--- the lines of later events, by the scripts of a page
-abbrev lines_by : List Event → List Event → List tree.Stmts → List Line
-lines_by earlier later scripts = lines_added (run_all (run.load_of (script_of scripts)) earlier) later
-
--- what goes on as a page's script makes a form page that goes on as the page
-goes_on_by : (script saved : tree.Stmts) (earlier : List Event) (page moved : Page) → page.scripts ≡ script ∷ [] → moved.scripts ≡ saved ∷ [] → moved.kind ≡ Form → GoesOnAs script saved earlier → GoesOn page earlier moved
-goes_on_by script saved earlier page moved e f form h = record {
-  form = form;
-  silent = ap (λ (ss : List tree.Stmts). (run.load_of (script_of ss)).lines) f ∙ h.silent;
-  same = λ later are. ap (lines_by [] later) f ∙ h.same later ∙ sym (ap (lines_by earlier later) e);
-}
+use Rattle.page_meaning.specs.Pages.{lines_after, lines_of_run, run_of}
+use Rattle.page_meaning.specs.Store.{Store}
+use Rattle.page_writer.specs.Page.{saved_page}
+use Rattle.page_writer.specs.Sizes.{text_limit, things_limit}
+use Rattle.command_line.specs.Moving.{CanBeSaved}
+use Rattle.command_line.specs.Page.{Page, Accepts, IsBuilt}
+use Rattle.command_line.specs.Saving.{GoesOn, IsTooMuch, MovesTo}
+use Rattle.command_line.proofs.Numbers.{at_most_or_more}
 
 -- bytes are accepted in one way
 abbrev pub OneAcceptance : Type 0
 OneAcceptance = (bytes : List ℕ) (kind other : Kind) (scripts more : List tree.Stmts) → IsAcceptedAs bytes kind scripts → IsAcceptedAs bytes other more → (kind ≡ other) × (scripts ≡ more)
 
-pub saved_moves : (one : OneAcceptance) (bytes : List ℕ) (script : tree.Stmts) (earlier : List Event) → IsRunnable bytes script → MovesTo bytes earlier (saved_page (run.run_of script earlier))
-saved_moves one bytes script earlier r =
-    let low = runnable_low bytes script r in
-    let is = first script earlier r.runs.first in
-    let saved = saved_script (run.run_of script earlier) in
-    let accepted = saved_scripts_are_accepted saved is (saved_low low.0 script earlier r.runs.first low.1) in
+-- what is told of a number is no more than a limit where the number is no more
+few_of : (n limit most : ℕ) → limit < most → ¬ (limit < min n most) → n ≤ limit
+few_of n limit most high none = by (at_most_or_more n limit)
+  where
+    by : (n ≤ limit) ⊎ (limit < n) → n ≤ limit
+    by (inl few) = few
+    by (inr many) = absurd (none (omega (arith, high, many)))
+
+-- so few things, and so little text
+few_things : (s : Store) (things : List ℕ) → ¬ IsTooMuch (told (load_of s things)) → (load_of s things).things ≤ things_limit
+few_things s things little = few_of (load_of s things).things things_limit _ (omega arith) (λ more. little (inl more))
+
+little_text : (s : Store) (things : List ℕ) → ¬ IsTooMuch (told (load_of s things)) → (load_of s things).text ≤ text_limit
+little_text s things little = few_of (load_of s things).text text_limit _ (omega arith) (λ more. little (inr more))
+
+-- the script of a moved page goes on as the page, whichever pages they are accepted as
+goes_on_by : (script : tree.Stmts) (earlier : List Event) (text : List ℕ) (page now : Page) → now.kind ≡ Form → now.scripts ≡ script ∷ [] → GoesOnAs text page.scripts earlier script → (before : Page) → before.scripts ≡ page.scripts → GoesOn before earlier now
+goes_on_by script earlier text page now form f h before e = record {
+  form = form;
+  silent = ap (λ (ss : List tree.Stmts). lines_of_run ss []) f ∙ h.silent;
+  same = λ later. ap (λ (ss : List tree.Stmts). lines_after ss [] later) f ∙ h.same later ∙ sym (ap (λ (ss : List tree.Stmts). lines_after ss earlier later) e);
+}
+
+-- bytes of a page whose scripts are in form, that can be saved
+pub saved_moves : (one : OneAcceptance) (formed : AcceptedScriptsAreInForm) (law : MovedPagesGoOn) (bytes : List ℕ) (page : Page) (earlier : List Event) (things : List ℕ) → Accepts bytes page → IsBuilt page → CanBeSaved (run_of page.scripts earlier) things
+    → MovesTo bytes earlier (saved_page (run_of page.scripts earlier) things)
+saved_moves one formed law bytes page earlier things accepted built can =
+    let text = saved_page (run_of page.scripts earlier) things in
+    let found : moved.GoesOn text page.scripts earlier = law page.scripts earlier things record {
+      in_form = formed bytes page.kind page.scripts accepted built;
+      walked = can.walked;
+      alone = can.alone;
+      literals = can.literals;
+      few = few_things (run_of page.scripts earlier) things can.little;
+      short = little_text (run_of page.scripts earlier) things can.little;
+    } in
     record {
-      moved = record { kind = Form; scripts = saved ∷ [] };
-      accepted = accepted;
+      moved = record { kind = Form; scripts = found.script ∷ [] };
+      page = record { fits = found.goes_on.fits; accepted = found.goes_on.accepted };
       goes_on = λ before now a b.
-          let at_first = one bytes before.kind r.page.kind before.scripts r.page.scripts a r.accepted.accepted in
-          let at_last = one (saved_page (run.run_of script earlier)) now.kind Form now.scripts (saved ∷ []) b accepted in
-          goes_on_by script saved earlier before now (at_first.1 ∙ r.runs.only) at_last.1 at_last.0 (goes_on script earlier r.runs.first);
-      built = (saved, record { only = refl; first = is });
+          let at_first = one bytes before.kind page.kind before.scripts page.scripts a accepted in
+          let at_last = one text now.kind Form now.scripts (found.script ∷ []) b found.goes_on.accepted in
+          goes_on_by found.script earlier text page now at_last.0 at_last.1 found.goes_on before at_first.1;
+      built = rw found.goes_on.formed refl;
     }

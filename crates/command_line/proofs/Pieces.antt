@@ -8,7 +8,10 @@ use Rattle.page_io.specs.Seen.{SinkSeen}
 use Rattle.page_io.specs.Taken.{Takes, TakesFront}
 use Rattle.std.specs.Fmt.{decimal}
 use Rattle.std.specs.Prelude.{codes}
-use Rattle.command_line.specs.Notes.{script_note, script_start, PutWhole, PutFront, PutCounts, Noted}
+use Rattle.heap_walker.specs.declared.weight.Weight.{Weight}
+use Rattle.command_line.specs.declared.status.Status.TheVariants.{TooLarge}
+use Rattle.command_line.specs.Moving.{things_start}
+use Rattle.command_line.specs.Notes.{note_of, script_note, script_start, PutWhole, PutFront, PutCounts, Noted}
 
 -- a front of a piece is a front of the piece and what follows
 front_of_more : (n : ℕ) (p more : List ℕ) → (m : ℕ) × (take n p ≡ take m (p ++ more))
@@ -86,6 +89,10 @@ script_pieces k cause = simp append_assoc
 -- those for an early rule
 pub early_pieces : (k n : ℕ) → script_start k ++ (codes "early error " ++ decimal n ++ codes "\n") ≡ script_note k (codes "early error " ++ decimal n)
 early_pieces k n = script_pieces k (codes "early error " ++ decimal n)
+
+-- those for a page that is too large
+pub weight_pieces : (w : Weight) → things_start w.things ++ (decimal w.text ++ codes " text\n") ≡ note_of (TooLarge w)
+weight_pieces w = simp append_assoc
 
 -- nothing is put
 none_taken : (taken : Option (List ℕ)) → Takes taken taken []

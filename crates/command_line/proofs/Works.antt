@@ -1,24 +1,22 @@
 -- What a command writes for the files that it read.
-use Rattle.std.proofs.Common.{◌≡◌, ℕ, List, [], ◌∷◌, Some, None, sym, ap, ◌∙◌, subst}
-use Rattle.page_io.specs.Content.{Told}
+use Rattle.std.proofs.Common.{◌≡◌, ℕ, List, Some, None, refl}
+use Rattle.heap_walker.specs.Alone.{StandAlone}
+use Rattle.heap_walker.specs.Things.{IsWalk}
+use Rattle.heap_walker.specs.declared.weight.Weight.{Weight}
 use Rattle.js_values.specs.Line.{lines_text}
-use Rattle.js_core.specs.Tree as tree
 use Rattle.js_values.specs.declared.event.Event.{Event}
-use Rattle.js_machine.specs.Run.{run_all}
-use Rattle.js_machine.specs.Run as run
-use Rattle.page_meaning.specs.Pages.{lines_of_run}
+use Rattle.moved_pages.specs.Moved.{AcceptedScriptsAreInForm, MovedPagesGoOn}
+use Rattle.page_io.specs.Content.{Told}
+use Rattle.page_meaning.specs.Pages.{lines_of_run, run_of}
+use Rattle.page_writer.specs.Page.{saved_page}
 use Rattle.command_line.specs.declared.command.Work.TheVariants.{Replay, Save}
-use Rattle.command_line.specs.Page.{Page, IsPage, IsRunnable}
-use Rattle.command_line.specs.Behaviour.{script_of, run_of}
+use Rattle.command_line.specs.Moving.{CanBeSaved, IsOverweight}
+use Rattle.command_line.specs.Page.{Page, IsBuilt, IsPage}
 use Rattle.command_line.specs.Replay.{IsEventFile}
-use Rattle.command_line.specs.Saving.{saved_page, MovesTo}
+use Rattle.command_line.specs.Saving.{Begins, IsAfter, IsMovable, IsTooLarge, NeedsScopes, Saves}
 use Rattle.command_line.specs.Stages.{Of}
 use Rattle.command_line.specs.Texts.{Writes}
 use Rattle.command_line.proofs.Moves.{OneAcceptance, saved_moves}
-
--- a page that runs does what its script does
-runs_as : (bytes : List ℕ) (script : tree.Stmts) (events : List Event) (r : IsRunnable bytes script) → run.run_of script events ≡ run_of r.page events
-runs_as bytes script events r = ap (λ (ss : List tree.Stmts). run_all (run.load_of (script_of ss)) events) (sym r.runs.only)
 
 -- what `replay` writes for a page
 replayed : (bytes file : List ℕ) (page : Page) (events : List Event) (text : List ℕ) → IsPage bytes page → IsEventFile file events → text ≡ lines_text (lines_of_run page.scripts events) → Writes Replay bytes file text
@@ -33,22 +31,67 @@ told_replays (Some (Some bytes)) None of events text of_page of_file t = tt
 told_replays (Some (Some bytes)) (Some None) of events text of_page of_file t = absurd of_file
 told_replays (Some (Some bytes)) (Some (Some content)) of events text of_page of_file t = replayed bytes content of events text of_page of_file t
 
--- what `save` writes for a page that is built in
-saved : (one : OneAcceptance) (bytes file : List ℕ) (script : tree.Stmts) (events : List Event) (text : List ℕ) → IsRunnable bytes script → IsEventFile file events → text ≡ saved_page (run.run_of script events) → Writes Save bytes file text
-saved one bytes file script events text r of_file t = record {
-  page = r.page;
-  events = events;
-  of_page = r.accepted;
-  of_file = of_file;
-  saved = t ∙ ap saved_page (runs_as bytes script events r);
-  moves = subst (λ (u : List ℕ). MovesTo bytes events u) (sym t) (saved_moves one bytes script events r);
-}
+-- ---- save
 
--- the same where it is told what the names hold
-pub told_saves : (one : OneAcceptance) (page file : Told) (script : tree.Stmts) (events : List Event) (text : List ℕ) → Of page (λ bytes. IsRunnable bytes script) → Of file (λ content. IsEventFile content events)
-    → text ≡ saved_page (run.run_of script events) → Of page (λ p. Of file (λ e. Writes Save p e text))
-told_saves one None file script events text of_page of_file t = tt
-told_saves one (Some None) file script events text of_page of_file t = absurd of_page
-told_saves one (Some (Some bytes)) None script events text of_page of_file t = tt
-told_saves one (Some (Some bytes)) (Some None) script events text of_page of_file t = absurd of_file
-told_saves one (Some (Some bytes)) (Some (Some content)) script events text of_page of_file t = saved one bytes content script events text of_page of_file t
+-- what holds of a page and its events, where it is told what the names hold
+told_both : (page file : Told) (of : Page) (events : List Event) (P : List ℕ → List ℕ → Type 0) → Of page (λ bytes. IsPage bytes of) → Of file (λ content. IsEventFile content events)
+    → ((bytes content : List ℕ) → IsPage bytes of → IsEventFile content events → P bytes content) → Of page (λ p. Of file (λ e. P p e))
+told_both None file of events P of_page of_file f = tt
+told_both (Some None) file of events P of_page of_file f = absurd of_page
+told_both (Some (Some bytes)) None of events P of_page of_file f = tt
+told_both (Some (Some bytes)) (Some None) of events P of_page of_file f = absurd of_file
+told_both (Some (Some bytes)) (Some (Some content)) of events P of_page of_file f = f bytes content of_page of_file
+
+abbrev is_after : (bytes content : List ℕ) (of : Page) (events : List Event) (things : List ℕ) → IsPage bytes of → IsEventFile content events → IsWalk (run_of of.scripts events) things → IsAfter bytes content (run_of of.scripts events) things
+is_after bytes content of events things of_page of_file walk = record { page = of; events = events; of_page = of_page; of_file = of_file; state = refl; walked = walk }
+
+-- the page and the events of two names
+pub record Both (page file : Told) (of : Page) (events : List Event) : Type 0 where
+  pub of_page : Of page (λ bytes. IsPage bytes of)
+  pub of_file : Of file (λ content. IsEventFile content events)
+
+module _ (page file : Told) (of : Page) (events : List Event) (both : Both page file of events) (things : List ℕ) where
+  pub told_saves : (one : OneAcceptance) (formed : AcceptedScriptsAreInForm) (law : MovedPagesGoOn) → IsBuilt of → CanBeSaved (run_of of.scripts events) things
+      → Of page (λ p. Of file (λ e. Writes Save p e (saved_page (run_of of.scripts events) things)))
+  told_saves one formed law built can = told_both page file of events (λ p e. Saves p e (saved_page (run_of of.scripts events) things)) both.of_page both.of_file λ bytes content p e. record {
+    state = run_of of.scripts events;
+    things = things;
+    after = is_after bytes content of events things p e can.walked;
+    saved = refl;
+    moves = saved_moves one formed law bytes of events things p.accepted built can;
+  }
+
+  pub told_movable : CanBeSaved (run_of of.scripts events) things → Of page (λ p. Of file (λ e. IsMovable p e))
+  told_movable can = told_both page file of events (λ p e. IsMovable p e) both.of_page both.of_file λ bytes content p e. record {
+    state = run_of of.scripts events;
+    things = things;
+    after = is_after bytes content of events things p e can.walked;
+    alone = can.alone;
+    little = can.little;
+  }
+
+  pub told_large : (w : Weight) → IsOverweight (run_of of.scripts events) things w → Of page (λ p. Of file (λ e. IsTooLarge p e w))
+  told_large w over = told_both page file of events (λ p e. IsTooLarge p e w) both.of_page both.of_file λ bytes content p e. record {
+    state = run_of of.scripts events;
+    things = things;
+    after = is_after bytes content of events things p e over.walked;
+    alone = over.alone;
+    weighed = over.weighed;
+    more = over.more;
+  }
+
+  pub told_needs : IsWalk (run_of of.scripts events) things → ¬ StandAlone (run_of of.scripts events) things → Of page (λ p. Of file (λ e. NeedsScopes p e))
+  told_needs walk not_alone = told_both page file of events (λ p e. NeedsScopes p e) both.of_page both.of_file λ bytes content p e. record {
+    state = run_of of.scripts events;
+    things = things;
+    after = is_after bytes content of events things p e walk;
+    not_alone = not_alone;
+  }
+
+  pub told_begins : IsWalk (run_of of.scripts events) things → Of page (λ p. Of file (λ e. Begins p e (saved_page (run_of of.scripts events) things)))
+  told_begins walk = told_both page file of events (λ p e. Begins p e (saved_page (run_of of.scripts events) things)) both.of_page both.of_file λ bytes content p e. record {
+    state = run_of of.scripts events;
+    things = things;
+    after = is_after bytes content of events things p e walk;
+    saved = refl;
+  }

@@ -1,6 +1,6 @@
-pub mod Behaviour
 pub mod Checking
 pub mod Command
+pub mod Moving
 pub mod Notes
 pub mod Page
 pub mod Reading

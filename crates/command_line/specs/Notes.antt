@@ -7,7 +7,7 @@ use Rattle.page_io.specs.Faults.{Rose, CountsFaults}
 use Rattle.page_io.specs.Seen.{SinkSeen}
 use Rattle.page_io.specs.Taken.{Takes, TakesFront}
 use Rattle.command_line.specs.declared.status.Status.{Status}
-use Rattle.command_line.specs.declared.status.Status.TheVariants.{Ok, PageRefused, Usage, EventsRefused, ReadFault, WriteFault, OutOfMemory}
+use Rattle.command_line.specs.declared.status.Status.TheVariants.{Ok, PageRefused, Usage, EventsRefused, ReadFault, WriteFault, TooLarge, OutOfMemory}
 use Rattle.page_check.specs.declared.page.Refusal.{Refusal}
 use Rattle.page_check.specs.declared.page.Refusal.TheVariants.{NotUtf8, NotPage, NotTokens, NotScript, NotStrict, Early, TooDeep, ReservedName, NotForm, NotBuilt}
 use Rattle.scope_analysis.specs.EarlyRules.{rule_number}
@@ -37,6 +37,7 @@ note_words Usage = codes "usage: imagen check P, replay P E, instrument P, save 
 note_words (EventsRefused i) = codes "events refused: " ++ decimal i
 note_words ReadFault = codes "read fault"
 note_words WriteFault = codes "write fault"
+note_words (TooLarge w) = codes "too large: " ++ (decimal w.things ++ (codes " things, " ++ (decimal w.text ++ codes " text")))
 note_words OutOfMemory = codes "out of memory"
 
 -- the words and LF; nothing where the command ended well

@@ -1,12 +1,13 @@
 -- Which pages the commands take.
-use Rattle.std.specs.Prelude.{ℕ, ◌≡◌, ◌≤◌, List, [], ◌∷◌, length}
+use Rattle.std.specs.Prelude.{ℕ, ◌≡◌, ◌≤◌, true, List, length}
+use Rattle.std.specs.List.{list_all}
 use Rattle.js_core.specs.Tree as tree
-use Rattle.first_scripts.specs.Items.{IsFirst}
 use Rattle.page_check.specs.Accept.{IsAcceptedAs, IsRefused}
 use Rattle.page_check.specs.declared.page.Accepted.{Accepted}
 use Rattle.page_check.specs.declared.page.Kind.{Kind}
 use Rattle.page_check.specs.declared.page.Refusal.{Refusal}
 use Rattle.page_check.specs.declared.page.Refusal.TheVariants.{NotBuilt}
+use Rattle.scope_analysis.specs.Form.{in_form}
 
 -- a page file and an event file have at most so many bytes
 abbrev pub page_limit : ℕ
@@ -32,27 +33,16 @@ pub record IsPage (bytes : List ℕ) (page : Page) : Type 0 where
   pub fits : length bytes ≤ page_limit
   pub accepted : Accepts bytes page
 
--- the page has one script, which is of a form that runs
-pub record Runs (page : Page) (script : tree.Stmts) : Type 0 where
-  pub only : page.scripts ≡ script ∷ []
-  pub first : IsFirst script
-
--- a page that is built in: one that runs
+-- a page that is built in for saving: its scripts are in form, so that each variable that functions share can be rebuilt
 abbrev pub IsBuilt : Page → Type 0
-IsBuilt page = (script : tree.Stmts) × Runs page script
+IsBuilt page = list_all in_form page.scripts ≡ true
 
--- the bytes are a page that runs, with this script
-pub record IsRunnable (bytes : List ℕ) (script : tree.Stmts) : Type 0 where
-  pub page : Page
-  pub accepted : IsPage bytes page
-  pub runs : Runs page script
-
--- the page is accepted, and its script of this number is of no form that runs
+-- the page is accepted, and its script of this number is not in form
 abbrev pub IsNotBuilt : List ℕ → Refusal → Type 0
 IsNotBuilt bytes (NotBuilt k) = (k ≡ 1) × ((page : Page) × Accepts bytes page × ¬ IsBuilt page)
 IsNotBuilt bytes refusal = ⊥
 
--- why a page is not run: it is refused, or it is not built in
-abbrev pub IsNotRun : List ℕ → Refusal → Type 0
-IsNotRun bytes (NotBuilt k) = IsNotBuilt bytes (NotBuilt k)
-IsNotRun bytes refusal = IsRefused bytes refusal
+-- why a page is not saved: it is refused, or it is not built in
+abbrev pub IsNotTaken : List ℕ → Refusal → Type 0
+IsNotTaken bytes (NotBuilt k) = IsNotBuilt bytes (NotBuilt k)
+IsNotTaken bytes refusal = IsRefused bytes refusal

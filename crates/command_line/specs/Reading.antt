@@ -1,5 +1,5 @@
 -- What reading a file of a command says.
-use Rattle.std.specs.Prelude.{◌≡◌, ℕ, ◌<◌, ◌≤◌, List, length, Option, Some, None, Result, Err}
+use Rattle.std.specs.Prelude.{◌≡◌, ℕ, ◌<◌, ◌≤◌, List, length, Some, None, Result, Err}
 use Rattle.page_io.specs.Content.{Told}
 use Rattle.page_io.specs.Faults.{Rose}
 use Rattle.page_io.specs.Seen.{FilesSeen}

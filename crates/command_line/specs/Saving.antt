@@ -1,47 +1,84 @@
 -- What `save` writes, and that it goes on as the page would.
-use Rattle.std.specs.Prelude.{ℕ, ◌≡◌, List, [], ◌∷◌, All}
-use Rattle.js_core.specs.Tree as tree
-use Rattle.js_core.specs.Tree.{then_stmt}
-use Rattle.page_check.specs.declared.page.Kind.TheVariants.{Form}
-use Rattle.js_values.specs.Event.{IsEvent}
+use Rattle.std.specs.Prelude.{ℕ, ◌≡◌, ◌<◌, ◌⊎◌, List, []}
+use Rattle.heap_walker.specs.Alone.{StandAlone}
+use Rattle.heap_walker.specs.Things.{IsWalk}
+use Rattle.heap_walker.specs.Weight.{load_of, told}
+use Rattle.heap_walker.specs.declared.weight.Weight.{Weight}
 use Rattle.js_values.specs.declared.event.Event.{Event}
-use Rattle.js_machine.specs.Act.{Store}
-use Rattle.js_machine.specs.Saved.{saved_script}
-use Rattle.saved_pages.specs.Saved.{saved_page as page_of_script}
+use Rattle.page_check.specs.declared.page.Kind.TheVariants.{Form}
+use Rattle.page_meaning.specs.Pages.{lines_after, lines_of_run, run_of}
+use Rattle.page_meaning.specs.Store.{Store}
+use Rattle.page_writer.specs.Page.{saved_page}
+use Rattle.page_writer.specs.Sizes.{text_limit, things_limit}
 use Rattle.command_line.specs.Page.{Page, Accepts, IsBuilt, IsPage}
-use Rattle.command_line.specs.Behaviour.{run_of, lines_of_run, lines_after}
 use Rattle.command_line.specs.Replay.{IsEventFile}
 
--- the saved page of what a page has: its variables with their values, and then its functions
-abbrev pub saved_page : Store → List ℕ
-saved_page s = page_of_script (saved_script s)
+-- ---- what is saved
 
--- statements, one after another, before the rest
-abbrev pub before : List tree.Stmt → tree.Stmts → tree.Stmts
-before [] rest = rest
-before (s ∷ ss) rest = then_stmt s (before ss rest)
+-- the page of these bytes after the events of the file, and its things: those that can still be reached, by age
+pub record IsAfter (bytes file : List ℕ) (s : Store) (things : List ℕ) : Type 0 where
+  pub page : Page
+  pub events : List Event
+  pub of_page : IsPage bytes page
+  pub of_file : IsEventFile file events
+  pub state : s ≡ run_of page.scripts events
+  pub walked : IsWalk s things
+
+-- one of its functions needs variables of the scopes round it: that is not built yet
+pub record NeedsScopes (bytes file : List ℕ) : Type 0 where
+  pub state : Store
+  pub things : List ℕ
+  pub after : IsAfter bytes file state things
+  pub not_alone : ¬ StandAlone state things
+
+abbrev pub IsTooMuch : Weight → Type 0
+IsTooMuch w = (things_limit < w.things) ⊎ (text_limit < w.text)
+
+-- there are more things or there is more text than a saved page may have, and so much they are
+pub record IsTooLarge (bytes file : List ℕ) (w : Weight) : Type 0 where
+  pub state : Store
+  pub things : List ℕ
+  pub after : IsAfter bytes file state things
+  pub alone : StandAlone state things
+  pub weighed : w ≡ told (load_of state things)
+  pub more : IsTooMuch w
+
+-- neither: it can be saved
+pub record IsMovable (bytes file : List ℕ) : Type 0 where
+  pub state : Store
+  pub things : List ℕ
+  pub after : IsAfter bytes file state things
+  pub alone : StandAlone state things
+  pub little : ¬ IsTooMuch (told (load_of state things))
+
+-- ---- how it goes on
 
 -- a form page goes on as a page after the earlier events: it loads without a line, and puts out, under every list of
--- later events, exactly the lines that the page puts out for them after the earlier ones. Of other events than calls
--- nothing is meant yet: they leave either page as it is
+-- later events, exactly the lines that the page puts out for them after the earlier ones
 pub record GoesOn (page : Page) (earlier : List Event) (moved : Page) : Type 0 where
   pub form : moved.kind ≡ Form
-  pub silent : lines_of_run moved [] ≡ []
-  pub same : (later : List Event) → All IsEvent later → lines_after moved [] later ≡ lines_after page earlier later
+  pub silent : lines_of_run moved.scripts [] ≡ []
+  pub same : (later : List Event) → lines_after moved.scripts [] later ≡ lines_after page.scripts earlier later
 
--- **A moved page behaves as if it had never moved.** The saved bytes are accepted, and whichever page they are accepted
--- as goes on as whichever page the bytes are accepted as. It is built in, so it runs and is saved again.
+-- **A moved page behaves as if it had never moved.** The saved bytes are a page, which is not too long to be read, and whichever page
+-- they are accepted as goes on as whichever page the bytes are accepted as. It is built in, so it is saved again.
 pub record MovesTo (bytes : List ℕ) (earlier : List Event) (saved : List ℕ) : Type 0 where
   pub moved : Page
-  pub accepted : Accepts saved moved
+  pub page : IsPage saved moved
   pub goes_on : (before now : Page) → Accepts bytes before → Accepts saved now → GoesOn before earlier now
   pub built : IsBuilt moved
 
 -- the page that is saved after the events of the file, to which the page moves
 pub record Saves (bytes file text : List ℕ) : Type 0 where
-  pub page : Page
-  pub events : List Event
-  pub of_page : IsPage bytes page
-  pub of_file : IsEventFile file events
-  pub saved : text ≡ saved_page (run_of page events)
-  pub moves : MovesTo bytes events text
+  pub state : Store
+  pub things : List ℕ
+  pub after : IsAfter bytes file state things
+  pub saved : text ≡ saved_page state things
+  pub moves : MovesTo bytes after.events text
+
+-- what may have been put where memory ran out: nothing, or a front of the saved page
+pub record Begins (bytes file text : List ℕ) : Type 0 where
+  pub state : Store
+  pub things : List ℕ
+  pub after : IsAfter bytes file state things
+  pub saved : text ≡ saved_page state things

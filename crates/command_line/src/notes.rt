@@ -2,8 +2,10 @@
 
 ghost use Rattle.std.specs.Prelude.{◌≡◌, ◌++◌, Some};
 ghost use Rattle.command_line.specs.Notes.{note_of, script_note, script_start, PutWhole, PutFront, PutCounts, Noted};
+ghost use Rattle.command_line.specs.Moving.{things_start};
 
 use crate::status::Status;
+use heap_walker::Weight;
 use itoa::Buffer;
 use page_check::Refusal;
 use page_io::sink::{PutFault, Sink};
@@ -106,6 +108,35 @@ fn put_refusal<N: Sink>(notes: &mut N, refusal: Refusal) -> Result<(), PutFault>
     }
 }
 
+// Puts the note of a page that is too large.
+fn put_weight<N: Sink>(notes: &mut N, weight: Weight) -> Result<(), PutFault>
+    ensures ok { PutWhole (N.seen notes.old) (N.seen notes.new)
+        (note_of (Status.TooLarge weight)) result }
+    ensures fault { PutFront (N.seen notes.old) (N.seen notes.new)
+        (note_of (Status.TooLarge weight)) result }
+    ensures counts { PutCounts (N.seen notes.old) (N.seen notes.new) result }
+{
+    let mut digits = Buffer::new();
+    match put_things(notes, weight.things) {
+        Ok(()) => {
+            let text = digits.format(weight.text).as_bytes();
+            put_two(notes, text, b" text\n")
+        }
+        Err(fault) => Err(fault),
+    }
+}
+
+// Puts how many things a page has that is too large.
+fn put_things<N: Sink>(notes: &mut N, things: u64) -> Result<(), PutFault>
+    ensures ok { PutWhole (N.seen notes.old) (N.seen notes.new) (things_start things) result }
+    ensures fault { PutFront (N.seen notes.old) (N.seen notes.new) (things_start things) result }
+    ensures counts { PutCounts (N.seen notes.old) (N.seen notes.new) result }
+{
+    let mut digits = Buffer::new();
+    let number = digits.format(things).as_bytes();
+    put_three(notes, b"too large: ", number, b" things, ")
+}
+
 // Puts the note of a status.
 fn put_note<N: Sink>(notes: &mut N, status: Status) -> Result<(), PutFault>
     ensures ok { PutWhole (N.seen notes.old) (N.seen notes.new) (note_of status) result }
@@ -126,6 +157,7 @@ fn put_note<N: Sink>(notes: &mut N, status: Status) -> Result<(), PutFault>
         }
         Status::ReadFault => notes.put(b"read fault\n"),
         Status::WriteFault => notes.put(b"write fault\n"),
+        Status::TooLarge(weight) => put_weight(notes, weight),
         Status::OutOfMemory => notes.put(b"out of memory\n"),
     }
 }

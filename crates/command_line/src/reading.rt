@@ -1,23 +1,23 @@
 //! Reading the files of a command.
 
-ghost use Rattle.std.specs.Prelude.{◌≡◌, ℕ, List, IfOk, IfErr, MatchOption};
-ghost use Rattle.first_scripts.specs.Items.{IsFirst};
-ghost use Rattle.js_core.specs.Tree as tree;
+ghost use Rattle.std.specs.Prelude.{◌≡◌, ℕ, List, IfOk, IfErr};
+ghost use Rattle.std.specs.List.{list_all};
 ghost use Rattle.page_check.specs.Accept.{IsRefused};
-ghost use Rattle.command_line.specs.Page.{page_of, IsPage, IsNotRun, IsRunnable, Runs};
+ghost use Rattle.scope_analysis.specs.Form as form;
+ghost use Rattle.command_line.specs.Page.{page_of, IsBuilt, IsNotTaken, IsPage};
 ghost use Rattle.command_line.specs.Reading.{StopsAtPage, StopsAtEvents, CountsReads};
 ghost use Rattle.command_line.specs.Replay.{IsEventFile};
 ghost use Rattle.command_line.specs.Stages.{Of};
 
 use crate::status::Status;
 use event_file::{EventFault, calls};
-use first_scripts::first::is_first;
 use js_core::limits::{EVENT_FILE_LIMIT, PAGE_LIMIT};
 use js_core::memory::OutOfMemory;
 use js_core::syntax::Script;
 use js_values::event::Event;
 use page_check::{AcceptFault, Accepted, Refusal, accept};
 use page_io::files::{Files, ReadFault};
+use scope_analysis::form::in_form;
 use std::alloc::Global;
 
 /// Reads and accepts a page.
@@ -42,43 +42,39 @@ pub fn read_page<F: Files>(alloc: Global, files: &mut F, name: &str) -> Result<A
     }
 }
 
-/// The one script of a page, where it is of a form that runs so far.
-fn runnable(alloc: Global, page: Accepted) -> Result<Option<Script>, OutOfMemory>
-    ensures { IfOk result (λ found. MatchOption found
-        ((script : tree.Stmts) → ¬ Runs (page_of page) script) (Runs (page_of page))) }
+// Whether each of the scripts is in form.
+fn are_in_form(alloc: Global, scripts: &[Script]) -> Result<bool, OutOfMemory>
+    ensures { IfOk result (λ good. good ≡ list_all form.in_form scripts.now) }
 {
-    let Accepted { scripts, .. } = page;
-    let mut scripts = scripts;
-    let Some(script) = scripts.pop() else {
-        return Ok(None);
-    };
-    if scripts.is_empty() && is_first(alloc, &script)? {
-        Ok(Some(script))
-    } else {
-        Ok(None)
+    let mut rest = scripts;
+    while let [script, after @ ..] = rest {
+        if !in_form(alloc, script)? {
+            return Ok(false);
+        }
+        rest = after;
     }
+    Ok(true)
 }
 
-/// Reads a page that is to run.
-#[tactic(auto, using(crate::proofs::Refusals::told_runs, crate::proofs::Refusals::told_not_built, crate::proofs::Refusals::stops_run))]
-pub fn read_script<F: Files>(alloc: Global, files: &mut F, name: &str) -> Result<Script, Status>
-    ensures ok { IfOk result (λ script. Of ((F.seen files.old).content name.now)
-        (λ bytes. IsRunnable bytes script)) }
-    ensures runs { IfOk result (λ script. IsFirst script) }
+/// Reads a page that is built in for saving: its scripts are in form.
+pub fn read_built<F: Files>(alloc: Global, files: &mut F, name: &str) -> Result<Accepted, Status>
+    ensures ok { IfOk result (λ page. Of ((F.seen files.old).content name.now)
+        (λ bytes. IsPage bytes (page_of page))) }
+    ensures built { IfOk result (λ page. IsBuilt (page_of page)) }
     ensures stops { IfErr result
-        (λ status. StopsAtPage IsNotRun status ((F.seen files.old).content name.now)) }
+        (λ status. StopsAtPage IsNotTaken status ((F.seen files.old).content name.now)) }
     ensures same { (n : List ℕ) → (F.seen files.new).content n ≡ (F.seen files.old).content n }
     ensures counts { CountsReads (F.seen files.old) (F.seen files.new) name.now result }
 {
     let page = read_page(alloc, files, name)?;
-    match runnable(alloc, page) {
-        Ok(Some(script)) => Ok(script),
-        Ok(None) => Err(Status::PageRefused(Some(Refusal::NotBuilt(1)))),
+    match are_in_form(alloc, page.scripts.as_slice()) {
+        Ok(true) => Ok(page),
+        Ok(false) => Err(Status::PageRefused(Some(Refusal::NotBuilt(1)))),
         Err(OutOfMemory) => Err(Status::OutOfMemory),
     }
 }
 
-/// Reads an event file of calls: an item of another kind is no event, since first pages have nothing for it to act on.
+/// Reads an event file of calls: an item of another kind is no event, since there is nothing yet for it to act on.
 pub fn read_events<F: Files>(alloc: Global, files: &mut F, name: &str) -> Result<Vec<Event>, Status>
     ensures ok { IfOk result (λ list. Of ((F.seen files.old).content name.now)
         (λ file. IsEventFile file list.items)) }

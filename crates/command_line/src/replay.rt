@@ -19,8 +19,8 @@ use page_io::sink::Sink;
 use session::{Session, load};
 use std::alloc::Global;
 
-// The session of a page after the events.
-fn run_page(alloc: Global, page: Accepted, list: &[Event]) -> Result<Session, OutOfMemory>
+/// The session of a page after the events.
+pub fn run_page(alloc: Global, page: Accepted, list: &[Event]) -> Result<Session, OutOfMemory>
     ensures { IfOk result (λ s. s.page ≡ run_of page.scripts.items list.now) }
 {
     let mut session = load(alloc, page)?;

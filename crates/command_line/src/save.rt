@@ -5,16 +5,18 @@ ghost use Rattle.command_line.specs.Command.{session};
 ghost use Rattle.command_line.specs.Stages.{seen_between, work_of, EndsAt, Lasts};
 ghost use Rattle.command_line.specs.Texts.{PutsText};
 
-use crate::reading::{read_events, read_script};
-use crate::saving::saved_text;
+use crate::reading::{read_built, read_events};
+use crate::saving::save_page;
 use crate::status::Status;
+use moved_pages::{law_accepted_scripts_are_in_form, law_moved_pages_go_on};
 use page_check::law_one_answer;
 use page_io::files::Files;
 use page_io::sink::Sink;
 use std::alloc::Global;
 
-/// Writes the page of this name as it is after the events. The order is: reading and accepting the page, reading the events,
-/// loading and acting, writing. The first cause to end is the answer.
+/// Writes the page of this name as it is after the events. The order is: reading and accepting the page, whether its scripts
+/// are in form, reading the events, loading and acting, what can be reached and whether it can be saved, writing. The first
+/// cause to end is the answer.
 pub fn save<F: Files, O: Sink>(
     alloc: Global,
     page: &str,
@@ -30,19 +32,15 @@ pub fn save<F: Files, O: Sink>(
         (seen_between (F.seen files.old) (F.seen files.new) (O.seen out.old) (O.seen out.new)) }
 {
     law_one_answer();
-    let script = match read_script(alloc, files, page) {
-        Ok(script) => script,
+    law_accepted_scripts_are_in_form();
+    law_moved_pages_go_on();
+    let page = match read_built(alloc, files, page) {
+        Ok(page) => page,
         Err(status) => return status,
     };
     let list = match read_events(alloc, files, events) {
         Ok(list) => list,
         Err(status) => return status,
     };
-    let Ok(text) = saved_text(alloc, &script, &list) else {
-        return Status::OutOfMemory;
-    };
-    match out.put(&text) {
-        Ok(()) => Status::Ok,
-        Err(_) => Status::WriteFault,
-    }
+    save_page(alloc, page, &list, out)
 }

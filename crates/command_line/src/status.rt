@@ -1,5 +1,6 @@
 //! How the program ends.
 
+use heap_walker::Weight;
 use page_check::Refusal;
 
 /// How a command ends. The number of each is the exit status of the program.
@@ -18,6 +19,8 @@ pub enum Status {
     ReadFault,
     /// 5: the output could not be written.
     WriteFault,
+    /// 6: the page has more things or more text than a saved page may have, and so much they are.
+    TooLarge(Weight),
     /// 7: memory ran out.
     OutOfMemory,
 }
@@ -37,6 +40,7 @@ impl Status {
             Status::EventsRefused(_) => 3,
             Status::ReadFault => 4,
             Status::WriteFault => 5,
+            Status::TooLarge(_) => 6,
             Status::OutOfMemory => 7,
         }
     }

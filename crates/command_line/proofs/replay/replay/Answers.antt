@@ -6,8 +6,8 @@ use Rattle.page_meaning.specs.Pages.{lines_of_run}
 use Rattle.command_line.specs.Page.{page_of}
 use Rattle.command_line.specs.Replay.{IsEventFile}
 use Rattle.command_line.specs.declared.status.Status.TheVariants.{Ok, WriteFault}
-use Rattle.command_line.specs.Stages.{Of, Seen, seen_between}
-use Rattle.command_line.proofs.Endings.{replay_events, replay_writes, rose_later}
+use Rattle.command_line.specs.Stages.{Of, seen_between}
+use Rattle.command_line.proofs.Endings.{replay_events, replay_writes}
 use Rattle.command_line.proofs.Works.{told_replays}
 use Rattle.command_line.proofs.replay.replay.Goals as goal
 

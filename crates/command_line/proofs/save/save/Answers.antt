@@ -1,31 +1,39 @@
-use Rattle.std.proofs.Common.{◌≡◌, ℕ, List, subst}
+use Rattle.std.proofs.Common.{List, rules, subst}
 use Rattle.page_io.specs.Content.{Told}
-use Rattle.page_io.specs.Taken.{Takes, TakesFront}
+use Rattle.page_meaning.specs.Pages.{run_of}
+use Rattle.command_line.specs.Moving.{IsAnswer}
+use Rattle.command_line.specs.Page.{page_of}
+use Rattle.command_line.specs.Reading.{StopsAtEvents}
 use Rattle.command_line.specs.Replay.{IsEventFile}
-use Rattle.js_machine.specs.Run.{run_of}
-use Rattle.command_line.specs.Saving.{saved_page}
-use Rattle.command_line.specs.Stages.{Of}
-use Rattle.command_line.proofs.Works.{told_saves}
+use Rattle.command_line.specs.Stages.{Of, seen_between}
+use Rattle.command_line.proofs.Endings.{save_answers, save_events, save_puts}
 use Rattle.command_line.proofs.save.save.Goals as goal
 
-pub returns-in-Ok-put-clause-puts : goal.returns-in-Ok-put-clause-puts
-returns-in-Ok-put-clause-puts g c = (
-  c.in-Ok-saved_text.text.items,
-  told_saves c.law_one_answer.ensures.accepted ((g.F.Files.seen c.args.files.now).content c.args.page.now) ((g.F.Files.seen c.args.files.now).content c.args.events.now)
-      c.in-Ok.script c.in-Ok-read_events.list.items c.in-Ok-saved_text.text.items
-      c.in-Ok.ensures.ok
-      (subst (λ (w : Told). Of w (λ file. IsEventFile file c.in-Ok-read_events.list.items)) (c.read_script.ensures.same c.args.events.now) c.in-Ok-read_events.ensures.ok)
-      (subst (λ (l : List _). c.in-Ok-saved_text.text.items ≡ saved_page (run_of c.in-Ok.script l)) c.deref.ensures.value c.in-Ok-saved_text.ensures),
-  subst (λ (u : List ℕ). Takes (g.O.Sink.seen c.args.out.now).taken (g.O.Sink.seen c.put.new.self).taken u) c.deref-2.ensures.value c.in-Ok-put.ensures.ok,
-)
+pub returns-in-Err-read_events-clause-ends : goal.returns-in-Err-read_events-clause-ends
+returns-in-Err-read_events-clause-ends g c =
+    let seen = seen_between (g.F.Files.seen c.args.files.now) (g.F.Files.seen c.read_events.new.files) (g.O.Sink.seen c.args.out.now) (g.O.Sink.seen c.args.out.now) in
+    save_events c.args.page.now c.args.events.now c.in-Err-read_events.status seen (page_of c.in-Ok.page) c.in-Ok.ensures.ok c.in-Ok.ensures.built
+    (subst (λ (w : Told). StopsAtEvents c.in-Err-read_events.status w) (c.read_built.ensures.same c.args.events.now) c.in-Err-read_events.ensures.stops) (search rules)
+
+pub returns-clause-ends : goal.returns-clause-ends
+returns-clause-ends g c =
+    let seen = seen_between (g.F.Files.seen c.args.files.now) (g.F.Files.seen c.read_events.new.files) (g.O.Sink.seen c.args.out.now) (g.O.Sink.seen c.save_page.new.out) in
+    save_answers c.args.page.now c.args.events.now seen (page_of c.in-Ok.page) c.in-Ok-read_events.list.items
+    record {
+      of_page = c.in-Ok.ensures.ok;
+      of_file = subst (λ (w : Told). Of w (λ file. IsEventFile file c.in-Ok-read_events.list.items)) (c.read_built.ensures.same c.args.events.now) c.in-Ok-read_events.ensures.ok;
+    }
+    c.save_page.result c.in-Ok.ensures.built
+    (subst (λ (l : List _). IsAnswer (run_of c.in-Ok.page.scripts.items l) (g.O.Sink.seen c.args.out.now) (g.O.Sink.seen c.save_page.new.out) c.save_page.result) c.deref.ensures.value c.save_page.ensures.answer)
 
 pub returns-clause-puts : goal.returns-clause-puts
-returns-clause-puts g c = (
-  c.in-Ok-saved_text.text.items,
-  told_saves c.law_one_answer.ensures.accepted ((g.F.Files.seen c.args.files.now).content c.args.page.now) ((g.F.Files.seen c.args.files.now).content c.args.events.now)
-      c.in-Ok.script c.in-Ok-read_events.list.items c.in-Ok-saved_text.text.items
-      c.in-Ok.ensures.ok
-      (subst (λ (w : Told). Of w (λ file. IsEventFile file c.in-Ok-read_events.list.items)) (c.read_script.ensures.same c.args.events.now) c.in-Ok-read_events.ensures.ok)
-      (subst (λ (l : List _). c.in-Ok-saved_text.text.items ≡ saved_page (run_of c.in-Ok.script l)) c.deref.ensures.value c.in-Ok-saved_text.ensures),
-  subst (λ (u : List ℕ). TakesFront (g.O.Sink.seen c.args.out.now).taken (g.O.Sink.seen c.put.new.self).taken u) c.deref-2.ensures.value c.in-Err-put.ensures.fault,
-)
+returns-clause-puts g c =
+    let seen = seen_between (g.F.Files.seen c.args.files.now) (g.F.Files.seen c.read_events.new.files) (g.O.Sink.seen c.args.out.now) (g.O.Sink.seen c.save_page.new.out) in
+    save_puts c.args.page.now c.args.events.now seen (page_of c.in-Ok.page) c.in-Ok-read_events.list.items
+    record {
+      of_page = c.in-Ok.ensures.ok;
+      of_file = subst (λ (w : Told). Of w (λ file. IsEventFile file c.in-Ok-read_events.list.items)) (c.read_built.ensures.same c.args.events.now) c.in-Ok-read_events.ensures.ok;
+    }
+    c.law_one_answer.ensures.accepted c.law_accepted_scripts_are_in_form.ensures c.law_moved_pages_go_on.ensures
+    c.save_page.result c.in-Ok.ensures.built
+    (subst (λ (l : List _). IsAnswer (run_of c.in-Ok.page.scripts.items l) (g.O.Sink.seen c.args.out.now) (g.O.Sink.seen c.save_page.new.out) c.save_page.result) c.deref.ensures.value c.save_page.ensures.answer)

@@ -1,0 +1,80 @@
+-- What the answer of the writer says of a page that is saved.
+use Rattle.std.proofs.Common.{◌≡◌, ◌⊎◌, inl, inr, ℕ, ◌≤◌, List, Result, Err, sym, ap, subst, arith}
+use Rattle.heap_walker.specs.Alone.{StandAlone}
+use Rattle.heap_walker.specs.Things.{IsWalk}
+use Rattle.heap_walker.specs.Weight.{load_of, told}
+use Rattle.heap_walker.specs.declared.weight.Weight.{Weight}
+use Rattle.page_io.specs.Faults.{Rose}
+use Rattle.page_io.specs.Seen.{SinkSeen}
+use Rattle.page_io.specs.Taken.{TakesFront}
+use Rattle.page_meaning.specs.Store.{Store}
+use Rattle.page_writer.specs.Literals.{HaveLiterals}
+use Rattle.page_writer.specs.Page.{saved_page}
+use Rattle.page_writer.specs.Sizes.{Judged, many, long, fault, memory, text_limit, things_limit}
+use Rattle.page_writer.specs.declared.save_fault.SaveFault.{SaveFault}
+use Rattle.page_writer.specs.declared.save_fault.SaveFault.TheVariants.{TooMany, TooLong, WriteFault, OutOfMemory}
+use Rattle.rebuild_plan.specs.Compact.{compact}
+use Rattle.rebuild_plan.specs.Plan.{plan}
+use Rattle.command_line.specs.Moving.{CanBeSaved, IsOverweight}
+use Rattle.command_line.specs.Saving.{IsTooMuch}
+
+-- little things and little text are not too much
+not_much : (w : Weight) → w.things ≤ things_limit → w.text ≤ text_limit → ¬ IsTooMuch w
+not_much w things text (inl more) = omega (arith, things, more)
+not_much w things text (inr more) = omega (arith, text, more)
+
+abbrev Failed : SaveFault → Result (Unit {0}) SaveFault
+Failed f = Err f
+
+module _ (s : Store) (things : List ℕ) (old new : SinkSeen) where
+  abbrev WasJudged : SaveFault → Type 0
+  WasJudged f = Judged (told (load_of s things)) old new (saved_page s things) (Err f)
+
+  overweight : (v : Weight) → IsWalk s things → StandAlone s things → told (load_of s things) ≡ v → IsTooMuch (told (load_of s things)) → new ≡ old → (new ≡ old) × ((x : List ℕ) × IsOverweight s x v)
+  overweight v walk alone same more none = (
+    none,
+    (
+      things,
+      record {
+        walked = walk;
+        alone = alone;
+        weighed = sym same;
+        more = subst IsTooMuch same more;
+      },
+    ),
+  )
+
+  pub answer_large : (f : SaveFault) (v : Weight) → IsWalk s things → StandAlone s things → f ≡ TooMany v → WasJudged f → (new ≡ old) × ((x : List ℕ) × IsOverweight s x v)
+  answer_large f v walk alone e (many more none) = overweight v walk alone (cc e) (inl more) none
+  answer_large f v walk alone e (long few more none) = cc e
+  answer_large f v walk alone e (fault few little front rose) = cc e
+  answer_large f v walk alone e (memory few little front) = cc e
+
+  pub answer_long : (f : SaveFault) (v : Weight) → IsWalk s things → StandAlone s things → f ≡ TooLong v → WasJudged f → (new ≡ old) × ((x : List ℕ) × IsOverweight s x v)
+  answer_long f v walk alone e (many more none) = cc e
+  answer_long f v walk alone e (long few more none) = overweight v walk alone (cc e) (inr more) none
+  answer_long f v walk alone e (fault few little front rose) = cc e
+  answer_long f v walk alone e (memory few little front) = cc e
+
+  pub answer_fault : (f : SaveFault) → IsWalk s things → StandAlone s things → f ≡ WriteFault → WasJudged f → (Failed f ≡ Failed WriteFault → HaveLiterals (plan (compact s things)))
+      → (x : List ℕ) × CanBeSaved s x × TakesFront old.taken new.taken (saved_page s x) × Rose old.faults new.faults
+  answer_fault f walk alone e (many more none) literals = cc e
+  answer_fault f walk alone e (long few more none) literals = cc e
+  answer_fault f walk alone e (fault few little front rose) literals = (
+    things,
+    record {
+      walked = walk;
+      alone = alone;
+      little = not_much (told (load_of s things)) few little;
+      literals = literals (ap Failed e);
+    },
+    front,
+    rose,
+  )
+  answer_fault f walk alone e (memory few little front) literals = cc e
+
+  pub answer_memory : (f : SaveFault) → IsWalk s things → f ≡ OutOfMemory → WasJudged f → (new ≡ old) ⊎ ((x : List ℕ) × IsWalk s x × TakesFront old.taken new.taken (saved_page s x))
+  answer_memory f walk e (many more none) = cc e
+  answer_memory f walk e (long few more none) = cc e
+  answer_memory f walk e (fault few little front rose) = cc e
+  answer_memory f walk e (memory few little front) = inr (things, walk, front)

@@ -1,0 +1,81 @@
+-- What is found of a page after the events of a file: one of its functions needs scopes, it is too large, or it can be saved; it is one of
+-- these, in one way.
+use Rattle.std.proofs.Common.{◌≡◌, ℕ, List, Ok, refl, sym, ap, ◌∙◌, subst}
+use Rattle.js_core.specs.Tree as tree
+use Rattle.js_values.specs.declared.event.Event.{Event}
+use Rattle.page_meaning.specs.Pages.{run_of}
+use Rattle.page_meaning.specs.Store.{Store}
+use Rattle.heap_walker.specs.Alone.{StandAlone}
+use Rattle.heap_walker.specs.Things.{IsWalk}
+use Rattle.heap_walker.specs.Weight.{load_of, told}
+use Rattle.heap_walker.specs.declared.weight.Weight.{Weight}
+use Rattle.heap_walker.proofs.Callers.{walks_are_same}
+use Rattle.command_line.specs.Page.{Page, IsPage}
+use Rattle.command_line.specs.Replay.{IsEventFile}
+use Rattle.command_line.specs.Saving.{IsAfter, NeedsScopes, IsTooMuch, IsTooLarge, IsMovable}
+use Rattle.command_line.proofs.Moves.{OneAcceptance}
+use Rattle.command_line.proofs.Walking.{some_walk}
+
+-- ---- there is one state and one walk
+
+pub same_events : (file : List ℕ) (es ds : List Event) → IsEventFile file es → IsEventFile file ds → es ≡ ds
+same_events file es ds a b = let same : Ok es ≡ Ok ds = sym a.holds ∙ b.holds in cc
+
+module _ (one_page : OneAcceptance) (bytes file : List ℕ) where
+  same_state : (s t : Store) (ks js : List ℕ) → IsAfter bytes file s ks → IsAfter bytes file t js → s ≡ t
+  same_state s t ks js a b =
+      let page = one_page bytes a.page.kind b.page.kind a.page.scripts b.page.scripts a.of_page.accepted b.of_page.accepted in
+      let events = same_events file a.events b.events a.of_file b.of_file in
+      a.state ∙ ap (λ (scripts : List tree.Stmts). run_of scripts a.events) page.1 ∙ ap (run_of b.page.scripts) events ∙ sym b.state
+
+  -- so what holds of the one holds of the other
+  pub carried : (P : Store → List ℕ → Type 0) (s t : Store) (ks js : List ℕ) → IsAfter bytes file s ks → IsAfter bytes file t js → P s ks → P t js
+  carried P s t ks js a b h =
+      let state = same_state s t ks js a b in
+      let walk = walks_are_same t ks js (subst (λ u. IsWalk u ks) state a.walked) b.walked in
+      subst (P t) walk (subst (λ u. P u ks) state h)
+
+  -- ---- no two are found, and one in one way
+
+  pub scopes_or_alone : (s : Store) (ks : List ℕ) → NeedsScopes bytes file → IsAfter bytes file s ks → StandAlone s ks → ⊥
+  scopes_or_alone s ks n a h = n.not_alone (carried StandAlone s n.state ks n.things a n.after h)
+
+  pub one_weight : (v w : Weight) → IsTooLarge bytes file v → IsTooLarge bytes file w → v ≡ w
+  one_weight v w l m =
+      carried (λ s ks. v ≡ told (load_of s ks)) l.state m.state l.things m.things l.after m.after l.weighed ∙ sym m.weighed
+
+  pub large_or_little : (w : Weight) → IsTooLarge bytes file w → IsMovable bytes file → ⊥
+  large_or_little w l m =
+      let more : IsTooMuch (told (load_of l.state l.things)) = subst IsTooMuch l.weighed l.more in
+      m.little (carried (λ s ks. IsTooMuch (told (load_of s ks))) l.state m.state l.things m.things l.after m.after more)
+
+-- ---- one is found
+
+pub some_outcome : (bytes file : List ℕ) (page : Page) (events : List Event) → IsPage bytes page → IsEventFile file events
+    → (NeedsScopes bytes file → ⊥) → ((w : Weight) → IsTooLarge bytes file w → ⊥) → (IsMovable bytes file → ⊥) → ⊥
+some_outcome bytes file page events of_page of_file scopes large movable =
+    some_walk s (λ things walked. at_walk things (after things walked))
+  where
+    s : Store
+    s = run_of page.scripts events
+
+    after : (things : List ℕ) → IsWalk s things → IsAfter bytes file s things
+    after things walked = record {
+      page = page;
+      events = events;
+      of_page = of_page;
+      of_file = of_file;
+      state = refl;
+      walked = walked;
+    }
+
+    little : (things : List ℕ) → IsAfter bytes file s things → StandAlone s things → ¬ IsTooMuch (told (load_of s things))
+    little things a alone much =
+        large (told (load_of s things)) (record { state = s; things = things; after = a; alone = alone; weighed = refl; more = much })
+
+    not_alone : (things : List ℕ) → IsAfter bytes file s things → ¬ StandAlone s things
+    not_alone things a alone =
+        movable (record { state = s; things = things; after = a; alone = alone; little = little things a alone })
+
+    at_walk : (things : List ℕ) → IsAfter bytes file s things → ⊥
+    at_walk things a = scopes (record { state = s; things = things; after = a; not_alone = not_alone things a })

@@ -1,0 +1,125 @@
+-- With which status a command stops at a stage, where nothing outside failed and memory did not run out.
+use Rattle.std.proofs.Common.{◌≡◌, ℕ, ◌<◌, List, length, Option, Some, None, refl, ap, inl, inr}
+use Rattle.std.specs.Prelude.{◌⊎◌}
+use Rattle.page_io.specs.Content.{Told}
+use Rattle.heap_walker.specs.declared.weight.Weight.{Weight}
+use Rattle.page_check.specs.Accept.{IsRefused}
+use Rattle.page_check.specs.declared.page.Refusal.{Refusal}
+use Rattle.page_check.specs.declared.page.Refusal.TheVariants.{NotBuilt}
+use Rattle.command_line.specs.declared.status.Status.{Status}
+use Rattle.command_line.specs.declared.status.Status.TheVariants as status
+use Rattle.command_line.specs.Command.{Command}
+use Rattle.command_line.specs.Page.{page_limit, IsNotBuilt}
+use Rattle.command_line.specs.Saving.{NeedsScopes, IsTooLarge}
+use Rattle.command_line.specs.Stages.{Seen, Of, Held, IsNoEventFile, Stage, words, page_file, acceptance, building, event_file, moving, writing, Stops, IsQuiet}
+
+-- ---- of told bytes
+
+abbrev pub IsTold : Told → Type 0
+IsTold told = ¬ (told ≡ None)
+
+pub of_both : (told : Told) (P Q : List ℕ → Type 0) (R : Type 0) → IsTold told
+    → Of told P → Of told Q → ((bytes : List ℕ) → P bytes → Q bytes → R) → R
+of_both None P Q R t p q f = absurd (t refl)
+of_both (Some None) P Q R t p q f = absurd p
+of_both (Some (Some bytes)) P Q R t p q f = f bytes p q
+
+-- the same of the bytes of two names
+pub of_nested : (told other : Told) (P Q : List ℕ → List ℕ → Type 0) (R : Type 0) → IsTold told → IsTold other
+    → Of told (λ bytes. Of other (P bytes)) → Of told (λ bytes. Of other (Q bytes)) → ((bytes file : List ℕ) → P bytes file → Q bytes file → R) → R
+of_nested told other P Q R t u p q f =
+    of_both told (λ bytes. Of other (P bytes)) (λ bytes. Of other (Q bytes)) R t p q
+    (λ bytes x y. of_both other (P bytes) (Q bytes) R u x y (f bytes))
+
+-- ---- one status at most stops at a stage
+
+-- the status, other than want of memory, with which a quiet command stops
+abbrev pub StopsAs : Stage → Seen → Status → Type 0
+StopsAs (words command) seen s = s ≡ status.Usage
+StopsAs (page_file p) seen s = (s ≡ status.PageRefused None) × Held seen p (λ bytes. page_limit < length bytes)
+StopsAs (acceptance p) seen s = (r : Refusal) × (s ≡ status.PageRefused (Some r)) × Held seen p (λ bytes. IsRefused bytes r)
+StopsAs (building p) seen s = (r : Refusal) × (s ≡ status.PageRefused (Some r)) × Held seen p (λ bytes. IsNotBuilt bytes r)
+StopsAs (event_file e) seen s = (i : ℕ) × (s ≡ status.EventsRefused i) × Held seen e (λ file. IsNoEventFile file i)
+StopsAs (moving p e) seen s =
+    ((s ≡ status.PageRefused (Some (NotBuilt 1))) × Held seen p (λ bytes. Held seen e (λ file. NeedsScopes bytes file)))
+    ⊎ ((w : Weight) × (s ≡ status.TooLarge w) × Held seen p (λ bytes. Held seen e (λ file. IsTooLarge bytes file w)))
+StopsAs writing seen s = s ≡ status.Ok
+
+module _ (seen : Seen) (quiet : IsQuiet seen) where
+  stops_words : (c : Option Command) (s : Status) → Stops (words c) s seen → StopsAs (words c) seen s
+  stops_words None status.Usage h = refl
+  stops_words c s h = absurd h
+
+  stops_page : (p : List ℕ) (s : Status) → ¬ (s ≡ status.OutOfMemory) → Stops (page_file p) s seen → StopsAs (page_file p) seen s
+  stops_page p status.Ok n h = absurd h
+  stops_page p (status.PageRefused None) n h = (refl, h)
+  stops_page p (status.PageRefused (Some r)) n h = absurd h
+  stops_page p status.Usage n h = absurd h
+  stops_page p (status.EventsRefused i) n h = absurd h
+  stops_page p status.ReadFault n h = absurd (quiet.reads h.rose)
+  stops_page p status.WriteFault n h = absurd h
+  stops_page p (status.TooLarge w) n h = absurd h
+  stops_page p status.OutOfMemory n h = absurd (n refl)
+
+  stops_acceptance : (p : List ℕ) (s : Status) → ¬ (s ≡ status.OutOfMemory) → Stops (acceptance p) s seen → StopsAs (acceptance p) seen s
+  stops_acceptance p status.Ok n h = absurd h
+  stops_acceptance p (status.PageRefused None) n h = absurd h
+  stops_acceptance p (status.PageRefused (Some r)) n h = (r, refl, h)
+  stops_acceptance p status.Usage n h = absurd h
+  stops_acceptance p (status.EventsRefused i) n h = absurd h
+  stops_acceptance p status.ReadFault n h = absurd h
+  stops_acceptance p status.WriteFault n h = absurd h
+  stops_acceptance p (status.TooLarge w) n h = absurd h
+  stops_acceptance p status.OutOfMemory n h = absurd (n refl)
+
+  stops_building : (p : List ℕ) (s : Status) → ¬ (s ≡ status.OutOfMemory) → Stops (building p) s seen → StopsAs (building p) seen s
+  stops_building p status.Ok n h = absurd h
+  stops_building p (status.PageRefused None) n h = absurd h
+  stops_building p (status.PageRefused (Some r)) n h = (r, refl, h)
+  stops_building p status.Usage n h = absurd h
+  stops_building p (status.EventsRefused i) n h = absurd h
+  stops_building p status.ReadFault n h = absurd h
+  stops_building p status.WriteFault n h = absurd h
+  stops_building p (status.TooLarge w) n h = absurd h
+  stops_building p status.OutOfMemory n h = absurd (n refl)
+
+  stops_events : (e : List ℕ) (s : Status) → ¬ (s ≡ status.OutOfMemory) → Stops (event_file e) s seen → StopsAs (event_file e) seen s
+  stops_events e status.Ok n h = absurd h
+  stops_events e (status.PageRefused r) n h = absurd h
+  stops_events e status.Usage n h = absurd h
+  stops_events e (status.EventsRefused i) n h = (i, refl, h)
+  stops_events e status.ReadFault n h = absurd (quiet.reads h.rose)
+  stops_events e status.WriteFault n h = absurd h
+  stops_events e (status.TooLarge w) n h = absurd h
+  stops_events e status.OutOfMemory n h = absurd (n refl)
+
+  stops_moving : (p e : List ℕ) (s : Status) → ¬ (s ≡ status.OutOfMemory) → Stops (moving p e) s seen → StopsAs (moving p e) seen s
+  stops_moving p e status.Ok n h = absurd h
+  stops_moving p e (status.PageRefused None) n h = absurd h
+  stops_moving p e (status.PageRefused (Some (NotBuilt k))) n h = inl (ap (λ (i : ℕ). status.PageRefused (Some (NotBuilt i))) h.0, h.1)
+  stops_moving p e (status.PageRefused (Some r)) n h = absurd h
+  stops_moving p e status.Usage n h = absurd h
+  stops_moving p e (status.EventsRefused i) n h = absurd h
+  stops_moving p e status.ReadFault n h = absurd h
+  stops_moving p e status.WriteFault n h = absurd h
+  stops_moving p e (status.TooLarge w) n h = inr (w, refl, h)
+  stops_moving p e status.OutOfMemory n h = absurd (n refl)
+
+  stops_writing : (s : Status) → ¬ (s ≡ status.OutOfMemory) → Stops writing s seen → StopsAs writing seen s
+  stops_writing status.Ok n h = refl
+  stops_writing (status.PageRefused r) n h = absurd h
+  stops_writing status.Usage n h = absurd h
+  stops_writing (status.EventsRefused i) n h = absurd h
+  stops_writing status.ReadFault n h = absurd h
+  stops_writing status.WriteFault n h = absurd (quiet.puts h)
+  stops_writing (status.TooLarge w) n h = absurd h
+  stops_writing status.OutOfMemory n h = absurd (n refl)
+
+  pub stops_as : (g : Stage) (s : Status) → ¬ (s ≡ status.OutOfMemory) → Stops g s seen → StopsAs g seen s
+  stops_as (words c) s n h = stops_words c s h
+  stops_as (page_file p) s n h = stops_page p s n h
+  stops_as (acceptance p) s n h = stops_acceptance p s n h
+  stops_as (building p) s n h = stops_building p s n h
+  stops_as (event_file e) s n h = stops_events e s n h
+  stops_as (moving p e) s n h = stops_moving p e s n h
+  stops_as writing s n h = stops_writing s n h

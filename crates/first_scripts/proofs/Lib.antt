@@ -1,4 +1,0 @@
-mod Apart
-mod Declared
-mod Each
-mod Refused
