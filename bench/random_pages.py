@@ -365,4 +365,5 @@ def main():
     sys.exit(0 if equal == count else 1)
 
 
-main()
+if __name__ == "__main__":
+    main()

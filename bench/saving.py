@@ -12,7 +12,7 @@ import tempfile
 import time
 
 TOP = os.path.dirname(os.path.dirname(os.path.abspath(__file__)))
-PROGRAM = os.path.abspath(sys.argv[1]) if len(sys.argv) > 1 else f"{TOP}/crates/state_rows/out/state_rows"
+PROGRAM = os.path.abspath(sys.argv[1]) if len(sys.argv) > 1 else f"{TOP}/crates/imagen/out/imagen"
 # What one turn makes, and how much that weighs with its element.
 KINDS = {
     "objects": ("a[i]={};", 2),
