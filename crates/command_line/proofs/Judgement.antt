@@ -30,7 +30,8 @@ module _ (s : Store) (things : List ℕ) (old new : SinkSeen) where
   abbrev WasJudged : SaveFault → Type 0
   WasJudged f = Judged (told (load_of s things)) old new (saved_page s things) (Err f)
 
-  overweight : (v : Weight) → IsWalk s things → StandAlone s things → told (load_of s things) ≡ v → IsTooMuch (told (load_of s things)) → new ≡ old → (new ≡ old) × ((x : List ℕ) × IsOverweight s x v)
+  overweight : (v : Weight) → IsWalk s things → StandAlone s things → told (load_of s things) ≡ v → IsTooMuch (told (load_of s things)) → new ≡ old
+      → (new ≡ old) × ((x : List ℕ) × IsOverweight s x v)
   overweight v walk alone same more none = (
     none,
     (
@@ -44,19 +45,22 @@ module _ (s : Store) (things : List ℕ) (old new : SinkSeen) where
     ),
   )
 
-  pub answer_large : (f : SaveFault) (v : Weight) → IsWalk s things → StandAlone s things → f ≡ TooMany v → WasJudged f → (new ≡ old) × ((x : List ℕ) × IsOverweight s x v)
+  pub answer_large : (f : SaveFault) (v : Weight) → IsWalk s things → StandAlone s things → f ≡ TooMany v → WasJudged f
+      → (new ≡ old) × ((x : List ℕ) × IsOverweight s x v)
   answer_large f v walk alone e (many more none) = overweight v walk alone (cc e) (inl more) none
   answer_large f v walk alone e (long few more none) = cc e
   answer_large f v walk alone e (fault few little front rose) = cc e
   answer_large f v walk alone e (memory few little front) = cc e
 
-  pub answer_long : (f : SaveFault) (v : Weight) → IsWalk s things → StandAlone s things → f ≡ TooLong v → WasJudged f → (new ≡ old) × ((x : List ℕ) × IsOverweight s x v)
+  pub answer_long : (f : SaveFault) (v : Weight) → IsWalk s things → StandAlone s things → f ≡ TooLong v → WasJudged f
+      → (new ≡ old) × ((x : List ℕ) × IsOverweight s x v)
   answer_long f v walk alone e (many more none) = cc e
   answer_long f v walk alone e (long few more none) = overweight v walk alone (cc e) (inr more) none
   answer_long f v walk alone e (fault few little front rose) = cc e
   answer_long f v walk alone e (memory few little front) = cc e
 
-  pub answer_fault : (f : SaveFault) → IsWalk s things → StandAlone s things → f ≡ WriteFault → WasJudged f → (Failed f ≡ Failed WriteFault → HaveLiterals (plan (compact s things)))
+  pub answer_fault : (f : SaveFault) → IsWalk s things → StandAlone s things → f ≡ WriteFault → WasJudged f
+      → (Failed f ≡ Failed WriteFault → HaveLiterals (plan (compact s things)))
       → (x : List ℕ) × CanBeSaved s x × TakesFront old.taken new.taken (saved_page s x) × Rose old.faults new.faults
   answer_fault f walk alone e (many more none) literals = cc e
   answer_fault f walk alone e (long few more none) literals = cc e
@@ -73,7 +77,8 @@ module _ (s : Store) (things : List ℕ) (old new : SinkSeen) where
   )
   answer_fault f walk alone e (memory few little front) literals = cc e
 
-  pub answer_memory : (f : SaveFault) → IsWalk s things → f ≡ OutOfMemory → WasJudged f → (new ≡ old) ⊎ ((x : List ℕ) × IsWalk s x × TakesFront old.taken new.taken (saved_page s x))
+  pub answer_memory : (f : SaveFault) → IsWalk s things → f ≡ OutOfMemory → WasJudged f
+      → (new ≡ old) ⊎ ((x : List ℕ) × IsWalk s x × TakesFront old.taken new.taken (saved_page s x))
   answer_memory f walk e (many more none) = cc e
   answer_memory f walk e (long few more none) = cc e
   answer_memory f walk e (fault few little front rose) = cc e

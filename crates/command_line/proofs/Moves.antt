@@ -37,7 +37,8 @@ little_text : (s : Store) (things : List ℕ) → ¬ IsTooMuch (told (load_of s 
 little_text s things little = few_of (load_of s things).text text_limit _ (omega arith) (λ more. little (inr more))
 
 -- the script of a moved page goes on as the page, whichever pages they are accepted as
-goes_on_by : (script : tree.Stmts) (earlier : List Event) (text : List ℕ) (page now : Page) → now.kind ≡ Form → now.scripts ≡ script ∷ [] → GoesOnAs text page.scripts earlier script → (before : Page) → before.scripts ≡ page.scripts → GoesOn before earlier now
+goes_on_by : (script : tree.Stmts) (earlier : List Event) (text : List ℕ) (page now : Page) → now.kind ≡ Form → now.scripts ≡ script ∷ []
+    → GoesOnAs text page.scripts earlier script → (before : Page) → before.scripts ≡ page.scripts → GoesOn before earlier now
 goes_on_by script earlier text page now form f h before e = record {
   form = form;
   silent = ap (λ (ss : List tree.Stmts). lines_of_run ss []) f ∙ h.silent;
@@ -45,7 +46,8 @@ goes_on_by script earlier text page now form f h before e = record {
 }
 
 -- bytes of a page whose scripts are in form, that can be saved
-pub saved_moves : (one : OneAcceptance) (formed : AcceptedScriptsAreInForm) (law : MovedPagesGoOn) (bytes : List ℕ) (page : Page) (earlier : List Event) (things : List ℕ) → Accepts bytes page → IsBuilt page → CanBeSaved (run_of page.scripts earlier) things
+pub saved_moves : (one : OneAcceptance) (formed : AcceptedScriptsAreInForm) (law : MovedPagesGoOn) (bytes : List ℕ) (page : Page) (earlier : List Event) (things : List ℕ)
+    → Accepts bytes page → IsBuilt page → CanBeSaved (run_of page.scripts earlier) things
     → MovesTo bytes earlier (saved_page (run_of page.scripts earlier) things)
 saved_moves one formed law bytes page earlier things accepted built can =
     let text = saved_page (run_of page.scripts earlier) things in

@@ -10,8 +10,7 @@ use Rattle.std.specs.Fmt.{decimal}
 use Rattle.std.specs.Prelude.{codes}
 use Rattle.heap_walker.specs.declared.weight.Weight.{Weight}
 use Rattle.command_line.specs.declared.status.Status.TheVariants.{TooLarge}
-use Rattle.command_line.specs.Moving.{things_start}
-use Rattle.command_line.specs.Notes.{note_of, script_note, script_start, PutWhole, PutFront, PutCounts, Noted}
+use Rattle.command_line.specs.Notes.{note_of, script_note, script_start, things_start, PutWhole, PutFront, PutCounts, Noted}
 
 -- a front of a piece is a front of the piece and what follows
 front_of_more : (n : ℕ) (p more : List ℕ) → (m : ℕ) × (take n p ≡ take m (p ++ more))
@@ -30,7 +29,8 @@ behind_piece : (n : ℕ) (p more : List ℕ) → (m : ℕ) × (p ++ take n more 
 behind_piece n [] more = (n, refl)
 behind_piece n (u ∷ p) more = let h = behind_piece n p more in (suc h.0, ap (λ (w : List ℕ). u ∷ w) h.1)
 
-pub front_after : (before mid now : Option (List ℕ)) (p more : List ℕ) → Takes before mid p → TakesFront mid now more → TakesFront before now (p ++ more)
+pub front_after : (before mid now : Option (List ℕ)) (p more : List ℕ) → Takes before mid p → TakesFront mid now more
+    → TakesFront before now (p ++ more)
 front_after None None None p more h g = tt
 front_after (Some old) (Some mid) (Some new) p more h g =
     let f = behind_piece g.0 p more in
@@ -59,25 +59,32 @@ front_of_whole None (Some new) p h = absurd h
 front_of_whole (Some old) None p h = absurd h
 
 -- a note that was put as far as that went
-pub noted : (r : Result (Unit {0}) PutFault) (note : List ℕ) (before now : SinkSeen) → PutWhole before now note r → PutFront before now note r → PutCounts before now r → Noted note before now
+pub noted : (r : Result (Unit {0}) PutFault) (note : List ℕ) (before now : SinkSeen) → PutWhole before now note r → PutFront before now note r
+    → PutCounts before now r → Noted note before now
 noted (Ok a) note before now ok err counts = record { front = front_of_whole before.taken now.taken note ok; whole = inr ok }
 noted (Err Failed) note before now ok err counts = record { front = err; whole = inl (counts.rose refl) }
 
 -- the second of two pieces was put
-pub second_fault : (r : Result (Unit {0}) PutFault) (before mid now : Option (List ℕ)) (p more : List ℕ) → Takes before mid p → OnErr r (TakesFront mid now more) → OnErr r (TakesFront before now (p ++ more))
+pub second_fault : (r : Result (Unit {0}) PutFault) (before mid now : Option (List ℕ)) (p more : List ℕ) → Takes before mid p
+    → OnErr r (TakesFront mid now more) → OnErr r (TakesFront before now (p ++ more))
 second_fault (Ok a) before mid now p more h g = tt
 second_fault (Err e) before mid now p more h g = front_after before mid now p more h g
 
-pub second_ok : (r : Result (Unit {0}) PutFault) (before mid now : Option (List ℕ)) (p more : List ℕ) → Takes before mid p → OnOk r (Takes mid now more) → OnOk r (Takes before now (p ++ more))
+pub second_ok : (r : Result (Unit {0}) PutFault) (before mid now : Option (List ℕ)) (p more : List ℕ) → Takes before mid p
+    → OnOk r (Takes mid now more) → OnOk r (Takes before now (p ++ more))
 second_ok (Ok a) before mid now p more h g = takes_both before mid now p more h g
 second_ok (Err e) before mid now p more h g = tt
 
 -- two pieces that are a note
-pub note_second_ok : (r : Result (Unit {0}) PutFault) (before mid now : Option (List ℕ)) (p more note : List ℕ) → p ++ more ≡ note → Takes before mid p → OnOk r (Takes mid now more) → OnOk r (Takes before now note)
-note_second_ok r before mid now p more note e h g = subst (λ (text : List ℕ). OnOk r (Takes before now text)) e (second_ok r before mid now p more h g)
+pub note_second_ok : (r : Result (Unit {0}) PutFault) (before mid now : Option (List ℕ)) (p more note : List ℕ) → p ++ more ≡ note
+    → Takes before mid p → OnOk r (Takes mid now more) → OnOk r (Takes before now note)
+note_second_ok r before mid now p more note e h g =
+    subst (λ (text : List ℕ). OnOk r (Takes before now text)) e (second_ok r before mid now p more h g)
 
-pub note_second_fault : (r : Result (Unit {0}) PutFault) (before mid now : Option (List ℕ)) (p more note : List ℕ) → p ++ more ≡ note → Takes before mid p → OnErr r (TakesFront mid now more) → OnErr r (TakesFront before now note)
-note_second_fault r before mid now p more note e h g = subst (λ (text : List ℕ). OnErr r (TakesFront before now text)) e (second_fault r before mid now p more h g)
+pub note_second_fault : (r : Result (Unit {0}) PutFault) (before mid now : Option (List ℕ)) (p more note : List ℕ) → p ++ more ≡ note
+    → Takes before mid p → OnErr r (TakesFront mid now more) → OnErr r (TakesFront before now note)
+note_second_fault r before mid now p more note e h g =
+    subst (λ (text : List ℕ). OnErr r (TakesFront before now text)) e (second_fault r before mid now p more h g)
 
 pub note_front : (before now : Option (List ℕ)) (p more note : List ℕ) → p ++ more ≡ note → TakesFront before now p → TakesFront before now note
 note_front before now p more note e h = subst (λ (text : List ℕ). TakesFront before now text) e (front_before before now p more h)

@@ -14,7 +14,8 @@ use Rattle.command_line.specs.declared.status.Status.{Status}
 use Rattle.command_line.specs.declared.status.Status.TheVariants.{Ok, PageRefused, Usage, EventsRefused, ReadFault, WriteFault, TooLarge, OutOfMemory}
 
 -- a page that was read is refused
-pub told_refused : (told : Told) (bytes : List ℕ) (fault : AcceptFault) (refusal : Refusal) → IsContent told page_limit bytes → fault ≡ Refused refusal → IsNotAccepted bytes fault → Of told (λ b. (length b ≤ page_limit) × IsRefused b refusal)
+pub told_refused : (told : Told) (bytes : List ℕ) (fault : AcceptFault) (refusal : Refusal) → IsContent told page_limit bytes
+    → fault ≡ Refused refusal → IsNotAccepted bytes fault → Of told (λ b. (length b ≤ page_limit) × IsRefused b refusal)
 told_refused None bytes fault refusal h e r = tt
 told_refused (Some None) bytes fault refusal h e r = absurd h
 told_refused (Some (Some content)) bytes fault refusal h e r =
@@ -34,7 +35,8 @@ refused_not_taken bytes (ReservedName k) h = h
 refused_not_taken bytes (NotForm k) h = h
 refused_not_taken bytes (NotBuilt k) h = absurd h
 
-told_not_taken : (told : Told) (refusal : Refusal) → Of told (λ b. (length b ≤ page_limit) × IsRefused b refusal) → Of told (λ b. (length b ≤ page_limit) × IsNotTaken b refusal)
+told_not_taken : (told : Told) (refusal : Refusal) → Of told (λ b. (length b ≤ page_limit) × IsRefused b refusal)
+    → Of told (λ b. (length b ≤ page_limit) × IsNotTaken b refusal)
 told_not_taken None refusal h = tt
 told_not_taken (Some None) refusal h = absurd h
 told_not_taken (Some (Some bytes)) refusal h = (h.0, refused_not_taken bytes refusal h.1)
@@ -52,7 +54,8 @@ stops_save (TooLarge w) told h = absurd h
 stops_save OutOfMemory told h = tt
 
 -- a page whose scripts are not in form is not taken
-pub told_not_built : (told : Told) (page : Page) → Of told (λ b. IsPage b page) → ¬ IsBuilt page → Of told (λ b. (length b ≤ page_limit) × IsNotTaken b (NotBuilt 1))
+pub told_not_built : (told : Told) (page : Page) → Of told (λ b. IsPage b page) → ¬ IsBuilt page
+    → Of told (λ b. (length b ≤ page_limit) × IsNotTaken b (NotBuilt 1))
 told_not_built None page h r = tt
 told_not_built (Some None) page h r = absurd h
 told_not_built (Some (Some bytes)) page h r = (h.fits, (refl, (page, h.accepted, r)))

@@ -19,11 +19,13 @@ use Rattle.command_line.specs.Texts.{Writes}
 use Rattle.command_line.proofs.Moves.{OneAcceptance, saved_moves}
 
 -- what `replay` writes for a page
-replayed : (bytes file : List ℕ) (page : Page) (events : List Event) (text : List ℕ) → IsPage bytes page → IsEventFile file events → text ≡ lines_text (lines_of_run page.scripts events) → Writes Replay bytes file text
+replayed : (bytes file : List ℕ) (page : Page) (events : List Event) (text : List ℕ) → IsPage bytes page → IsEventFile file events
+    → text ≡ lines_text (lines_of_run page.scripts events) → Writes Replay bytes file text
 replayed bytes file page events text of_page of_file t = record { page = page; events = events; of_page = of_page; of_file = of_file; lines = t }
 
 -- the same where it is told what the names hold
-pub told_replays : (page file : Told) (of : Page) (events : List Event) (text : List ℕ) → Of page (λ bytes. IsPage bytes of) → Of file (λ content. IsEventFile content events) → text ≡ lines_text (lines_of_run of.scripts events)
+pub told_replays : (page file : Told) (of : Page) (events : List Event) (text : List ℕ) → Of page (λ bytes. IsPage bytes of)
+    → Of file (λ content. IsEventFile content events) → text ≡ lines_text (lines_of_run of.scripts events)
     → Of page (λ p. Of file (λ e. Writes Replay p e text))
 told_replays None file of events text of_page of_file t = tt
 told_replays (Some None) file of events text of_page of_file t = absurd of_page
@@ -34,7 +36,8 @@ told_replays (Some (Some bytes)) (Some (Some content)) of events text of_page of
 -- ---- save
 
 -- what holds of a page and its events, where it is told what the names hold
-told_both : (page file : Told) (of : Page) (events : List Event) (P : List ℕ → List ℕ → Type 0) → Of page (λ bytes. IsPage bytes of) → Of file (λ content. IsEventFile content events)
+told_both : (page file : Told) (of : Page) (events : List Event) (P : List ℕ → List ℕ → Type 0) → Of page (λ bytes. IsPage bytes of)
+    → Of file (λ content. IsEventFile content events)
     → ((bytes content : List ℕ) → IsPage bytes of → IsEventFile content events → P bytes content) → Of page (λ p. Of file (λ e. P p e))
 told_both None file of events P of_page of_file f = tt
 told_both (Some None) file of events P of_page of_file f = absurd of_page
@@ -42,7 +45,8 @@ told_both (Some (Some bytes)) None of events P of_page of_file f = tt
 told_both (Some (Some bytes)) (Some None) of events P of_page of_file f = absurd of_file
 told_both (Some (Some bytes)) (Some (Some content)) of events P of_page of_file f = f bytes content of_page of_file
 
-abbrev is_after : (bytes content : List ℕ) (of : Page) (events : List Event) (things : List ℕ) → IsPage bytes of → IsEventFile content events → IsWalk (run_of of.scripts events) things → IsAfter bytes content (run_of of.scripts events) things
+abbrev is_after : (bytes content : List ℕ) (of : Page) (events : List Event) (things : List ℕ) → IsPage bytes of → IsEventFile content events
+    → IsWalk (run_of of.scripts events) things → IsAfter bytes content (run_of of.scripts events) things
 is_after bytes content of events things of_page of_file walk = record { page = of; events = events; of_page = of_page; of_file = of_file; state = refl; walked = walk }
 
 -- the page and the events of two names
@@ -51,7 +55,8 @@ pub record Both (page file : Told) (of : Page) (events : List Event) : Type 0 wh
   pub of_file : Of file (λ content. IsEventFile content events)
 
 module _ (page file : Told) (of : Page) (events : List Event) (both : Both page file of events) (things : List ℕ) where
-  pub told_saves : (one : OneAcceptance) (formed : AcceptedScriptsAreInForm) (law : MovedPagesGoOn) → IsBuilt of → CanBeSaved (run_of of.scripts events) things
+  pub told_saves : (one : OneAcceptance) (formed : AcceptedScriptsAreInForm) (law : MovedPagesGoOn) → IsBuilt of
+      → CanBeSaved (run_of of.scripts events) things
       → Of page (λ p. Of file (λ e. Writes Save p e (saved_page (run_of of.scripts events) things)))
   told_saves one formed law built can = told_both page file of events (λ p e. Saves p e (saved_page (run_of of.scripts events) things)) both.of_page both.of_file λ bytes content p e. record {
     state = run_of of.scripts events;
@@ -80,7 +85,8 @@ module _ (page file : Told) (of : Page) (events : List Event) (both : Both page 
     more = over.more;
   }
 
-  pub told_needs : IsWalk (run_of of.scripts events) things → ¬ StandAlone (run_of of.scripts events) things → Of page (λ p. Of file (λ e. NeedsScopes p e))
+  pub told_needs : IsWalk (run_of of.scripts events) things → ¬ StandAlone (run_of of.scripts events) things
+      → Of page (λ p. Of file (λ e. NeedsScopes p e))
   told_needs walk not_alone = told_both page file of events (λ p e. NeedsScopes p e) both.of_page both.of_file λ bytes content p e. record {
     state = run_of of.scripts events;
     things = things;

@@ -1,6 +1,5 @@
 -- What is answered where a page is saved as it is, by what can be reached of it.
-use Rattle.std.specs.Prelude.{ℕ, ◌≡◌, ◌⊎◌, ◌++◌, List, Some, codes}
-use Rattle.std.specs.Fmt.{decimal}
+use Rattle.std.specs.Prelude.{ℕ, ◌≡◌, ◌⊎◌, List, Some}
 use Rattle.heap_walker.specs.Alone.{StandAlone}
 use Rattle.heap_walker.specs.Things.{IsWalk}
 use Rattle.heap_walker.specs.Weight.{load_of, told}
@@ -17,10 +16,6 @@ use Rattle.rebuild_plan.specs.Plan.{plan}
 use Rattle.command_line.specs.Saving.{IsTooMuch}
 use Rattle.command_line.specs.declared.status.Status.{Status}
 use Rattle.command_line.specs.declared.status.Status.TheVariants.{Ok, PageRefused, WriteFault, TooLarge, OutOfMemory}
-
--- what stands first in the note of a page that is too large
-abbrev pub things_start : ℕ → List ℕ
-things_start things = codes "too large: " ++ (decimal things ++ codes " things, ")
 
 -- the things of a page that can be saved
 pub record CanBeSaved (s : Store) (things : List ℕ) : Type 0 where

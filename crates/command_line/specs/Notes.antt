@@ -52,6 +52,10 @@ script_note k cause = (codes "page refused: " ++ script_words k cause) ++ 10 ∷
 abbrev pub script_start : ℕ → List ℕ
 script_start k = codes "page refused: script " ++ (decimal k ++ codes ": ")
 
+-- what stands first in the note of a page that is too large
+abbrev pub things_start : ℕ → List ℕ
+things_start things = codes "too large: " ++ (decimal things ++ codes " things, ")
+
 -- what a put of a text says: the whole of it was appended, or a front of it, and a fault is counted
 abbrev pub PutWhole : SinkSeen → SinkSeen → List ℕ → Result (Unit {0}) PutFault → Type 0
 PutWhole before now text result = OnOk result (Takes before.taken now.taken text)

@@ -1,8 +1,7 @@
 //! The note of a status.
 
 ghost use Rattle.std.specs.Prelude.{◌≡◌, ◌++◌, Some};
-ghost use Rattle.command_line.specs.Notes.{note_of, script_note, script_start, PutWhole, PutFront, PutCounts, Noted};
-ghost use Rattle.command_line.specs.Moving.{things_start};
+ghost use Rattle.command_line.specs.Notes.{note_of, script_note, script_start, things_start, PutWhole, PutFront, PutCounts, Noted};
 
 use crate::status::Status;
 use heap_walker::Weight;

@@ -1,5 +1,5 @@
 -- A moved page behaves as if it had never moved.
-use Rattle.std.specs.Prelude.{◌≡◌, ℕ, ◌≤◌, true, List, [], ◌∷◌, length}
+use Rattle.std.specs.Prelude.{◌≡◌, ℕ, ◌≤◌, true, List, [], ◌∷◌, length, ◌++◌}
 use Rattle.std.specs.List.{All, list_all}
 use Rattle.heap_walker.specs.Alone.{StandAlone}
 use Rattle.heap_walker.specs.Things.{IsWalk}
@@ -49,6 +49,17 @@ abbrev pub MovedPagesGoOn : Type 0
 MovedPagesGoOn =
     (scripts : List tree.Stmts) (earlier : List Event) (things : List ℕ) → CanBeMoved scripts earlier things
     → GoesOn (saved_page (run_of scripts earlier) things) scripts earlier
+
+-- a page goes on as another one after the earlier events, without a line of its own before
+pub record FollowsFrom (scripts : List tree.Stmts) (earlier : List Event) (moved : List tree.Stmts) : Type 0 where
+  pub silent : lines_of_run moved [] ≡ []
+  pub same : (later : List Event) → lines_after moved [] later ≡ lines_after scripts earlier later
+
+-- a page that was moved and then moved again goes on as the first one after all events: any number of moves gives the lines of none
+abbrev pub MovesJoin : Type 0
+MovesJoin =
+    (scripts moved again : List tree.Stmts) (earlier between : List Event) → FollowsFrom scripts earlier moved → FollowsFrom moved between again
+    → FollowsFrom scripts (earlier ++ between) again
 
 -- an accepted script that is in form is one of a form page
 abbrev pub AcceptedScriptsAreInForm : Type 0

@@ -1,11 +1,12 @@
 //! What holds of moved pages.
 
 ghost use Rattle.moved_pages.specs.Accepted.{SavedPagesAreAccepted};
-ghost use Rattle.moved_pages.specs.Moved.{AcceptedScriptsAreInForm, MovedPagesGoOn};
+ghost use Rattle.moved_pages.specs.Moved.{AcceptedScriptsAreInForm, MovedPagesGoOn, MovesJoin};
 
 use js_print::laws::{
     law_lined_scripts_are_read_again, law_syntax_is_what_tokens_have, law_tokens_can_be_written,
 };
+use page_meaning::laws::law_lines_grow;
 use page_rest::law_pages_rest;
 use page_writer::{law_pages_are_short, law_saved_scripts_are_form};
 use rebuild_plan::{law_plans_are_few, law_plans_stand};
@@ -32,6 +33,14 @@ pub fn law_moved_pages_go_on()
     law_pages_rest();
     law_scripts_rebuild();
     law_rebuilt_pages_go_on();
+}
+
+/// A page that is moved and then moved again goes on as the first one after all events: any number of moves
+/// gives the lines of none.
+pub fn law_moves_join()
+    ensures { MovesJoin }
+{
+    law_lines_grow();
 }
 
 /// A script that is accepted and in form is one of a form page.
