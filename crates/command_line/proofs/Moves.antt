@@ -1,5 +1,6 @@
 -- A saved page is accepted, and goes on as the page that was saved.
-use Rattle.std.proofs.Common.{◌≡◌, ◌⊎◌, inl, inr, ℕ, ◌≤◌, ◌<◌, List, [], ◌∷◌, min, refl, sym, ap, ◌∙◌, arith}
+use Rattle.std.proofs.Common.{◌≡◌, ◌⊎◌, inl, inr, ℕ, ◌≤◌, ◌<◌, List, [], ◌∷◌, min, refl, sym, ap, subst, ◌∙◌, arith}
+use Rattle.heap_walker.specs.Things.{IsWalk}
 use Rattle.heap_walker.specs.Weight.{load_of, told}
 use Rattle.js_core.specs.Tree as tree
 use Rattle.js_values.specs.declared.event.Event.{Event}
@@ -45,6 +46,14 @@ goes_on_by script earlier text page now form f h before e = record {
   same = λ later. ap (λ (ss : List tree.Stmts). lines_after ss [] later) f ∙ h.same later ∙ sym (ap (λ (ss : List tree.Stmts). lines_after ss earlier later) e);
 }
 
+-- and it is saved again as the same text
+again_by : (script : tree.Stmts) (text : List ℕ) (now : Page) (things : List ℕ) → now.scripts ≡ script ∷ []
+    → ((ks : List ℕ) → IsWalk (run_of (script ∷ []) []) ks → saved_page (run_of (script ∷ []) []) ks ≡ text)
+    → IsWalk (run_of now.scripts []) things → saved_page (run_of now.scripts []) things ≡ text
+again_by script text now things f h walk =
+    ap (λ (ss : List tree.Stmts). saved_page (run_of ss []) things) f
+    ∙ h things (subst (λ (ss : List tree.Stmts). IsWalk (run_of ss []) things) f walk)
+
 -- bytes of a page whose scripts are in form, that can be saved
 pub saved_moves : (one : OneAcceptance) (formed : AcceptedScriptsAreInForm) (law : MovedPagesGoOn) (bytes : List ℕ) (page : Page) (earlier : List Event) (things : List ℕ)
     → Accepts bytes page → IsBuilt page → CanBeSaved (run_of page.scripts earlier) things
@@ -67,4 +76,7 @@ saved_moves one formed law bytes page earlier things accepted built can =
           let at_last = one text now.kind Form now.scripts (found.script ∷ []) b found.goes_on.accepted in
           goes_on_by found.script earlier text page now at_last.0 at_last.1 found.goes_on before at_first.1;
       built = rw found.goes_on.formed refl;
+      again = λ now ks b walk.
+          let at_last = one text now.kind Form now.scripts (found.script ∷ []) b found.goes_on.accepted in
+          again_by found.script text now ks at_last.1 found.goes_on.again walk;
     }

@@ -61,12 +61,14 @@ pub record GoesOn (page : Page) (earlier : List Event) (moved : Page) : Type 0 w
   pub same : (later : List Event) → lines_after moved.scripts [] later ≡ lines_after page.scripts earlier later
 
 -- **A moved page behaves as if it had never moved.** The saved bytes are a page, which is not too long to be read, and whichever page
--- they are accepted as goes on as whichever page the bytes are accepted as. It is built in, so it is saved again.
+-- they are accepted as goes on as whichever page the bytes are accepted as. It is built in, so it is saved again, without events as the
+-- same bytes.
 pub record MovesTo (bytes : List ℕ) (earlier : List Event) (saved : List ℕ) : Type 0 where
   pub moved : Page
   pub page : IsPage saved moved
   pub goes_on : (before now : Page) → Accepts bytes before → Accepts saved now → GoesOn before earlier now
   pub built : IsBuilt moved
+  pub again : (now : Page) (things : List ℕ) → Accepts saved now → IsWalk (run_of now.scripts []) things → saved_page (run_of now.scripts []) things ≡ saved
 
 -- the page that is saved after the events of the file, to which the page moves
 pub record Saves (bytes file text : List ℕ) : Type 0 where

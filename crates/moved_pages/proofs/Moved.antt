@@ -18,7 +18,7 @@ use Rattle.page_meaning.specs.Tasks.{step_limit}
 use Rattle.page_rest.specs.Laws.{PagesRest}
 use Rattle.page_writer.specs.FormScripts.{SavedScriptsAreForm}
 use Rattle.page_writer.specs.Length.{PagesAreShort}
-use Rattle.page_writer.specs.Page.{saved_page}
+use Rattle.page_writer.specs.Page.{page_of, saved_page}
 use Rattle.page_writer.specs.Script.{saved_script}
 use Rattle.page_writer.specs.Sizes.{text_limit, things_limit}
 use Rattle.rebuild_plan.specs.Compact.{compact}
@@ -26,6 +26,7 @@ use Rattle.rebuild_plan.specs.Count.{PlansAreFew}
 use Rattle.rebuild_plan.specs.Plan.{plan}
 use Rattle.rebuild_plan.specs.Stands.{PlansStand}
 use Rattle.rebuild_plan.specs.declared.statement.Rebuild.{Rebuild}
+use Rattle.rebuilding.specs.Again.{SavedAgain}
 use Rattle.rebuilding.specs.Laws.{CanBeRebuilt, RebuiltPagesGoOn, ScriptsRebuild}
 use Rattle.rebuilding.specs.Rebuilt.{NeedNone, is_none, needs_none}
 use Rattle.scope_analysis.specs.FreeUses.{needed_variables}
@@ -72,9 +73,9 @@ can_be_rebuilt few rest scripts earlier things can =
 
 -- ---- the law
 
-pub moved_pages_go_on : PagesAreShort → SavedScriptsAreForm → LinedScriptsAreReadAgain → PlansStand → PlansAreFew → PagesRest → ScriptsRebuild → RebuiltPagesGoOn
+pub moved_pages_go_on : PagesAreShort → SavedScriptsAreForm → LinedScriptsAreReadAgain → PlansStand → PlansAreFew → PagesRest → ScriptsRebuild → RebuiltPagesGoOn → SavedAgain
     → MovedPagesGoOn
-moved_pages_go_on bound form lined stand few rest rebuild go_on scripts earlier things can =
+moved_pages_go_on bound form lined stand few rest rebuild go_on saved_again scripts earlier things can =
     let s : Store = run_of scripts earlier in
     let at_rest = rest scripts earlier things can.in_form can.walked can.alone in
     let rs : List Rebuild = plan (compact s things) in
@@ -90,6 +91,7 @@ moved_pages_go_on bound form lined stand few rest rebuild go_on scripts earlier 
         accepted = saved_pages_are_accepted form lined s things at_rest.0 can.walked written;
         formed = (form s things at_rest.0 can.walked written).formed;
         silent = silent;
+        again = λ (again : List ℕ) walk. ap (λ c. page_of (plan c)) (saved_again s things again ready walk);
         same = λ later. ap (λ (ls : List Line). drop (length ls) (run_all t later).lines) silent ∙ go_on s things later ready;
       };
     }

@@ -40,6 +40,8 @@ pub record GoesOnAs (text : List ℕ) (scripts : List tree.Stmts) (earlier : Lis
   pub formed : in_form script ≡ true
   pub silent : lines_of_run (script ∷ []) [] ≡ []
   pub same : (later : List Event) → lines_after (script ∷ []) [] later ≡ lines_after scripts earlier later
+  -- saved again, without events, it has the same text
+  pub again : (things : List ℕ) → IsWalk (run_of (script ∷ []) []) things → saved_page (run_of (script ∷ []) []) things ≡ text
 
 pub record GoesOn (text : List ℕ) (scripts : List tree.Stmts) (earlier : List Event) : Type 0 where
   pub script : tree.Stmts

@@ -53,7 +53,7 @@ module _ (c : Scene) (s : Store) (things : List ℕ) (h : Contents) (sites : Lis
   site_below : (n : ℕ) → n < length things → n < length sites
   site_below n below = subst (λ m. n < m) (sym is.count) below
 
-  site_parts : (n : ℕ) → n < length things → (built_in_count ≤ nth sites n) × (nth sites n < length h.objects)
+  pub site_parts : (n : ℕ) → n < length things → (built_in_count ≤ nth sites n) × (nth sites n < length h.objects)
   site_parts n below =
       let k : ℕ = nth sites n in
       let all : is_site c h k ≡ true = all_at (is_site c h) sites n is.running.stand (site_below n below) in

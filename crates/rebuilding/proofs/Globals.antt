@@ -32,7 +32,7 @@ at_window sites = rw (lt-ltb 0 built_in_count some_built_in) refl
 
 -- ---- which globals scripts made
 
-counted : length (built_in_at window.0).props ≡ built_in_globals
+pub counted : length (built_in_at window.0).props ≡ built_in_globals
 unfolding built_in_globals
 counted = refl
 

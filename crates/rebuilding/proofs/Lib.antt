@@ -1,8 +1,10 @@
+pub mod Again
 pub mod Agreeing
 pub mod ArrayFills
 pub mod Basics
 pub mod Binds
 pub mod Calling
+pub mod Carried
 pub mod Changing
 pub mod Closures
 pub mod Counterparts
@@ -42,6 +44,7 @@ pub mod Statements
 pub mod Staying
 pub mod Targets
 pub mod Uses
+pub mod WalkedAgain
 pub mod WindowStays
 pub mod WindowsAgree
 pub mod Wrapped

@@ -1,5 +1,6 @@
 -- The script of a saved page loads without a line, as a page that agrees with the one that was saved.
 use Rattle.std.proofs.Common.{◌≡◌, refl, sym, ap, subst, ◌∙◌, ℕ, suc, ◌+◌, ◌-◌, ◌<◌, ◌≤◌, false, List, [], ◌∷◌, ◌++◌, length, arith}
+use Rattle.object_heap.specs.Heap.{Contents}
 use Rattle.page_meaning.specs.Act.{Act}
 use Rattle.page_meaning.specs.Calls.{calls_at}
 use Rattle.page_meaning.specs.Laws.{LoadsSound}
@@ -13,7 +14,7 @@ use Rattle.page_writer.specs.Script.{saved_script, statements}
 use Rattle.rebuild_plan.specs.Compact.{compact, Thing, things_at}
 use Rattle.rebuild_plan.specs.Plan.{defines, fills, makes, plan, prevents}
 use Rattle.rebuild_plan.specs.declared.statement.Rebuild.{Rebuild}
-use Rattle.rebuilding.specs.Laws.{Agrees, ScriptsRebuild}
+use Rattle.rebuilding.specs.Laws.{Agrees, CanBeRebuilt, ScriptsRebuild}
 use Rattle.rebuilding.specs.Rebuilt.{IsRebuilt, PlansRebuild, Succeeds}
 use Rattle.rebuilding.specs.Running.{StatementsRun}
 use Rattle.rebuilding.specs.Scene.{inside, IsRunning}
@@ -46,8 +47,16 @@ plan_long s things =
 
 -- ---- the page that is loaded
 
-pub scripts_rebuild : LoadsSound → StatementsRun → PlansRebuild → ScriptsRebuild
-scripts_rebuild sound run plans s things can =
+-- its heap is one that was rebuilt
+pub record IsScriptOf (s : Store) (things : List ℕ) (t : Store) : Type 0 where
+  pub after : Contents
+  pub sites : List ℕ
+  pub loaded : t ≡ with_heap pristine after
+  pub rebuilt : IsRebuilt scene s things after sites
+
+pub script_rebuilt : LoadsSound → StatementsRun → PlansRebuild → (s : Store) (things : List ℕ) → CanBeRebuilt s things
+    → IsScriptOf s things (load_of (saved_script (plan (compact s things)) ∷ []))
+script_rebuilt sound run plans s things can =
     let rs : List Rebuild = plan (compact s things) in
     let depth : ℕ = depth_limit - 1 in
     let running : IsRunning scene begun [] = begun_running (sound []) in
@@ -63,7 +72,12 @@ scripts_rebuild sound run plans s things can =
     ap (λ m. finished ((task_of (calls_at m) (Script (saved_script rs))).run pristine step_limit)) depth_left
     ∙ ap finished (script_run (calls_at (depth + 1)) rs step_limit out.after out.left out.ends)
     in
+    record { after = out.after; sites = out.sites; loaded = loaded; rebuilt = out.end }
+
+pub scripts_rebuild : LoadsSound → StatementsRun → PlansRebuild → ScriptsRebuild
+scripts_rebuild sound run plans s things can =
+    let out = script_rebuilt sound run plans s things can in
     let agrees : Agrees s (with_heap pristine out.after) =
-    rebuilt_agrees scene s things out.after out.sites can.still can.walk can.need_none out.end
+    rebuilt_agrees scene s things out.after out.sites can.still can.walk can.need_none out.rebuilt
     in
-    subst (λ t. (t.lines ≡ []) × Agrees s t) (sym loaded) (refl, agrees)
+    subst (λ t. (t.lines ≡ []) × Agrees s t) (sym out.loaded) (refl, agrees)

@@ -1,3 +1,4 @@
+pub mod Again
 pub mod Frames
 pub mod Laws
 pub mod Rebuilt

@@ -1,5 +1,6 @@
 //! What holds of saved pages that are loaded.
 
+ghost use Rattle.rebuilding.specs.Again.{SavedAgain};
 ghost use Rattle.rebuilding.specs.Laws.{RebuiltPagesGoOn, ScriptsRebuild};
 ghost use Rattle.rebuilding.specs.Rebuilt.{PlansRebuild};
 ghost use Rattle.rebuilding.specs.Running.{StatementsRun};
@@ -35,4 +36,12 @@ pub fn law_rebuilt_pages_go_on()
     law_paths_lead();
     law_heaps_stay_sound();
     law_events_agree();
+}
+
+/// A page that was rebuilt and is saved again, without events between, has the plan that it was rebuilt from.
+pub fn law_saved_again()
+    ensures { SavedAgain }
+{
+    law_paths_lead();
+    law_heaps_stay_sound();
 }
