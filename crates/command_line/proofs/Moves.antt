@@ -4,7 +4,7 @@ use Rattle.heap_walker.specs.Things.{IsWalk}
 use Rattle.heap_walker.specs.Weight.{load_of, told}
 use Rattle.js_core.specs.Tree as tree
 use Rattle.js_values.specs.declared.event.Event.{Event}
-use Rattle.moved_pages.specs.Moved.{AcceptedScriptsAreInForm, GoesOnAs, MovedPagesGoOn}
+use Rattle.moved_pages.specs.Moved.{AcceptedScriptsAreInForm, CanBeMoved, GoesOnAs, IsShort, MovedPagesGoOn}
 use Rattle.moved_pages.specs.Moved as moved
 use Rattle.page_check.specs.Accept.{IsAcceptedAs}
 use Rattle.page_check.specs.declared.page.Kind.{Kind}
@@ -54,20 +54,30 @@ again_by script text now things f h walk =
     ap (λ (ss : List tree.Stmts). saved_page (run_of ss []) things) f
     ∙ h things (subst (λ (ss : List tree.Stmts). IsWalk (run_of ss []) things) f walk)
 
--- bytes of a page whose scripts are in form, that can be saved
+-- a page whose scripts are in form, that can be saved
+can_be_moved : (formed : AcceptedScriptsAreInForm) (bytes : List ℕ) (page : Page) (earlier : List Event) (things : List ℕ) → Accepts bytes page
+    → IsBuilt page → CanBeSaved (run_of page.scripts earlier) things → CanBeMoved page.scripts earlier things
+can_be_moved formed bytes page earlier things accepted built can = record {
+  in_form = formed bytes page.kind page.scripts accepted built;
+  walked = can.walked;
+  alone = can.alone;
+  literals = can.literals;
+  few = few_things (run_of page.scripts earlier) things can.little;
+  short = little_text (run_of page.scripts earlier) things can.little;
+}
+
+pub saved_short : (formed : AcceptedScriptsAreInForm) (law : MovedPagesGoOn) (bytes : List ℕ) (page : Page) (earlier : List Event) (things : List ℕ)
+    → Accepts bytes page → IsBuilt page → CanBeSaved (run_of page.scripts earlier) things → IsShort (run_of page.scripts earlier) things
+saved_short formed law bytes page earlier things accepted built can =
+    (law page.scripts earlier things (can_be_moved formed bytes page earlier things accepted built can)).1
+
 pub saved_moves : (one : OneAcceptance) (formed : AcceptedScriptsAreInForm) (law : MovedPagesGoOn) (bytes : List ℕ) (page : Page) (earlier : List Event) (things : List ℕ)
     → Accepts bytes page → IsBuilt page → CanBeSaved (run_of page.scripts earlier) things
     → MovesTo bytes earlier (saved_page (run_of page.scripts earlier) things)
 saved_moves one formed law bytes page earlier things accepted built can =
     let text = saved_page (run_of page.scripts earlier) things in
-    let found : moved.GoesOn text page.scripts earlier = law page.scripts earlier things record {
-      in_form = formed bytes page.kind page.scripts accepted built;
-      walked = can.walked;
-      alone = can.alone;
-      literals = can.literals;
-      few = few_things (run_of page.scripts earlier) things can.little;
-      short = little_text (run_of page.scripts earlier) things can.little;
-    } in
+    let found : moved.GoesOn text page.scripts earlier =
+    (law page.scripts earlier things (can_be_moved formed bytes page earlier things accepted built can)).0 in
     record {
       moved = record { kind = Form; scripts = found.script ∷ [] };
       page = record { fits = found.goes_on.fits; accepted = found.goes_on.accepted };

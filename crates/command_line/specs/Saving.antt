@@ -1,5 +1,5 @@
 -- What `save` writes, and that it goes on as the page would.
-use Rattle.std.specs.Prelude.{ℕ, ◌≡◌, ◌<◌, ◌⊎◌, List, []}
+use Rattle.std.specs.Prelude.{ℕ, ◌≡◌, ◌<◌, ◌⊎◌, List, [], ◌+◌, ◌*◌, ◌≤◌, length}
 use Rattle.heap_walker.specs.Alone.{StandAlone}
 use Rattle.heap_walker.specs.Things.{IsWalk}
 use Rattle.heap_walker.specs.Weight.{load_of, told}
@@ -76,6 +76,8 @@ pub record Saves (bytes file text : List ℕ) : Type 0 where
   pub things : List ℕ
   pub after : IsAfter bytes file state things
   pub saved : text ≡ saved_page state things
+  -- at most 160 bytes for each thing, besides its text, and 4,096 more
+  pub short : length text ≤ 160 * (load_of state things).things + (load_of state things).text + 4096
   pub moves : MovesTo bytes after.events text
 
 -- what may have been put where memory ran out: nothing, or a front of the saved page

@@ -82,16 +82,18 @@ moved_pages_go_on bound form lined stand few rest rebuild go_on saved_again scri
     let t : Store = load_of (saved_script rs ∷ []) in
     let ready = can_be_rebuilt few rest scripts earlier things can in
     let written = are_written stand s things at_rest.0 can.walked at_rest.1 can.alone can.literals can.few in
-    let silent : t.lines ≡ [] = (rebuild s things ready).0 in
-    record {
-      script = saved_script rs;
-      goes_on = record {
-        fits = fits (length (saved_page s things)) (weight.load_of s things).things (weight.load_of s things).text
-            (bound s things at_rest.0 can.walked can.few can.literals) can.few can.short;
-        accepted = saved_pages_are_accepted form lined s things at_rest.0 can.walked written;
-        formed = (form s things at_rest.0 can.walked written).formed;
-        silent = silent;
-        again = λ (again : List ℕ) walk. ap (λ c. page_of (plan c)) (saved_again s things again ready walk);
-        same = λ later. ap (λ (ls : List Line). drop (length ls) (run_all t later).lines) silent ∙ go_on s things later ready;
-      };
-    }
+    let silent : t.lines ≡ [] = (rebuild s things ready).0 in (
+      record {
+        script = saved_script rs;
+        goes_on = record {
+          fits = fits (length (saved_page s things)) (weight.load_of s things).things (weight.load_of s things).text
+              (bound s things at_rest.0 can.walked can.few can.literals) can.few can.short;
+          accepted = saved_pages_are_accepted form lined s things at_rest.0 can.walked written;
+          formed = (form s things at_rest.0 can.walked written).formed;
+          silent = silent;
+          again = λ (again : List ℕ) walk. ap (λ c. page_of (plan c)) (saved_again s things again ready walk);
+          same = λ later. ap (λ (ls : List Line). drop (length ls) (run_all t later).lines) silent ∙ go_on s things later ready;
+        };
+      },
+      bound s things at_rest.0 can.walked can.few can.literals,
+    )

@@ -1,5 +1,5 @@
 -- A moved page behaves as if it had never moved.
-use Rattle.std.specs.Prelude.{◌≡◌, ℕ, ◌≤◌, true, List, [], ◌∷◌, length, ◌++◌}
+use Rattle.std.specs.Prelude.{◌≡◌, ℕ, ◌≤◌, true, List, [], ◌∷◌, length, ◌++◌, ◌+◌, ◌*◌}
 use Rattle.std.specs.List.{All, list_all}
 use Rattle.heap_walker.specs.Alone.{StandAlone}
 use Rattle.heap_walker.specs.Things.{IsWalk}
@@ -10,6 +10,7 @@ use Rattle.page_check.specs.Accept.{IsAcceptedAs}
 use Rattle.page_check.specs.declared.page.Kind.{Kind}
 use Rattle.page_check.specs.declared.page.Kind.TheVariants.{Form}
 use Rattle.page_meaning.specs.Pages.{lines_after, lines_of_run, run_of}
+use Rattle.page_meaning.specs.Store.{Store}
 use Rattle.page_rest.specs.Laws.{IsInForm}
 use Rattle.page_writer.specs.Literals.{HaveLiterals}
 use Rattle.page_writer.specs.Page.{saved_page}
@@ -47,10 +48,14 @@ pub record GoesOn (text : List ℕ) (scripts : List tree.Stmts) (earlier : List 
   pub script : tree.Stmts
   pub goes_on : GoesOnAs text scripts earlier script
 
+-- the saved page takes at most 160 bytes for each thing, besides its text, and 4,096 more
+abbrev pub IsShort : Store → List ℕ → Type 0
+IsShort s things = length (saved_page s things) ≤ 160 * (load_of s things).things + (load_of s things).text + 4096
+
 abbrev pub MovedPagesGoOn : Type 0
 MovedPagesGoOn =
     (scripts : List tree.Stmts) (earlier : List Event) (things : List ℕ) → CanBeMoved scripts earlier things
-    → GoesOn (saved_page (run_of scripts earlier) things) scripts earlier
+    → GoesOn (saved_page (run_of scripts earlier) things) scripts earlier × IsShort (run_of scripts earlier) things
 
 -- a page goes on as another one after the earlier events, without a line of its own before
 pub record FollowsFrom (scripts : List tree.Stmts) (earlier : List Event) (moved : List tree.Stmts) : Type 0 where
