@@ -1,5 +1,5 @@
 -- A saved page is accepted, and goes on as the page that was saved.
-use Rattle.std.proofs.Common.{◌≡◌, ◌⊎◌, inl, inr, ℕ, ◌≤◌, ◌<◌, List, [], ◌∷◌, min, refl, sym, ap, subst, ◌∙◌, arith}
+use Rattle.std.proofs.Common.{◌≡◌, ◌⊎◌, inl, inr, ℕ, ◌≤◌, ◌<◌, List, [], ◌∷◌, min, refl, sym, ap, subst, ◌∙◌, arith, ◌+◌, ◌*◌}
 use Rattle.heap_walker.specs.Things.{IsWalk}
 use Rattle.heap_walker.specs.Weight.{load_of, told}
 use Rattle.js_core.specs.Tree as tree
@@ -13,6 +13,7 @@ use Rattle.page_meaning.specs.Pages.{lines_after, lines_of_run, run_of}
 use Rattle.page_meaning.specs.Store.{Store}
 use Rattle.page_writer.specs.Page.{saved_page}
 use Rattle.page_writer.specs.Sizes.{text_limit, things_limit}
+use Rattle.rebuilding.specs.Laws.{LoadsWithin}
 use Rattle.command_line.specs.Moving.{CanBeSaved}
 use Rattle.command_line.specs.Page.{Page, Accepts, IsBuilt}
 use Rattle.command_line.specs.Saving.{GoesOn, IsTooMuch, MovesTo}
@@ -71,12 +72,29 @@ pub saved_short : (formed : AcceptedScriptsAreInForm) (law : MovedPagesGoOn) (by
 saved_short formed law bytes page earlier things accepted built can =
     (law page.scripts earlier things (can_be_moved formed bytes page earlier things accepted built can)).1
 
+more_steps : (script : tree.Stmts) (n : ℕ) → LoadsWithin script (2 * n) → LoadsWithin script (4 * n + 4)
+more_steps script n h = record { signal = h.signal; after = h.after; left = h.left; ends = h.ends; few = omega (arith, h.few) }
+
+pub saved_steps : (one : OneAcceptance) (formed : AcceptedScriptsAreInForm) (law : MovedPagesGoOn) (bytes : List ℕ) (page : Page) (earlier : List Event) (things : List ℕ)
+    → Accepts bytes page → IsBuilt page → CanBeSaved (run_of page.scripts earlier) things
+    → (now : Page) (script : tree.Stmts) → Accepts (saved_page (run_of page.scripts earlier) things) now → now.scripts ≡ script ∷ []
+    → LoadsWithin script (4 * (load_of (run_of page.scripts earlier) things).things + 4)
+saved_steps one formed law bytes page earlier things accepted built can now script b only =
+    let text = saved_page (run_of page.scripts earlier) things in
+    let n : ℕ = (load_of (run_of page.scripts earlier) things).things in
+    let found : moved.GoesOn text page.scripts earlier (2 * n) =
+    (law page.scripts earlier things (can_be_moved formed bytes page earlier things accepted built can)).0 in
+    let at_last = one text now.kind Form now.scripts (found.script ∷ []) b found.goes_on.accepted in
+    let same : script ∷ [] ≡ found.script ∷ [] = sym only ∙ at_last.1 in
+    let one_script : script ≡ found.script = cc same in
+    subst (λ (c : tree.Stmts). LoadsWithin c (4 * n + 4)) (sym one_script) (more_steps found.script n found.within)
+
 pub saved_moves : (one : OneAcceptance) (formed : AcceptedScriptsAreInForm) (law : MovedPagesGoOn) (bytes : List ℕ) (page : Page) (earlier : List Event) (things : List ℕ)
     → Accepts bytes page → IsBuilt page → CanBeSaved (run_of page.scripts earlier) things
     → MovesTo bytes earlier (saved_page (run_of page.scripts earlier) things)
 saved_moves one formed law bytes page earlier things accepted built can =
     let text = saved_page (run_of page.scripts earlier) things in
-    let found : moved.GoesOn text page.scripts earlier =
+    let found : moved.GoesOn text page.scripts earlier (2 * (load_of (run_of page.scripts earlier) things).things) =
     (law page.scripts earlier things (can_be_moved formed bytes page earlier things accepted built can)).0 in
     record {
       moved = record { kind = Form; scripts = found.script ∷ [] };

@@ -16,7 +16,7 @@ use Rattle.command_line.specs.Replay.{IsEventFile}
 use Rattle.command_line.specs.Saving.{Begins, IsAfter, IsMovable, IsTooLarge, NeedsScopes, Saves}
 use Rattle.command_line.specs.Stages.{Of}
 use Rattle.command_line.specs.Texts.{Writes}
-use Rattle.command_line.proofs.Moves.{OneAcceptance, saved_moves, saved_short}
+use Rattle.command_line.proofs.Moves.{OneAcceptance, saved_moves, saved_short, saved_steps}
 
 -- what `replay` writes for a page
 replayed : (bytes file : List ℕ) (page : Page) (events : List Event) (text : List ℕ) → IsPage bytes page → IsEventFile file events
@@ -64,6 +64,7 @@ module _ (page file : Told) (of : Page) (events : List Event) (both : Both page 
     after = is_after bytes content of events things p e can.walked;
     saved = refl;
     short = saved_short formed law bytes of events things p.accepted built can;
+    steps = saved_steps one formed law bytes of events things p.accepted built can;
     moves = saved_moves one formed law bytes of events things p.accepted built can;
   }
 

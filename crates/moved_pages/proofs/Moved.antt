@@ -27,7 +27,7 @@ use Rattle.rebuild_plan.specs.Plan.{plan}
 use Rattle.rebuild_plan.specs.Stands.{PlansStand}
 use Rattle.rebuild_plan.specs.declared.statement.Rebuild.{Rebuild}
 use Rattle.rebuilding.specs.Again.{SavedAgain}
-use Rattle.rebuilding.specs.Laws.{CanBeRebuilt, RebuiltPagesGoOn, ScriptsRebuild}
+use Rattle.rebuilding.specs.Laws.{LoadsWithin, ScriptsTakeFewSteps, CanBeRebuilt, RebuiltPagesGoOn, ScriptsRebuild}
 use Rattle.rebuilding.specs.Rebuilt.{NeedNone, is_none, needs_none}
 use Rattle.scope_analysis.specs.FreeUses.{needed_variables}
 use Rattle.moved_pages.specs.Moved.{CanBeMoved, MovedPagesGoOn, longest_page}
@@ -55,6 +55,10 @@ few_steps : (n load : ℕ) → n ≤ 2 * load → load ≤ 75000 → n < step_li
 unfolding step_limit
 few_steps n load few small = omega arith
 
+-- what takes few steps takes no more than more
+loads_within : (script : tree.Stmts) (n m : ℕ) → n ≤ m → LoadsWithin script n → LoadsWithin script m
+loads_within script n m more h = record { signal = h.signal; after = h.after; left = h.left; ends = h.ends; few = omega (arith, more, h.few) }
+
 -- the largest saved page is short enough to be read
 fits : (n things text : ℕ) → n ≤ 160 * things + text + 4096 → things ≤ things_limit → text ≤ text_limit → n ≤ longest_page
 fits n things text bound few short = omega arith
@@ -73,9 +77,9 @@ can_be_rebuilt few rest scripts earlier things can =
 
 -- ---- the law
 
-pub moved_pages_go_on : PagesAreShort → SavedScriptsAreForm → LinedScriptsAreReadAgain → PlansStand → PlansAreFew → PagesRest → ScriptsRebuild → RebuiltPagesGoOn → SavedAgain
+pub moved_pages_go_on : PagesAreShort → SavedScriptsAreForm → LinedScriptsAreReadAgain → PlansStand → PlansAreFew → PagesRest → ScriptsRebuild → RebuiltPagesGoOn → SavedAgain → ScriptsTakeFewSteps
     → MovedPagesGoOn
-moved_pages_go_on bound form lined stand few rest rebuild go_on saved_again scripts earlier things can =
+moved_pages_go_on bound form lined stand few rest rebuild go_on saved_again steps scripts earlier things can =
     let s : Store = run_of scripts earlier in
     let at_rest = rest scripts earlier things can.in_form can.walked can.alone in
     let rs : List Rebuild = plan (compact s things) in
@@ -85,6 +89,7 @@ moved_pages_go_on bound form lined stand few rest rebuild go_on saved_again scri
     let silent : t.lines ≡ [] = (rebuild s things ready).0 in (
       record {
         script = saved_script rs;
+        within = loads_within (saved_script rs) (length rs) (2 * (weight.load_of s things).things) (few s things) (steps s things ready);
         goes_on = record {
           fits = fits (length (saved_page s things)) (weight.load_of s things).things (weight.load_of s things).text
               (bound s things at_rest.0 can.walked can.few can.literals) can.few can.short;

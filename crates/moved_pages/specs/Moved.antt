@@ -17,6 +17,7 @@ use Rattle.page_writer.specs.Page.{saved_page}
 use Rattle.page_writer.specs.Sizes.{text_limit, things_limit}
 use Rattle.rebuild_plan.specs.Compact.{compact}
 use Rattle.rebuild_plan.specs.Plan.{plan}
+use Rattle.rebuilding.specs.Laws.{LoadsWithin}
 use Rattle.scope_analysis.specs.Form.{in_form}
 
 -- scripts of form pages, after whose events these things can be reached; each function among them stands alone, what they write can be
@@ -44,8 +45,10 @@ pub record GoesOnAs (text : List ℕ) (scripts : List tree.Stmts) (earlier : Lis
   -- saved again, without events, it has the same text
   pub again : (things : List ℕ) → IsWalk (run_of (script ∷ []) []) things → saved_page (run_of (script ∷ []) []) things ≡ text
 
-pub record GoesOn (text : List ℕ) (scripts : List tree.Stmts) (earlier : List Event) : Type 0 where
+-- so does some script, which takes at most so many steps when it loads
+pub record GoesOn (text : List ℕ) (scripts : List tree.Stmts) (earlier : List Event) (steps : ℕ) : Type 0 where
   pub script : tree.Stmts
+  pub within : LoadsWithin script steps
   pub goes_on : GoesOnAs text scripts earlier script
 
 -- the saved page takes at most 160 bytes for each thing, besides its text, and 4,096 more
@@ -55,7 +58,8 @@ IsShort s things = length (saved_page s things) ≤ 160 * (load_of s things).thi
 abbrev pub MovedPagesGoOn : Type 0
 MovedPagesGoOn =
     (scripts : List tree.Stmts) (earlier : List Event) (things : List ℕ) → CanBeMoved scripts earlier things
-    → GoesOn (saved_page (run_of scripts earlier) things) scripts earlier × IsShort (run_of scripts earlier) things
+    → GoesOn (saved_page (run_of scripts earlier) things) scripts earlier (2 * (load_of (run_of scripts earlier) things).things)
+    × IsShort (run_of scripts earlier) things
 
 -- a page goes on as another one after the earlier events, without a line of its own before
 pub record FollowsFrom (scripts : List tree.Stmts) (earlier : List Event) (moved : List tree.Stmts) : Type 0 where

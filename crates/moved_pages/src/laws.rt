@@ -10,7 +10,9 @@ use page_meaning::laws::law_lines_grow;
 use page_rest::law_pages_rest;
 use page_writer::{law_pages_are_short, law_saved_scripts_are_form};
 use rebuild_plan::{law_plans_are_few, law_plans_stand};
-use rebuilding::{law_rebuilt_pages_go_on, law_saved_again, law_scripts_rebuild};
+use rebuilding::{
+    law_rebuilt_pages_go_on, law_saved_again, law_scripts_rebuild, law_scripts_take_few_steps,
+};
 
 /// The saved page of a page at rest, whose statements can be written, is accepted as a form page.
 pub fn law_saved_pages_are_accepted()
@@ -34,6 +36,7 @@ pub fn law_moved_pages_go_on()
     law_scripts_rebuild();
     law_rebuilt_pages_go_on();
     law_saved_again();
+    law_scripts_take_few_steps();
 }
 
 /// A page that is moved and then moved again goes on as the first one after all events: any number of moves

@@ -1,7 +1,7 @@
 -- The script of a saved page loads without a line, as a page that agrees with the one that was saved.
 use Rattle.std.proofs.Common.{◌≡◌, refl, sym, ap, subst, ◌∙◌, ℕ, suc, ◌+◌, ◌-◌, ◌<◌, ◌≤◌, false, List, [], ◌∷◌, ◌++◌, length, arith}
 use Rattle.object_heap.specs.Heap.{Contents}
-use Rattle.page_meaning.specs.Act.{Act}
+use Rattle.page_meaning.specs.Act.{Act, Ended, nothing}
 use Rattle.page_meaning.specs.Calls.{calls_at}
 use Rattle.page_meaning.specs.Laws.{LoadsSound}
 use Rattle.page_meaning.specs.Pages.{load_of}
@@ -14,7 +14,7 @@ use Rattle.page_writer.specs.Script.{saved_script, statements}
 use Rattle.rebuild_plan.specs.Compact.{compact, Thing, things_at}
 use Rattle.rebuild_plan.specs.Plan.{defines, fills, makes, plan, prevents}
 use Rattle.rebuild_plan.specs.declared.statement.Rebuild.{Rebuild}
-use Rattle.rebuilding.specs.Laws.{Agrees, CanBeRebuilt, ScriptsRebuild}
+use Rattle.rebuilding.specs.Laws.{Agrees, CanBeRebuilt, LoadsWithin, ScriptsRebuild, ScriptsTakeFewSteps}
 use Rattle.rebuilding.specs.Rebuilt.{IsRebuilt, PlansRebuild, Succeeds}
 use Rattle.rebuilding.specs.Running.{StatementsRun}
 use Rattle.rebuilding.specs.Scene.{inside, IsRunning}
@@ -51,6 +51,7 @@ plan_long s things =
 pub record IsScriptOf (s : Store) (things : List ℕ) (t : Store) : Type 0 where
   pub after : Contents
   pub sites : List ℕ
+  pub within : LoadsWithin (saved_script (plan (compact s things))) (length (plan (compact s things)))
   pub loaded : t ≡ with_heap pristine after
   pub rebuilt : IsRebuilt scene s things after sites
 
@@ -65,14 +66,20 @@ script_rebuilt sound run plans s things can =
     (omega (arith, plan_long s things, can.few, few_steps)) running begun_window
     in
     let all : Act = exec_all (calls_at (depth + 1)) (inside scene) (statements rs) in
-    let out : Finishes (IsRebuilt scene s things) (with_heap pristine begun) (all.run (with_heap pristine begun) step_limit) =
+    let out : Finishes (IsRebuilt scene s things) (with_heap pristine begun) (step_limit - length rs) (all.run (with_heap pristine begun) step_limit) =
     all_run run scene (IsRebuilt scene s things) depth rs (with_heap pristine begun) [] step_limit (omega (arith, can.few)) running able
     in
-    let loaded : load_of (saved_script rs ∷ []) ≡ with_heap pristine out.after =
-    ap (λ m. finished ((task_of (calls_at m) (Script (saved_script rs))).run pristine step_limit)) depth_left
-    ∙ ap finished (script_run (calls_at (depth + 1)) rs step_limit out.after out.left out.ends)
+    let ends : (task_of (calls_at depth_limit) (Script (saved_script rs))).run pristine step_limit ≡ Ended nothing (with_heap pristine out.after) out.left =
+    ap (λ m. (task_of (calls_at m) (Script (saved_script rs))).run pristine step_limit) depth_left
+    ∙ script_run (calls_at (depth + 1)) rs step_limit out.after out.left out.ends
     in
-    record { after = out.after; sites = out.sites; loaded = loaded; rebuilt = out.end }
+    record {
+      after = out.after;
+      sites = out.sites;
+      within = record { signal = nothing; after = with_heap pristine out.after; left = out.left; ends = ends; few = omega (arith, out.few) };
+      loaded = ap finished ends;
+      rebuilt = out.end;
+    }
 
 pub scripts_rebuild : LoadsSound → StatementsRun → PlansRebuild → ScriptsRebuild
 scripts_rebuild sound run plans s things can =
@@ -81,3 +88,6 @@ scripts_rebuild sound run plans s things can =
     rebuilt_agrees scene s things out.after out.sites can.still can.walk can.need_none out.rebuilt
     in
     subst (λ t. (t.lines ≡ []) × Agrees s t) (sym out.loaded) (refl, agrees)
+
+pub scripts_take_few_steps : LoadsSound → StatementsRun → PlansRebuild → ScriptsTakeFewSteps
+scripts_take_few_steps sound run plans s things can = (script_rebuilt sound run plans s things can).within

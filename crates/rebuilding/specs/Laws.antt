@@ -1,11 +1,16 @@
 -- A saved page goes on as the page that was saved.
-use Rattle.std.specs.Prelude.{◌≡◌, ℕ, ◌<◌, List, [], ◌∷◌, drop, length}
+use Rattle.std.specs.Prelude.{◌≡◌, ℕ, ◌<◌, List, [], ◌∷◌, drop, length, ◌+◌, ◌≤◌}
 use Rattle.heap_walker.specs.Still.{Still}
 use Rattle.heap_walker.specs.Things.{IsWalk}
 use Rattle.js_values.specs.declared.event.Event.{Event}
 use Rattle.page_meaning.specs.Pages.{load_of, run_all}
 use Rattle.page_meaning.specs.Store.{Store}
-use Rattle.page_meaning.specs.Tasks.{step_limit}
+use Rattle.page_meaning.specs.Act.{Ended}
+use Rattle.page_meaning.specs.Calls.{calls_at}
+use Rattle.page_meaning.specs.Pristine.{pristine}
+use Rattle.page_meaning.specs.Tasks.{Script, depth_limit, step_limit, task_of}
+use Rattle.page_meaning.specs.declared.signal.Signal.{Signal}
+use Rattle.js_core.specs.Tree.{Stmts}
 use Rattle.page_writer.specs.Literals.{HaveLiterals}
 use Rattle.page_writer.specs.Script.{saved_script}
 use Rattle.rebuild_plan.specs.Compact.{compact}
@@ -41,3 +46,16 @@ abbrev pub RebuiltPagesGoOn : Type 0
 RebuiltPagesGoOn =
     (s : Store) (things : List ℕ) (later : List Event) → CanBeRebuilt s things
     → (run_all (load_of (saved_script (plan (compact s things)) ∷ [])) later).lines ≡ drop (length s.lines) (run_all s later).lines
+
+-- the task of a script, from a page before its scripts, ends by itself with at most so many steps fewer
+pub record LoadsWithin (script : Stmts) (steps : ℕ) : Type 0 where
+  pub signal : Signal
+  pub after : Store
+  pub left : ℕ
+  pub ends : (task_of (calls_at depth_limit) (Script script)).run pristine step_limit ≡ Ended signal after left
+  pub few : step_limit ≤ left + steps
+
+-- that of a saved script takes at most a step for each statement
+abbrev pub ScriptsTakeFewSteps : Type 0
+ScriptsTakeFewSteps =
+    (s : Store) (things : List ℕ) → CanBeRebuilt s things → LoadsWithin (saved_script (plan (compact s things))) (length (plan (compact s things)))

@@ -1,7 +1,7 @@
 //! What holds of saved pages that are loaded.
 
 ghost use Rattle.rebuilding.specs.Again.{SavedAgain};
-ghost use Rattle.rebuilding.specs.Laws.{RebuiltPagesGoOn, ScriptsRebuild};
+ghost use Rattle.rebuilding.specs.Laws.{RebuiltPagesGoOn, ScriptsRebuild, ScriptsTakeFewSteps};
 ghost use Rattle.rebuilding.specs.Rebuilt.{PlansRebuild};
 ghost use Rattle.rebuilding.specs.Running.{StatementsRun};
 
@@ -24,6 +24,14 @@ pub fn law_plans_rebuild()
 /// The saved script of such a page loads without a line, and the page that it leaves agrees with the one that was saved.
 pub fn law_scripts_rebuild()
     ensures { ScriptsRebuild }
+{
+    law_paths_lead();
+    law_heaps_stay_sound();
+}
+
+/// Its script takes at most a step for each statement of the plan, from a page before its scripts.
+pub fn law_scripts_take_few_steps()
+    ensures { ScriptsTakeFewSteps }
 {
     law_paths_lead();
     law_heaps_stay_sound();

@@ -6,5 +6,5 @@ mod laws;
 
 pub use laws::{
     law_plans_rebuild, law_rebuilt_pages_go_on, law_saved_again, law_scripts_rebuild,
-    law_statements_run,
+    law_scripts_take_few_steps, law_statements_run,
 };
