@@ -4,7 +4,6 @@ pub mod Costs
 pub mod Fitness
 pub mod FormFunctions
 pub mod FormPlans
-pub mod KeptRules
 pub mod Lined
 pub mod LowFunctions
 pub mod OwnUses

@@ -21,7 +21,7 @@ use Rattle.scope_analysis.specs.declared.jump.Jump.TheVariants as jump
 use Rattle.scope_analysis.specs.declared.name_use.Use.{Use}
 use Rattle.page_writer.proofs.FormFunctions.{IsFormFunction, called, none_pass}
 use Rattle.page_writer.proofs.FormPlans.{IsInForm, plan_in_form}
-use Rattle.page_writer.proofs.KeptRules.{KeepsRules, none_is_broken, rules_are_kept}
+use Rattle.scope_analysis.proofs.Callers.{KeepsRules, none_is_broken, rules_are_kept}
 use Rattle.page_writer.proofs.LowFunctions.{functions_are_low}
 use Rattle.page_writer.proofs.OwnUses.{clause_leaves, list_is_not_captured, list_name, statements_own}
 use Rattle.page_writer.proofs.QuietParts.{script_quiet}

@@ -1,6 +1,8 @@
 pub mod Callees
+pub mod Callers
 pub mod Chains
 pub mod FreeOccurrences
+pub mod KeptRules
 pub mod MarkLists
 pub mod Outwards
 pub mod Repeats
