@@ -1,8 +1,8 @@
 -- The parts of a page's text, in their order: each is forced.
-use Rattle.std.proofs.Common.{◌≡◌, ◌≢◌, ℕ, ◌-◌, ◌≤◌, Bool, true, false, List, [], ◌∷◌, ◌++◌, length, drop, refl, sym, ap, ◌∙◌, append_assoc, true≢false, arith, length-append}
+use Rattle.std.proofs.Common.{◌≡◌, ◌≢◌, ℕ, ◌-◌, ◌≤◌, Bool, true, false, Option, Some, None, List, [], ◌∷◌, ◌++◌, length, drop, get_or, refl, sym, ap, ◌∙◌, append_assoc, true≢false, arith, length-append}
 use Rattle.std.proofs.lemmas.List.{append_cancel_left, append_cancel_right, append-nil}
 use Rattle.std.proofs.Math.Seq.{drop-append_seam}
-use Rattle.std.specs.Prelude.{codes}
+use Rattle.std.specs.Prelude.{MatchOption, codes, is_some}
 use Rattle.page_check.specs.Frame.{Opening, nothing, byte_order_mark, form_mark, opening_text, kind_of, body_text, has_zero, has_end_tag, IsFramePage}
 use Rattle.page_check.specs.declared.page.Kind.{Kind}
 use Rattle.page_check.specs.declared.page.Kind.TheVariants.{Plain}
@@ -78,3 +78,32 @@ second_end_tag text left inner kind over e has other another page =
 -- nothing closes the script at the end
 pub no_end : (text left : List ℕ) (kind : Kind) → LeftOver text kind left → ((inner : List ℕ) → ¬ (left ≡ inner ++ codes "</script></html>")) → (other : Kind) (inner : List ℕ) → ¬ IsFramePage text other inner
 no_end text left kind over off other inner page = off inner (over.there other inner page)
+
+-- what stands behind `<html>`
+pub behind_html : (text behind_opening behind_html inner : List ℕ) (kind other : Kind)
+    → ((opening : Opening) (rest : List ℕ) → text ≡ opening_text opening ++ (codes "<html>" ++ rest) → (kind_of opening ≡ kind) × (behind_opening ≡ codes "<html>" ++ rest))
+    → (page : IsFramePage text other inner) → behind_opening ≡ codes "<html>" ++ behind_html
+    → behind_html ≡ body_text page.with_body ++ (codes "<script>" ++ (inner ++ codes "</script></html>"))
+behind_html text r0 r1 inner kind other forced page html =
+    let end : List ℕ = inner ++ codes "</script></html>" in
+    let split = page.whole ∙ nested (opening_text page.opening) (codes "<html>") (body_text page.with_body) (codes "<script>") inner (codes "</script></html>") in
+    append_cancel_left (codes "<html>") r1 (body_text page.with_body ++ (codes "<script>" ++ end))
+    (sym html ∙ (forced page.opening (body_text page.with_body ++ (codes "<script>" ++ end)) split).1)
+
+-- an empty body stands there, or none does
+body_there : (html tail more : List ℕ) (with_body : Bool) → html ≡ body_text with_body ++ (codes "<script>" ++ more)
+    → html ≡ codes "<body></body>" ++ tail → with_body ≡ true
+body_there html tail more true e f = refl
+body_there html tail more false e f =
+    let h : 115 ≡ 98 = ap (λ (l : List ℕ). get_or l 1 0) (sym e ∙ f) in absurd (omega (arith, h))
+
+no_body_there : (html more : List ℕ) (with_body : Bool) → html ≡ body_text with_body ++ (codes "<script>" ++ more)
+    → ((tail : List ℕ) → ¬ (html ≡ codes "<body></body>" ++ tail)) → with_body ≡ false
+no_body_there html more true e off = absurd (off (codes "<script>" ++ more) e)
+no_body_there html more false e off = refl
+
+-- what is looked for behind `<html>` tells it
+pub body_told : {A : Type 0} (found : Option A) (now : A → List ℕ) (html more : List ℕ) (with_body : Bool) → html ≡ body_text with_body ++ (codes "<script>" ++ more)
+    → MatchOption found ((tail : List ℕ) → ¬ (html ≡ codes "<body></body>" ++ tail)) (λ tail. html ≡ codes "<body></body>" ++ now tail) → with_body ≡ is_some found
+body_told (Some tail) now html more with_body e f = body_there html (now tail) more with_body e f
+body_told None now html more with_body e off = no_body_there html more with_body e off

@@ -1,10 +1,12 @@
 //! Accepting a page.
 
-ghost use Rattle.std.specs.Prelude.{◌≡◌, IfOk, IfErr};
-ghost use Rattle.page_check.specs.Accept.{IsAccepted, IsNotAccepted, text_of};
+ghost use Rattle.std.specs.Prelude.{◌≡◌, IfOk, IfErr, List};
+ghost use Rattle.js_core.specs.Tree.{Stmts};
+ghost use Rattle.page_check.specs.Accept.{IsAccepted, IsAcceptedAs, IsNotAccepted, text_of};
 ghost use Rattle.page_check.specs.Faults as spec;
+ghost use Rattle.page_check.specs.declared.page.Kind.{Kind as PageKind};
 
-use crate::frame::{frame, with_line_feeds};
+use crate::frame::{frame, has_body, with_line_feeds};
 use crate::page::{AcceptFault, Accepted, Refusal};
 use crate::script::{ScriptFault, page_script};
 use js_core::memory::OutOfMemory;
@@ -33,6 +35,18 @@ pub fn accept(alloc: Global, bytes: &[u8]) -> Result<Accepted, AcceptFault>
         }),
         Err(fault) => Err(at_script(1, fault)),
     }
+}
+
+/// Whether an empty body stands before the script of an accepted page.
+pub fn page_has_body(alloc: Global, bytes: &[u8]) -> Result<bool, OutOfMemory>
+    ensures { IfOk result (λ has. (kind : PageKind) (scripts : List Stmts) →
+        (page : IsAcceptedAs bytes.now kind scripts) → page.framed.with_body ≡ has) }
+{
+    let Ok(text) = str::from_utf8(bytes) else {
+        return Ok(false);
+    };
+    let page = page_text(alloc, text)?;
+    Ok(has_body(page.as_slice()))
 }
 
 /// The units of a text, with its line ends made LF.

@@ -61,6 +61,18 @@ pub fn frame(text: &[u16]) -> Option<(Kind, &[u16])>
     Some((kind, inner))
 }
 
+/// Whether an empty body stands before the script, where the text is that of a page.
+pub fn has_body(text: &[u16]) -> bool
+    ensures { (kind : PageKind) (inner : List ℕ) →
+        (page : IsFramePage text.now kind inner) → page.with_body ≡ result }
+{
+    let (_, rest) = behind_opening(text);
+    match behind(rest, b"<html>") {
+        Some(rest) => behind(rest, b"<body></body>").is_some(),
+        None => false,
+    }
+}
+
 fn has_zero(text: &[u16]) -> bool
     ensures { result ≡ spec.has_zero text.now }
 {

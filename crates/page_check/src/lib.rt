@@ -10,6 +10,6 @@ mod laws;
 mod page;
 mod script;
 
-pub use acceptance::accept;
+pub use acceptance::{accept, page_has_body};
 pub use laws::{law_one_answer, law_one_frame};
 pub use page::{AcceptFault, Accepted, Kind, Refusal};

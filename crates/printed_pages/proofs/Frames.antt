@@ -1,0 +1,163 @@
+-- That a text between the frame of a form page is that of its script, where it has neither an end tag nor another control character than LF.
+use Rattle.std.proofs.Common.{◌≡◌, ◌∙◌, ℕ, ◌<◌, Bool, true, false, List, [], ◌∷◌, ◌++◌, refl, sym, ap, arith}
+use Rattle.std.specs.Prelude.{not, ◌&&◌, ◌||◌, ◌==◌, if◌then◌else◌, nat_lt, codes, encode_utf8, encode_utf8_all, IsUtf8}
+use Rattle.std.specs.Char.Escape.{encode_utf16}
+use Rattle.std.specs.List.{list_all, flat_map}
+use Rattle.std.specs.Str.{all_scalars}
+use Rattle.std.proofs.lemmas.Bool.Decides.{nat_tests}
+use Rattle.std.proofs.lemmas.Grind.{flat_map-append}
+use Rattle.std.proofs.lemmas.List.Folds.{list_all-append}
+use Rattle.std.proofs.lemmas.Str.{chars-encodes, encodes-append, encode_ascii, IsUtf8-append}
+use Rattle.js_core.specs.Text.{utf16_of}
+use Rattle.js_print.specs.Laws.{HasNoEndTag, is_ascii_text}
+use Rattle.js_print.specs.Lined.{is_lined}
+use Rattle.page_check.specs.Accept.{text_of}
+use Rattle.page_check.specs.Frame.{IsFramePage, begins_in_any_case, begins_with_line_feed, body_text, form_mark, has_end_tag, has_zero, lower_case, opening_text, with_line_feeds}
+use Rattle.page_check.specs.declared.page.Kind.TheVariants.{Form}
+use Rattle.printed_pages.specs.Printed.{framed, page_back, page_front}
+
+and_left : (a b : Bool) → (a && b) ≡ true → a ≡ true
+and_left true b e = refl
+and_left false b e = e
+
+and_right : (a b : Bool) → (a && b) ≡ true → b ≡ true
+and_right true b e = e
+and_right false b e = absurd (cc)
+
+and_both : (a b : Bool) → a ≡ true → b ≡ true → (a && b) ≡ true
+and_both a b e f = ap (λ (c : Bool). c && b) e ∙ f
+
+-- ---- no end tag
+
+less_alone : (u : ℕ) → (lower_case u == 60) ≡ true → u ≡ 60
+less_alone u e = grind (arith, nat_tests)
+
+slash_alone : (u : ℕ) → (lower_case u == 47) ≡ true → u ≡ 47
+slash_alone u e = grind (arith, nat_tests)
+
+tag_begins : (u : ℕ) (us : List ℕ) → HasNoEndTag (u ∷ us) → begins_in_any_case (codes "</script") (u ∷ us) ≡ true → ⊥
+tag_begins u [] none e = absurd (cc (and_right (lower_case u == 60) false e))
+tag_begins u (v ∷ us) none e =
+    let less = less_alone u (and_left (lower_case u == 60) _ e) in
+    let slash = slash_alone v (and_left (lower_case v == 47) _ (and_right (lower_case u == 60) _ e)) in
+    none [] us (ap (λ (x : ℕ). x ∷ v ∷ us) less ∙ ap (λ (x : ℕ). 60 ∷ x ∷ us) slash)
+
+pub no_end_tag : (us : List ℕ) → HasNoEndTag us → has_end_tag us ≡ false
+no_end_tag [] none = refl
+no_end_tag (u ∷ us) none =
+    by (begins_in_any_case (codes "</script") (u ∷ us)) (tag_begins u us none)
+    (no_end_tag us (λ before after e. none (u ∷ before) after (ap (λ (x : List ℕ). u ∷ x) e)))
+  where
+    by : (b : Bool) → (b ≡ true → ⊥) → has_end_tag us ≡ false → (b || has_end_tag us) ≡ false
+    by true none more = absurd (none refl)
+    by false none more = more
+
+-- ---- line ends, and U+0000
+
+-- it is no CR and not U+0000
+abbrev stays : ℕ → Bool
+stays u = not (u == 13) && not (u == 0)
+
+lined_stays : (u : ℕ) → is_lined u ≡ true → stays u ≡ true
+lined_stays u e = grind (arith, nat_tests)
+
+all_stay : (us : List ℕ) → list_all is_lined us ≡ true → list_all stays us ≡ true
+all_stay [] e = refl
+all_stay (u ∷ us) e = and_both (stays u) _ (lined_stays u (and_left (is_lined u) _ e)) (all_stay us (and_right (is_lined u) _ e))
+
+with_same : (us : List ℕ) → list_all stays us ≡ true → with_line_feeds us ≡ us
+with_same [] e = refl
+with_same (u ∷ us) e = by (u == 13) (and_left (not (u == 13)) _ (and_left (stays u) _ e)) (with_same us (and_right (stays u) _ e))
+  where
+    by : (b : Bool) → not b ≡ true → with_line_feeds us ≡ us
+        → (if b then (if begins_with_line_feed us then with_line_feeds us else 10 ∷ with_line_feeds us) else u ∷ with_line_feeds us) ≡ u ∷ us
+    by true off more = absurd (cc)
+    by false off more = ap (λ (x : List ℕ). u ∷ x) more
+
+zero_free : (us : List ℕ) → list_all stays us ≡ true → has_zero us ≡ false
+zero_free [] e = refl
+zero_free (u ∷ us) e = by (u == 0) (and_right (not (u == 13)) _ (and_left (stays u) _ e)) (zero_free us (and_right (stays u) _ e))
+  where
+    by : (b : Bool) → not b ≡ true → has_zero us ≡ false → (b || has_zero us) ≡ false
+    by true off more = absurd (cc)
+    by false off more = more
+
+-- ---- units of a text between others
+
+both_scalars : (cs ds : List ℕ) → all_scalars cs ≡ true → all_scalars ds ≡ true → all_scalars (cs ++ ds) ≡ true
+both_scalars [] ds e f = f
+both_scalars (c ∷ cs) ds e f = and_both _ _ (and_left _ _ e) (both_scalars cs ds (and_right _ _ e) f)
+
+spelt : (cs : List ℕ) → all_scalars cs ≡ true → utf16_of (encode_utf8_all cs) ≡ flat_map encode_utf16 cs
+spelt cs e = ap (flat_map encode_utf16) (chars-encodes cs e)
+
+units_join : (t s : List ℕ) → IsUtf8 t → IsUtf8 s → utf16_of (t ++ s) ≡ utf16_of t ++ utf16_of s
+units_join t s a b =
+    ap utf16_of (ap (λ (x : List ℕ). x ++ s) (sym a.1.1) ∙ ap (λ (x : List ℕ). encode_utf8_all a.0 ++ x) (sym b.1.1) ∙ sym (encodes-append a.0 b.0))
+    ∙ spelt (a.0 ++ b.0) (both_scalars a.0 b.0 a.1.0 b.1.0) ∙ flat_map-append encode_utf16 a.0 b.0
+    ∙ ap (λ (x : List ℕ). x ++ flat_map encode_utf16 b.0) (sym (spelt a.0 a.1.0) ∙ ap utf16_of a.1.1)
+    ∙ ap (λ (x : List ℕ). utf16_of t ++ x) (sym (spelt b.0 b.1.0) ∙ ap utf16_of b.1.1)
+
+-- ---- the frame
+
+low_byte : (u : ℕ) → nat_lt u 128 ≡ true → u < 128
+low_byte u e = grind (arith, nat_tests)
+
+ascii_bytes : (us : List ℕ) → is_ascii_text us ≡ true → encode_utf8_all us ≡ us
+ascii_bytes [] e = refl
+ascii_bytes (u ∷ us) e =
+    ap (λ (x : List ℕ). encode_utf8 u ++ x) (ascii_bytes us (and_right (nat_lt u 128) _ e))
+    ∙ ap (λ (x : List ℕ). x ++ us) (encode_ascii u (low_byte u (and_left (nat_lt u 128) _ e)))
+
+-- a text of characters that are units and bytes
+record Same (us : List ℕ) : Type 0 where
+  utf8 : IsUtf8 us
+  units : utf16_of us ≡ us
+
+same_units : (us : List ℕ) → is_ascii_text us ≡ true → all_scalars us ≡ true → flat_map encode_utf16 us ≡ us → Same us
+same_units us low scalars alone =
+    let bytes = ascii_bytes us low in
+    record { utf8 = (us, (scalars, bytes)); units = ap utf16_of (sym bytes) ∙ ap (flat_map encode_utf16) (chars-encodes us scalars) ∙ alone }
+
+front_same : (with_body : Bool) → Same (page_front with_body)
+front_same true = same_units (page_front true) refl refl refl
+front_same false = same_units (page_front false) refl refl refl
+
+back_same : Same page_back
+back_same = same_units page_back refl refl refl
+
+pub framed_is_utf8 : (with_body : Bool) (t : List ℕ) → IsUtf8 t → IsUtf8 (framed with_body t)
+framed_is_utf8 with_body t u =
+    IsUtf8-append (page_front with_body) (t ++ page_back) (front_same with_body).utf8 (IsUtf8-append t page_back u back_same.utf8)
+
+framed_units : (with_body : Bool) (t : List ℕ) → IsUtf8 t → utf16_of (framed with_body t) ≡ framed with_body (utf16_of t)
+framed_units with_body t u =
+    units_join (page_front with_body) (t ++ page_back) (front_same with_body).utf8 (IsUtf8-append t page_back u back_same.utf8)
+    ∙ ap (λ (x : List ℕ). x ++ utf16_of (t ++ page_back)) (front_same with_body).units
+    ∙ ap (λ (x : List ℕ). page_front with_body ++ x) (units_join t page_back u back_same.utf8 ∙ ap (λ (x : List ℕ). utf16_of t ++ x) back_same.units)
+
+-- what stays of the frame round units that stay
+framed_stays : (with_body : Bool) (us : List ℕ) → list_all stays us ≡ true → list_all stays (framed with_body us) ≡ true
+framed_stays true us all = list_all-append stays us page_back ∙ and_both _ _ all refl
+framed_stays false us all = list_all-append stays us page_back ∙ and_both _ _ all refl
+
+front_whole : (with_body : Bool) (us : List ℕ)
+    → framed with_body us ≡ opening_text form_mark ++ codes "<html>" ++ body_text with_body ++ codes "<script>" ++ us ++ codes "</script></html>"
+front_whole true us = refl
+front_whole false us = refl
+
+-- the text of a form page's script, in its frame
+pub is_framed : (with_body : Bool) (t : List ℕ) → IsUtf8 t → HasNoEndTag (utf16_of t) → list_all is_lined (utf16_of t) ≡ true
+    → IsFramePage (text_of (framed with_body t)) Form (utf16_of t)
+is_framed with_body t u none lined =
+    let units = utf16_of t in
+    let kept = framed_stays with_body units (all_stay units lined) in
+    let same = ap with_line_feeds (framed_units with_body t u) ∙ with_same (framed with_body units) kept in
+    record {
+      opening = form_mark;
+      of_kind = refl;
+      with_body = with_body;
+      whole = same ∙ front_whole with_body units;
+      one_script = no_end_tag units none;
+      no_zero = ap has_zero same ∙ zero_free (framed with_body units) kept;
+    }

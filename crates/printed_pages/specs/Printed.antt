@@ -1,0 +1,41 @@
+-- That a printed script in the frame of a form page is accepted as that page, and that the scripts of accepted pages can be printed.
+use Rattle.std.specs.Prelude.{◌≡◌, ℕ, Bool, true, false, IsTrue, List, [], ◌∷◌, ◌++◌, None, codes}
+use Rattle.js_core.specs.Tree as tree
+use Rattle.js_grammar.specs.Syntax.{IsSyntax}
+use Rattle.js_print.specs.Lined.{LinedAgain}
+use Rattle.js_print.specs.ReadAgain.{begins_strict}
+use Rattle.page_check.specs.Accept.{IsAcceptedAs, is_too_deep, keeps_form}
+use Rattle.page_check.specs.Frame.{body_text}
+use Rattle.page_check.specs.declared.page.Kind.{Kind}
+use Rattle.page_check.specs.declared.page.Kind.TheVariants.{Form}
+use Rattle.scope_analysis.specs.EarlyRules.{early_rule}
+
+-- what stands before the text of a form page's script, with an empty body or none, and what stands behind it
+abbrev pub page_front : Bool → List ℕ
+page_front with_body = codes "<!--imagen 1--><html>" ++ (body_text with_body ++ codes "<script>")
+
+abbrev pub page_back : List ℕ
+page_back = codes "</script></html>"
+
+abbrev pub framed : Bool → List ℕ → List ℕ
+framed with_body text = page_front with_body ++ (text ++ page_back)
+
+-- a script of a form page, but that it is strict
+pub record IsFormScript (script : tree.Stmts) : Type 0 where
+  pub orderly : early_rule script ≡ None
+  pub low : is_too_deep Form script ≡ false
+  pub formed : keeps_form Form script ≡ true
+
+-- where the text is read again as such a script that begins with the strict directive, it is accepted in this frame
+abbrev pub FramedScriptsAreAccepted : Type 0
+FramedScriptsAreAccepted =
+    (with_body : Bool) (script : tree.Stmts) (text : List ℕ) → IsFormScript script → IsTrue (begins_strict script) → LinedAgain script text
+    → IsAcceptedAs (framed with_body text) Form (script ∷ [])
+
+-- the script of an accepted page is a tree that some tokens have
+abbrev pub AcceptedScriptsHaveSyntax : Type 0
+AcceptedScriptsHaveSyntax = (bytes : List ℕ) (kind : Kind) (scripts : List tree.Stmts) → (is : IsAcceptedAs bytes kind scripts) → IsSyntax is.script
+
+-- the script of an accepted page begins with string literals as statements, one of which is the strict directive
+abbrev pub AcceptedScriptsBeginStrict : Type 0
+AcceptedScriptsBeginStrict = (bytes : List ℕ) (kind : Kind) (scripts : List tree.Stmts) → (is : IsAcceptedAs bytes kind scripts) → begins_strict is.script ≡ true

@@ -1,0 +1,9 @@
+//! That printed scripts are accepted in the frame of a form page.
+#![tactic(auto)]
+
+mod laws;
+
+pub use laws::{
+    law_accepted_scripts_begin_strict, law_accepted_scripts_have_syntax,
+    law_framed_scripts_are_accepted,
+};
