@@ -1,26 +1,30 @@
 -- What other crates cite of the proofs of this one.
 use Rattle.std.specs.Prelude.{Some}
-use Rattle.std.proofs.Common.{◌≡◌, ℕ, suc, ◌<◌, Bool, false, nat_eq, List, [], ◌++◌, Option, length, slice_index_or, drop}
+use Rattle.object_heap.specs.Function.{with_function}
+use Rattle.std.proofs.Common.{◌≡◌, ℕ, suc, ◌<◌, Bool, false, nat_eq, List, [], ◌++◌, Option, length, slice_index_or, drop, true, ◌∷◌, bytes_eq, ◌^◌}
 use Rattle.std.specs.Map.{keys_of, lookup as find}
-use Rattle.std.specs.Option.{ForSome}
+use Rattle.std.specs.Option.{ForSome, is_some}
+use Rattle.js_core.specs.Tree.{Code}
 use Rattle.js_values.specs.declared.ids.EnvId.{EnvId}
 use Rattle.js_values.specs.declared.ids.ObjId.{ObjId}
 use Rattle.js_values.specs.declared.value.Value.{Value}
+use Rattle.js_values.specs.declared.value.Value.TheVariants as value
+use Rattle.object_heap.specs.declared.object.Class.TheVariants as class
 use Rattle.object_heap.specs.declared.object.Class.{Class}
 use Rattle.object_heap.specs.declared.object.EventParts.{EventParts}
 use Rattle.object_heap.specs.declared.property.Change.{Change}
 use Rattle.object_heap.specs.declared.property.Prop.{Prop}
 use Rattle.object_heap.specs.Chain.{can_put, found, get, get_property, object_at}
 use Rattle.object_heap.specs.Define.{array_length}
-use Rattle.object_heap.specs.Environment.{AreInside, Environment, environment_at, value_of}
-use Rattle.object_heap.specs.Heap.{Contents, add_property, close, define_own, delete, empty, look_in, lookup, prevent_extensions, put, set, set_dispatch, set_event}
+use Rattle.object_heap.specs.Environment.{AreInside, Environment, Bound}
+use Rattle.object_heap.specs.Heap.{Contents, add_property, close, define_own, delete, empty, look_in, lookup, prevent_extensions, put, set, set_dispatch, set_event, opened, made, new_object}
 use Rattle.object_heap.specs.Laws.{after_step, gives_parts}
 use Rattle.object_heap.specs.Object.{is_list, Object}
 use Rattle.object_heap.specs.Property.{own_property, same_value}
 use Rattle.heap_relations.specs.Laws.{EntriesAgree, FunctionsAgree, JoinsAgree, MadeAgree, NewObjectsAgree, OpenedAgree, OthersDoNotCount}
 use Rattle.heap_relations.specs.Related.{AttemptRel, ChangeRel, ClassRel, Each, Entries, EventRel, Maybe, ObjectIds, ObjectRel, PropRel, ValueRel}
-use Rattle.heap_relations.specs.Naming.{Agree, Assigned, Captured, FoundRel, Frame, Free, here, In, is_reserved, Larger, Named, named, resolve, Round, Slot, with_object, with_slot, World}
-use Rattle.heap_relations.specs.Scope.{ScopesAgree}
+use Rattle.heap_relations.specs.Naming.{Agree, Assigned, Captured, CapturedRel, FoundRel, Frame, Free, Functions, here, In, is_reserved, Larger, Named, named, resolve, Round, Slot, with_object, with_slot, World, env_id, scope_name, is_scope_name, BothRel, Sealed}
+use Rattle.heap_relations.specs.Scope.{OwnFunctionsAgree, ScopesAgree, with_own_function, AreFresh, IsFillable}
 use Rattle.heap_relations.proofs.Captured as captured
 use Rattle.heap_relations.proofs.Chains as chains
 use Rattle.heap_relations.proofs.Define as define
@@ -32,8 +36,13 @@ use Rattle.heap_relations.proofs.Lists as lists
 use Rattle.heap_relations.proofs.Map as map
 use Rattle.heap_relations.proofs.Names as names
 use Rattle.heap_relations.proofs.Objects as objects
+use Rattle.heap_relations.proofs.OwnNames as own
 use Rattle.heap_relations.proofs.Scopes as scopes
 use Rattle.heap_relations.proofs.Worlds as worlds
+
+-- an object, by its place
+abbrev pub scope_value : ℕ → Value
+scope_value place = value.Object (record { 0 = place })
 
 -- ---- larger namings
 
@@ -99,6 +108,9 @@ module _ {V W : World} (l : Larger V W) where
 
   pub round_up : {fs : List Frame} {e f : Option EnvId} → Round V fs e f → Round W fs e f
   round_up = worlds.round_up l
+
+  pub functions_up : {c d : Code} {e f : Option EnvId} → Functions V c e d f → Functions W c e d f
+  functions_up h = (worlds.grows l).function _ _ _ _ h
 
 -- ---- what is read of a pair of objects, and tried on them
 
@@ -192,8 +204,34 @@ module _ {W : World} {h g : Contents} (r : Agree W h g) where
     pub captured_set : {v w : Value} → s.frame.keeps x ≡ Captured → ValueRel (named W) v w → Assigned W (set h s.one x v) (put g s.place x w)
     captured_set held q = captured.set_captured_agrees s x i held own q r
 
-    pub captured_read : s.frame.keeps x ≡ Captured → Maybe (ValueRel (named W)) (value_of (environment_at h.environments s.one).names x) (get g.objects s.place x)
+    pub free_read : s.frame.keeps x ≡ Free → BothRel W h g s x
+    free_read keeps = kept.both s x i own r keeps
+
+    pub sealed_read : s.frame.keeps x ≡ Sealed → (b : BothRel W h g s x) × (b.left ≡ s.known x)
+    sealed_read keeps = kept.sealed_both s x i own r keeps
+
+    pub captured_read : s.frame.keeps x ≡ Captured → CapturedRel W h g s x
     captured_read held = kept.read s x i own r held
+
+-- an own property is what is read
+pub get_own : (objects : List Object) (k : ℕ) (x : List ℕ) (p : Prop) → own_property (object_at objects k).props x ≡ Some p → get objects k x ≡ Some p.value
+get_own = captured.get_own
+
+-- a page's own name is no scope object's
+pub no_scope_name : (x : List ℕ) (k : ℕ) → is_scope_name x ≡ false → bytes_eq (scope_name k) x ≡ false
+no_scope_name = scopes.no_scope_name
+
+pub not_scope_name : (x : List ℕ) (k : ℕ) → is_scope_name x ≡ false → bytes_eq x (scope_name k) ≡ false
+not_scope_name = filled.not_scope_name
+
+-- other numbers have other names
+pub scope_name_eq : (k d : ℕ) → k < 2 ^ 64 → d < 2 ^ 64 → bytes_eq (scope_name k) (scope_name d) ≡ nat_eq k d
+scope_name_eq = filled.scope_name_eq
+
+-- the right finds the scope object of an environment there
+pub scope_found : {W : World} {h g : Contents} → Agree W h g → (s : Slot) → In s W.slots → s.frame.scoped ≡ true → W.opens ≡ true
+    → lookup g.environments s.two (scope_name s.frame.number) ≡ Some (env_id s.two, scope_value s.place)
+scope_found r s i scoped opens = names.scope_found r.slots r.right.environments s i scoped opens
 
 -- what is found outwards is found from where it is
 pub found_there : (es : List Environment) (env : Option EnvId) (x : List ℕ) (e : EnvId) (v : Value) → AreInside es → look_in es env x ≡ Some (e, v) → lookup es e.0 x ≡ Some (e, v)
@@ -210,12 +248,25 @@ objects_made = kept.made_kept
 pub functions_made : FunctionsAgree
 functions_made = functions.functions_agree
 
+pub own_functions_made : OwnFunctionsAgree
+own_functions_made = own.own_functions
+
+-- the own name may be bound after the function is made
+pub own_bound_later : (h : Contents) (outer : Option EnvId) (x : List ℕ) (c : Code) (p : Option ObjId) (formals : ℕ) (above : Option ObjId)
+    → set (with_function (opened h outer ((x, value.Undefined) ∷ [])) (class.Page c (Some (record { 0 = length h.environments }))) p formals above) (length h.environments) x (scope_value (length h.objects))
+    ≡ with_own_function h outer x c p formals above
+own_bound_later = own.bound_later
+
 pub environments_opened : OpenedAgree
 environments_opened = entry.new_environments
 
 -- the right may have run alone before
 pub environment_entered : EntriesAgree
 environment_entered = entry.entries
+
+-- the literal is not refused
+pub scope_fillable : (g : Contents) (proto : Option ObjId) (fields : Bound) → AreFresh [] fields → IsFillable (made g (new_object class.Plain proto)) (length g.objects) fields
+scope_fillable = filled.new_fillable
 
 -- the right makes a scope object
 pub scope_entered : ScopesAgree
@@ -234,6 +285,9 @@ pub joined : JoinsAgree
 joined = kept.joins
 
 -- ---- lists
+
+pub is_some_same : {A : Type 0} {R : A → A → Type 0} {o p : Option A} → Maybe R o p → is_some o ≡ is_some p
+is_some_same = lists.is_some_same
 
 module _ {A : Type 0} {R : A → A → Type 0} where
   pub each_append : {xs ys us vs : List A} → Each R xs ys → Each R us vs → Each R (xs ++ us) (ys ++ vs)

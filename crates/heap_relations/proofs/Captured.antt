@@ -75,7 +75,7 @@ set_captured_agrees {W = W} {h = h} {g = g} {v = v} {w = w} s x i kept own k r =
               (λ z. rw z (rw (kept, value_set e.names x u v d, property_set o.props x p (with_value p w) held) (captured scoped k may shown fixed)))
               (λ z. rw (set_other e.names x y v z, set_prop o.props x y p (with_value p w) z) (old.names y b));
           scopes = old.scopes;
-          small = old.small;
+          numbers = old.numbers;
           own = old.own;
           plain = old.plain;
         }

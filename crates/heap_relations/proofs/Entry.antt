@@ -43,7 +43,7 @@ longer_slots {es = es} {fs = fs} g k left right h = record {
 -- ---- one more slot
 
 pub slot_more : {W : World} (s : Slot) → Larger W (with_slot W s)
-slot_more s = record { opens = refl; objects = λ p h. h; nodes = λ p h. h; opened = refl; fits = refl; before = refl; slots = λ t h. there h; bases = λ b h. h }
+slot_more s = record { opens = refl; objects = λ p h. h; nodes = λ p h. h; opened = refl; fits = refl; before = refl; slots = λ t h. there h; bases = refl }
 
 -- a slot whose environments and scope object are younger than all that is named
 pub record IsNew (W : World) (s : Slot) (es fs : List Environment) (ps : List Object) : Type 0 where
@@ -58,7 +58,7 @@ pub record IsNew (W : World) (s : Slot) (es fs : List Environment) (ps : List Ob
 abbrev scoped_as : {t s : Slot} → t ≡ s → t.frame.scoped ≡ true → s.frame.scoped ≡ true
 scoped_as e h = sym (ap (λ (z : Slot). z.frame.scoped) e) ∙ h
 
-add_slot : {W : World} {es fs : List Environment} {ps : List Object} (s : Slot) → IsNew W s es fs ps → SlotsRel W es fs ps → SlotsRel (with_slot W s) es fs ps
+pub add_slot : {W : World} {es fs : List Environment} {ps : List Object} (s : Slot) → IsNew W s es fs ps → SlotsRel W es fs ps → SlotsRel (with_slot W s) es fs ps
 add_slot {W = W} {es = es} {fs = fs} {ps = ps} s new h = record {
   at = λ t i. at t (in_cases i);
   inside = λ t i. within t (in_cases i);
@@ -112,6 +112,13 @@ add_slot {W = W} {es = es} {fs = fs} {ps = ps} s new h = record {
     apart t (inl e) q p j = let n = new.no_object (scoped_as e q) p j in rw e (ne_eqb p.two s.place (λ m. omega (arith, n, m)))
     apart t (inr i) q p j = h.apart t i q p j
 
+-- a new environment is not outwards of those that were there
+pub not_outward : {es us : List Environment} (new : ℕ) (o : Option EnvId) → AreInside es → ForSome o (λ q. q.0 < length es) → Reaches no_environment es us → length es ≤ new → Outward us o new → ⊥
+not_outward {es = es} new o ages older reach past w =
+    let back : Outward es o new = outward_back o refl (λ k v. reach.at k (outward_inside (length es) ages v older)) w in
+    let wrong = outward_inside (length es) ages back older in
+    omega (arith, wrong, past)
+
 -- the left makes an environment while the right runs alone, from g to i, and changes nothing that is named
 pub enter_agrees : {W : World} {h g i : Contents} (e : Environment) (s : Slot) → Agree W h g → s.one ≡ length h.environments → length g.environments ≤ s.two
     → Reaches no_object g.objects i.objects → Reaches no_environment g.environments i.environments → IsSound (with_new_environment h e) → IsSound i → s.two < length i.environments
@@ -132,30 +139,16 @@ enter_agrees {W = W} {h = h} {g = g} {i = i} e s r last past objects environment
         scope_inside = λ q. (scope q).1;
         no_object = λ q p j. let n = (r.objects.inside p.one p.two (record { named = j })).1 in let m = (scope q).0 in omega (arith, n, m);
         no_scope = λ q t j x. let n = r.slots.scope_inside t j x in let m = (scope q).0 in omega (arith, n, m);
-        no_base = λ b j. (λ w. one_apart b j w, λ w. two_apart b j w);
+        no_base = λ b j.
+            let z = r.slots.bases b j in (
+              not_outward s.one b.one r.left.environments z.one_inside (reaches_more h.environments e) (omega (arith, last)),
+              not_outward s.two b.two r.right.environments z.two_inside environments past,
+            );
       }) (longer_scopes objects (longer_slots (reaches_more h.environments e) environments r.left.environments r.right.environments r.slots));
       left = left;
       right = right;
     }
   where
-    one_apart : (b : Base) → In b W.bases → Outward (h.environments ++ e ∷ []) b.one s.one → ⊥
-    one_apart b j w =
-        let z = r.slots.bases b j in
-        let back : Outward h.environments b.one s.one =
-        outward_back b.one refl (λ k v. (reaches_more {d = no_environment} h.environments e).at k (outward_inside (length h.environments) r.left.environments v z.one_inside)) w
-        in
-        let wrong = outward_inside (length h.environments) r.left.environments back z.one_inside in
-        omega (arith, wrong, last)
-
-    two_apart : (b : Base) → In b W.bases → Outward i.environments b.two s.two → ⊥
-    two_apart b j w =
-        let z = r.slots.bases b j in
-        let back : Outward g.environments b.two s.two =
-        outward_back b.two refl (λ k v. environments.at k (outward_inside (length g.environments) r.right.environments v z.two_inside)) w
-        in
-        let wrong = outward_inside (length g.environments) r.right.environments back z.two_inside in
-        omega (arith, wrong, past)
-
     objects_up : {os ps : List Object} → ObjectsRel (named W) os ps → ObjectsRel (named (with_slot W s)) os ps
     objects_up k = record {
       at = λ a b j. object_up (grows (slot_more s)) _ _ (k.at a b (record { named = j.named }));
@@ -192,7 +185,7 @@ entries W h g i outer names s r last past objects environments right bound round
 
 -- a pair of new environments, without a scope object
 pub new_environments : OpenedAgree
-new_environments W h g outer around names others keeps round known r o small related never hidden =
+new_environments W h g outer around names others keeps round known r o related never hidden =
     let s = free_slot h g keeps round known in
     let n = round_older r.slots o in
     let f = new_environment around others in
@@ -205,7 +198,7 @@ new_environments W h g outer around names others keeps round known r o small rel
       outer = o;
       names = λ x a. related x a _;
       scopes = hidden;
-      small = small;
+      numbers = λ q. absurd (cc q);
       own = λ x a. absurd (never x a);
       plain = λ q. absurd (cc q);
     }))) (λ q. absurd (cc q))

@@ -1,5 +1,7 @@
 -- A function is entered, on the right with a scope object.
-use Rattle.std.proofs.Common.{subst, add-one, suc, ◌≡◌, refl, sym, ap, ◌∙◌, ℕ, ◌<◌, ◌≤◌, ◌^◌, Bool, true, false, cond, nat_eq, List, [], ◌∷◌, ◌++◌, Some, None, length, length-append, length-set, slice_set, bytes_eq, append_assoc, arith, if◌then◌else◌}
+use Rattle.std.proofs.Common.{subst, add-one, suc, ◌≡◌, refl, sym, ap, ◌∙◌, ℕ, ◌<◌, ◌≤◌, ◌^◌, Bool, true, false, cond, nat_eq, List, [], ◌∷◌, ◌++◌, Some, None, length, length-append, length-set, slice_set, bytes_eq, append_assoc, arith, if◌then◌else◌, Option}
+use Rattle.std.proofs.lemmas.Slice.Eq.{bytes_eq-Decides}
+use Rattle.js_values.specs.declared.ids.ObjId.{ObjId}
 use Rattle.std.specs.Prelude.{option_map}
 use Rattle.std.specs.Fmt.{decimal}
 use Rattle.std.proofs.lemmas.List.{append-nil}
@@ -9,7 +11,7 @@ use Rattle.std.specs.Str.Parse.{digits_value}
 use Rattle.js_values.specs.declared.value.Value.{Value}
 use Rattle.js_values.specs.declared.value.Value.TheVariants as value
 use Rattle.object_heap.specs.declared.object.Class.TheVariants as class
-use Rattle.object_heap.specs.Object.{Object, no_object, with_props}
+use Rattle.object_heap.specs.Object.{Object, no_object, with_props, settled}
 use Rattle.object_heap.specs.Attempt.{Attempt, done}
 use Rattle.object_heap.specs.Chain.{object_at}
 use Rattle.object_heap.specs.Define as object
@@ -18,7 +20,7 @@ use Rattle.object_heap.specs.Environment.{Bound, Environment, environment_at, ne
 use Rattle.object_heap.specs.Heap.{Contents, IsSound, define_own, made, new_object, opened, set, with_new_environment, with_new_object}
 use Rattle.object_heap.specs.Property.{Props, own_property}
 use Rattle.object_heap.proofs.Callers.{environment_last, environment_set_same, new_fit, object_last, settled_same, sound_define_own, sound_made, sound_opened, sound_set, value_set}
-use Rattle.heap_relations.specs.Scope.{AreFresh, EntryRel, ScopesAgree, entered, filled, plain_prop, scoped_slot}
+use Rattle.heap_relations.specs.Scope.{AreFresh, EntryRel, ScopesAgree, entered, filled, plain_prop, scoped_slot, IsFillable}
 use Rattle.heap_relations.specs.Scope as entry
 use Rattle.heap_relations.specs.Naming.{copied, absent, captured, free, is_scope_name, Kept, named, NameRel, Reaches, scope_at, scope_name}
 use Rattle.heap_relations.proofs.Entry.{entries, opened_there, reaches_set, round_older, slot_more}
@@ -68,6 +70,28 @@ fills k (x ∷ xs) g o bound is h fresh sound =
       sound = rest.sound;
     }
 
+fillable : (k : ℕ) (fields : Bound) (g : Contents) (o : Object) → k < length g.objects → object_at g.objects k ≡ o → IsOpen o → AreFresh o.props fields → IsFillable g k fields
+unfolding define_own
+fillable k [] g o bound is h fresh = tt
+fillable k (x ∷ xs) g o bound is h fresh =
+    let p = with_props o (o.props ++ (x.0, plain_prop x.1) ∷ []) in
+    let q = (object.define_own (object_at g.objects k) x.0 (whole_property x.1)).after in
+    let same = ap (λ z. object.define_own z x.0 (whole_property x.1)) is ∙ defined o x.0 x.1 h fresh.0 in
+    let here : object_at (slice_set g.objects k q) k ≡ p =
+    get_set g.objects k k q no_object bound ∙ ap (λ b. cond b q (object_at g.objects k)) (eq-eqb k k refl) ∙ ap (λ (a : Attempt Object). a.after) same
+    in (
+      ap (λ (a : Attempt Object). a.thrown) same,
+      fillable k xs (define_own g k x.0 (whole_property x.1)).after p (omega (arith, bound, length-set g.objects k q)) here
+          (record { class = h.class; closed = h.closed; extensible = h.extensible }) fresh.1,
+    )
+
+-- a new plain object takes all names
+pub new_fillable : (g : Contents) (proto : Option ObjId) (fields : Bound) → AreFresh [] fields → IsFillable (made g (new_object class.Plain proto)) (length g.objects) fields
+new_fillable g proto fields fresh =
+    let o = settled (length g.objects) (new_object class.Plain proto) in
+    fillable (length g.objects) fields (made g (new_object class.Plain proto)) o (omega (arith, length-append g.objects (o ∷ []))) (object_last g.objects o)
+    (record { class = refl; closed = refl; extensible = refl }) fresh
+
 reach_filled : (k : ℕ) (fields : Bound) (os : List Object) (g : Contents) → length os ≤ k → Reaches no_object os g.objects → Reaches no_object os (filled g k fields).objects
 unfolding define_own
 reach_filled k [] os g past h = h
@@ -91,6 +115,13 @@ pub scope_name_same : (k d : ℕ) → k < 2 ^ 64 → d < 2 ^ 64 → scope_name k
 scope_name_same k d h g e =
     let same : decimal k ≡ decimal d = cc in
     decimal_same k d h g same
+
+pub scope_name_eq : (k d : ℕ) → k < 2 ^ 64 → d < 2 ^ 64 → bytes_eq (scope_name k) (scope_name d) ≡ nat_eq k d
+scope_name_eq k d small less = by_case (nat_eq k d) refl
+  where
+    by_case : (b : Bool) → nat_eq k d ≡ b → bytes_eq (scope_name k) (scope_name d) ≡ b
+    by_case true e = (bytes_eq-Decides (scope_name k) (scope_name d)).1 (ap scope_name (eqb-true k d e))
+    by_case false e = same_or_not (scope_name k) (scope_name d) (λ q. absurd (eqb-false k d e (scope_name_same k d small less q))) (λ q. q)
 
 pub not_scope_name : (x : List ℕ) (k : ℕ) → is_scope_name x ≡ false → bytes_eq x (scope_name k) ≡ false
 not_scope_name x k own =
@@ -129,10 +160,10 @@ set_reaches g k x v past h = reaches_set k _ past h
 -- ---- the whole entry
 
 pub scopes : ScopesAgree
-scopes W h g outer around names others proto keeps round fields old known r opens out small older fresh related copies own_names =
+scopes W h g outer around names others proto keeps d round fields old known r opens out small below older fresh related copies own_names =
     let k = length g.objects in
     let b = length g.environments in
-    let s = scoped_slot h g keeps round known in
+    let s = scoped_slot h g keeps d round known in
     let o = new_object class.Plain proto in
     let f = new_environment around others in
     let g1 = opened g around others in
@@ -146,7 +177,6 @@ scopes W h g outer around names others proto keeps round fields old known r open
     let z = fills k fields g2 o (omega (arith, long)) at_k (record { class = refl; closed = refl; extensible = refl }) fresh sound2 in
     let g3 = filled g2 k fields in
     let v = value.Object (record { 0 = k }) in
-    let d = length round in
     let as_opened : g3.environments ≡ g.environments ++ f ∷ [] = z.environments ∙ ap (λ (c : Contents). c.environments) same in
     let bound : b < length g3.environments = omega (arith, ap length as_opened, length-append g.environments (f ∷ [])) in
     let was : environment_at g3.environments b ≡ f = ap (λ l. environment_at l b) as_opened ∙ environment_last g.environments f in
@@ -166,7 +196,7 @@ scopes W h g outer around names others proto keeps round fields old known r open
           let page : is_scope_name x ≡ false = reserved_as x (sym opens) own in
           rw (set_other others (scope_name d) x v (not_scope_name x d page), own_filled fields x) (by_name (related x page));
       scopes = λ q j less. named_scope others d v old small own_names j less ∙ at_scope (nat_eq j d);
-      small = small;
+      numbers = λ q. (small, below);
       own = copies;
       plain = λ q. (opens, refl, refl);
     })))

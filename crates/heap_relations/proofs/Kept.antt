@@ -3,13 +3,12 @@ use Rattle.object_heap.proofs.Callers.{sound_empty}
 use Rattle.std.proofs.Common.{◌≡◌, false, refl, ℕ, List, [], Option}
 use Rattle.js_values.specs.declared.value.Value.{Value}
 use Rattle.object_heap.specs.declared.property.Prop.{Prop}
-use Rattle.object_heap.specs.Chain.{get, object_at}
+use Rattle.object_heap.specs.Chain.{object_at}
 use Rattle.object_heap.specs.Environment.{value_of, environment_at}
 use Rattle.object_heap.specs.Heap.{Contents, empty}
 use Rattle.object_heap.specs.Property.{own_property}
-use Rattle.heap_relations.specs.Related.{Maybe, some, ValueRel}
 use Rattle.heap_relations.specs.Laws.{MadeAgree, OthersDoNotCount, JoinsAgree, EnvironmentsAgree, NewObjectsAgree, ObjectsAgree, RelatedStay, SameAgree}
-use Rattle.heap_relations.specs.Naming.{here, there, constant, copied, inside, absent, Agree, captured, Captured, free, In, is_reserved, Kept, named, NameRel, Slot, World}
+use Rattle.heap_relations.specs.Naming.{CapturedRel, here, there, constant, copied, inside, absent, Agree, captured, Captured, free, In, is_reserved, Kept, named, NameRel, Slot, World, BothRel, Free, Sealed}
 use Rattle.heap_relations.proofs.Captured.{get_own, set_captured_agrees}
 use Rattle.heap_relations.proofs.Chains.{can_put_same, get_property_rel, get_rel}
 use Rattle.heap_relations.proofs.Define.{own_rel, same_value_same}
@@ -66,17 +65,40 @@ others W h g i j r a b c d left right = record {
 pub joins : JoinsAgree
 joins V W os ps qs h k = (objects_join h k, objects_turn h)
 
-pub read : {W : World} {h g : Contents} (s : Slot) (x : List ℕ) → In s W.slots → is_reserved W.opens x ≡ false → Agree W h g → s.frame.keeps x ≡ Captured
-    → Maybe (ValueRel (named W)) (value_of (environment_at h.environments s.one).names x) (get g.objects s.place x)
+pub read : {W : World} {h g : Contents} (s : Slot) (x : List ℕ) → In s W.slots → is_reserved W.opens x ≡ false → Agree W h g → s.frame.keeps x ≡ Captured → CapturedRel W h g s x
 read {W = W} {h = h} {g = g} s x i own r kept = by_case kept refl refl ((r.slots.at s i).names x own)
   where
     by_case : {c : Kept} {a b : Option Value} {o : Option Prop} → c ≡ Captured → value_of (environment_at h.environments s.one).names x ≡ a → own_property (object_at g.objects s.place).props x ≡ o
-        → NameRel (named W) s.frame.scoped (s.known x) c a b o → Maybe (ValueRel (named W)) (value_of (environment_at h.environments s.one).names x) (get g.objects s.place x)
+        → NameRel (named W) s.frame.scoped (s.known x) c a b o → CapturedRel W h g s x
     by_case c d held absent = absurd (cc)
     by_case c d held (free m) = absurd (cc)
     by_case c d held (constant m) = absurd (cc)
     by_case c d held (copied q m) = absurd (cc)
-    by_case c d held (captured {p = p} scoped m may shown fixed) = rw (d, get_own g.objects s.place x p held) (some m)
+    by_case c d held (captured {v = v} {p = p} scoped m may shown fixed) =
+        record { left = v; right = p.value; one = d; two = get_own g.objects s.place x p held; same = m; plain = ((r.slots.at s i).plain scoped).1 }
+
+pub both : {W : World} {h g : Contents} (s : Slot) (x : List ℕ) → In s W.slots → is_reserved W.opens x ≡ false → Agree W h g → s.frame.keeps x ≡ Free → BothRel W h g s x
+both {W = W} {h = h} {g = g} s x i own r keeps = by_case keeps refl refl ((r.slots.at s i).names x own)
+  where
+    by_case : {c : Kept} {a b : Option Value} {o : Option Prop} → c ≡ Free → value_of (environment_at h.environments s.one).names x ≡ a → value_of (environment_at g.environments s.two).names x ≡ b
+        → NameRel (named W) s.frame.scoped (s.known x) c a b o → BothRel W h g s x
+    by_case c d e absent = absurd (cc)
+    by_case c d e (free m) = record { left = _; right = _; one = d; two = e; same = m }
+    by_case c d e (constant m) = absurd (cc)
+    by_case c d e (copied q m) = absurd (cc)
+    by_case c d e (captured q m n o p) = absurd (cc)
+
+pub sealed_both : {W : World} {h g : Contents} (s : Slot) (x : List ℕ) → In s W.slots → is_reserved W.opens x ≡ false → Agree W h g → s.frame.keeps x ≡ Sealed
+    → (b : BothRel W h g s x) × (b.left ≡ s.known x)
+sealed_both {W = W} {h = h} {g = g} s x i own r keeps = by_case keeps refl refl ((r.slots.at s i).names x own)
+  where
+    by_case : {c : Kept} {a b : Option Value} {o : Option Prop} → c ≡ Sealed → value_of (environment_at h.environments s.one).names x ≡ a → value_of (environment_at g.environments s.two).names x ≡ b
+        → NameRel (named W) s.frame.scoped (s.known x) c a b o → (b : BothRel W h g s x) × (b.left ≡ s.known x)
+    by_case c d e absent = absurd (cc)
+    by_case c d e (free m) = absurd (cc)
+    by_case c d e (constant m) = (record { left = _; right = _; one = d; two = e; same = m }, refl)
+    by_case c d e (copied q m) = absurd (cc)
+    by_case c d e (captured q m n o p) = absurd (cc)
 
 pub names : EnvironmentsAgree
 names W h g s x r i own = record {

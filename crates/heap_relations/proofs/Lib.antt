@@ -11,5 +11,6 @@ pub mod Lists
 pub mod Map
 pub mod Names
 pub mod Objects
+pub mod OwnNames
 pub mod Scopes
 pub mod Worlds

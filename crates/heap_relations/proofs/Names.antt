@@ -1,6 +1,6 @@
 -- Names in environments that are linked.
-use Rattle.std.proofs.Common.{ap, ◌∙◌, ◌≡◌, refl, sym, subst, ℕ, zero, suc, ◌<◌, Bool, true, false, ◌&&◌, nat_eq, List, [], ◌∷◌, Option, Some, None, length, arith}
-use Rattle.std.proofs.lemmas.Bool.{eq-eqb, ne_eqb}
+use Rattle.std.proofs.Common.{ap, ◌∙◌, ◌≡◌, refl, sym, subst, ℕ, zero, suc, ◌<◌, ◌^◌, Bool, true, false, not, ◌&&◌, ◌||◌, nat_eq, nat_lt, List, [], ◌∷◌, Option, Some, None, arith}
+use Rattle.std.proofs.lemmas.Bool.{eq-eqb, ltb-true, ne_eqb}
 use Rattle.js_values.specs.declared.ids.EnvId.{EnvId}
 use Rattle.js_values.specs.declared.value.Value.{Value}
 use Rattle.object_heap.specs.Environment.{Environment, value_of, AreInside, environment_at}
@@ -12,52 +12,69 @@ use Rattle.object_heap.specs.Property.{own_property}
 use Rattle.js_values.specs.declared.value.Value.TheVariants as value
 use Rattle.object_heap.proofs.Callers.{lookup_on}
 use Rattle.heap_relations.specs.Related.{Links}
-use Rattle.heap_relations.specs.Naming.{scope_name, constant, copied, Copied, Copy, is_copied, based, Fixed, InScope, is_sealed, is_unused, Itself, Nowhere, Place, Sealed, sealed, SealedRel, unbound, Unused, unused, Absent, absent, Captured, captured, env_id, FoundRel, Frame, Free, free, In, inside, is_captured, is_free, is_reserved, Kept, named, NameRel, nowhere, outermost, resolve, resolved, Round, Slot, SlotRel, SlotsRel, World}
+use Rattle.heap_relations.specs.Naming.{are_below, Base, scope_name, constant, copied, Copy, is_copied, based, Fixed, InScope, is_sealed, is_unused, Itself, Nowhere, Place, Sealed, sealed, SealedRel, unbound, unused, absent, captured, env_id, FoundRel, Frame, free, In, inside, is_captured, is_free, is_reserved, Kept, named, NameRel, nowhere, outermost, resolve, resolved, Round, Slot, SlotRel, SlotsRel, World}
 
--- a scope object that is found has a number below the count of the frames
-abbrev IsBelow : Place → ℕ → Type 0
-IsBelow (InScope d) most = d < most
-IsBelow (Copy d) most = d < most
-IsBelow p most = Unit {0}
+-- one of these frames has the scope object of this number
+data Has (n : ℕ) : List Frame → Type 0 where
+  nearest : {f : Frame} {fs : List Frame} → f.scoped ≡ true → f.number ≡ n → n < 2 ^ 64 → Has n (f ∷ fs)
+  farther : {f : Frame} {fs : List Frame} → Has n fs → Has n (f ∷ fs)
 
-below_more : (p : Place) (most : ℕ) → IsBelow p most → IsBelow p (suc most)
-below_more (InScope d) most h = omega (arith, h)
-below_more (Copy d) most h = omega (arith, h)
-below_more Itself most h = tt
-below_more Fixed most h = tt
-below_more Nowhere most h = tt
+-- a scope object that is found is one of theirs
+abbrev IsOf : List Frame → Place → Type 0
+IsOf fs (InScope n) = Has n fs
+IsOf fs (Copy n) = Has n fs
+IsOf fs p = Unit {0}
 
-resolve_below : (frames : List Frame) (x : List ℕ) → IsBelow (resolve frames x) (length frames)
-resolve_below [] x = tt
-resolve_below (f ∷ frames) x = by_case (f.keeps x) (resolve_below frames x)
+of_more : (f : Frame) (fs : List Frame) (p : Place) → IsOf fs p → IsOf (f ∷ fs) p
+of_more f fs (InScope n) h = farther h
+of_more f fs (Copy n) h = farther h
+of_more f fs Itself h = tt
+of_more f fs Fixed h = tt
+of_more f fs Nowhere h = tt
+
+-- it has a smaller number than what is inside all of them
+has_below : (most n : ℕ) (fs : List Frame) → are_below most fs ≡ true → Has n fs → n < most
+has_below most n (f ∷ fs) e (nearest scoped is small) = here f.scoped (nat_lt f.number most) refl scoped e
   where
-    by_case : (k : Kept) → IsBelow (resolve frames x) (length frames) → IsBelow (resolved k (length frames) (resolve frames x)) (length (f ∷ frames))
-    by_case Absent h = below_more (resolve frames x) (length frames) h
-    by_case Free h = tt
-    by_case Captured h = omega arith
-    by_case Copied h = omega arith
-    by_case Sealed h = tt
-    by_case Unused h = tt
+    here : (s b : Bool) → nat_lt f.number most ≡ b → s ≡ true → ((not s || b) && are_below most fs) ≡ true → n < most
+    here true true q c d = omega (arith, ltb-true f.number most q, is)
+    here false b q c d = absurd (cc c)
+    here true false q c d = absurd (cc d)
+has_below most n (f ∷ fs) e (farther h) = has_below most n fs (rest (not f.scoped || nat_lt f.number most) e) h
+  where
+    rest : (b : Bool) → (b && are_below most fs) ≡ true → are_below most fs ≡ true
+    rest true d = d
+    rest false d = absurd (cc d)
+has_below most n [] e h = elim h [ ]
 
-and_false : (b c : Bool) → c ≡ false → (b && c) ≡ false
-and_false true c e = e
-and_false false c e = refl
+has_small : (n : ℕ) (fs : List Frame) → Has n fs → n < 2 ^ 64
+has_small n (f ∷ fs) (nearest scoped is small) = small
+has_small n (f ∷ fs) (farther h) = has_small n fs h
+has_small n [] h = elim h [ ]
 
 module _ {W : World} {es fs : List Environment} {ps : List Object} (r : SlotsRel W es fs ps) (left : AreInside es) (right : AreInside fs) where
+  -- a slot does not have the scope objects that are found outwards
+  not_here : {e f : Environment} {o : Object} (n : ℕ) (s : Slot) → SlotRel W s e f o → Has n s.round → (s.frame.scoped && nat_eq n s.frame.number) ≡ false
+  not_here n s at h = by_case s.frame.scoped refl
+    where
+      by_case : (b : Bool) → s.frame.scoped ≡ b → (b && nat_eq n s.frame.number) ≡ false
+      by_case true e = ne_eqb n s.frame.number (λ q. omega (arith, has_below s.frame.number n s.round (at.numbers e).1 h, q))
+      by_case false e = refl
+
+  scope_outwards : {v : Option (EnvId × Value)} (n k : ℕ) (s : Slot) → SlotRel W s (environment_at es s.one) (environment_at fs s.two) (object_at ps s.place) → W.opens ≡ true
+      → (environment_at fs s.two).outer ≡ Some (env_id k) → Has n s.round → lookup fs k (scope_name n) ≡ v → lookup fs s.two (scope_name n) ≡ v
+  scope_outwards n k s at opens out h look = rw (lookup_on fs s.two (scope_name n) right) (rw (at.scopes opens n (has_small n s.round h), not_here n s at h, out) look)
+
   -- what is found from the outer environments is found from here, where neither of these has the name
   outwards : {x : List ℕ} {q : Place} {o p : Option (EnvId × Value)} (k : ℕ) (s : Slot) → SlotRel W s (environment_at es s.one) (environment_at fs s.two) (object_at ps s.place)
-      → (environment_at fs s.two).outer ≡ Some (env_id k) → IsBelow q (length s.round)
+      → (environment_at fs s.two).outer ≡ Some (env_id k) → IsOf s.round q
       → FoundRel W ps (λ y. lookup fs k y) x q o p → FoundRel W ps (λ y. lookup fs s.two y) x q o p
   outwards k s at out below nowhere = nowhere
   outwards k s at out below (is_sealed v) = is_sealed v
-  outwards k s at out below (is_copied t opens look own v) =
-      let other : nat_eq (length t.round) (length s.round) ≡ false = ne_eqb (length t.round) (length s.round) (λ e. omega (arith, below, e)) in
-      is_copied t opens (rw (lookup_on fs s.two (scope_name (length t.round)) right) (rw (at.scopes opens (length t.round) (omega (arith, below, at.small)), and_false s.frame.scoped _ other, out) look)) own v
+  outwards k s at out below (is_copied t opens look own v) = is_copied t opens (scope_outwards t.frame.number k s at opens out below look) own v
   outwards k s at out below is_unused = is_unused
   outwards k s at out below (is_free t i n v) = is_free t i n v
-  outwards k s at out below (is_captured t i n opens look own v) =
-      let other : nat_eq (length t.round) (length s.round) ≡ false = ne_eqb (length t.round) (length s.round) (λ e. omega (arith, below, e)) in
-      is_captured t i n opens (rw (lookup_on fs s.two (scope_name (length t.round)) right) (rw (at.scopes opens (length t.round) (omega (arith, below, at.small)), and_false s.frame.scoped _ other, out) look)) own v
+  outwards k s at out below (is_captured t i n opens look own v) = is_captured t i n opens (scope_outwards t.frame.number k s at opens out below look) own v
 
   up_is : (gs : List Environment) (k : ℕ) (o : Option EnvId) (x : List ℕ) → first_bound k None o (λ q. lookup gs q x) ≡ look_in gs o x
   up_is gs k None x = refl
@@ -74,6 +91,33 @@ module _ {W : World} {es fs : List Environment} {ps : List Object} (r : SlotsRel
   sealed_value e (captured b v m n c) = absurd (cc)
   sealed_value e (constant v) = refl
   sealed_value e (copied b v) = absurd (cc)
+
+  sealed_of : {k : Kept} {o p : Option (EnvId × Value)} (b : Base) → SealedRel (named W) k o p → IsOf (b.frame ∷ []) (resolved k b.frame.number Itself)
+  sealed_of b unbound = tt
+  sealed_of b (sealed v) = tt
+  sealed_of b unused = tt
+
+  -- what a slot's names resolve to
+  of_at : (n : ℕ) (s : Slot) (x : List ℕ) → In s W.slots → is_reserved W.opens x ≡ false → s.one < n → IsOf (s.frame ∷ s.round) (resolve (s.frame ∷ s.round) x)
+  of_at zero s x i own h = absurd (omega (arith, h))
+  of_at (suc n) s x i own h = near (at.names x own) (out refl at.outer (λ t j c. of_at n t x j own (omega (arith, left s.one _ c, h))))
+    where
+      at : SlotRel W s (environment_at es s.one) (environment_at fs s.two) (object_at ps s.place)
+      at = r.at s i
+
+      out : {frames : List Frame} {e f : Option EnvId} → (environment_at es s.one).outer ≡ e → Round W frames e f
+          → ((t : Slot) → In t W.slots → (environment_at es s.one).outer ≡ Some (env_id t.one) → IsOf (t.frame ∷ t.round) (resolve (t.frame ∷ t.round) x)) → IsOf frames (resolve frames x)
+      out c outermost up = tt
+      out c (based b j) up = sealed_of b ((r.bases b j).names x own)
+      out c (inside t j) up = up t j c
+
+      near : {k : Kept} {a b : Option Value} {p : Option Prop} → NameRel (named W) s.frame.scoped (s.known x) k a b p → IsOf s.round (resolve s.round x)
+          → IsOf (s.frame ∷ s.round) (resolved k s.frame.number (resolve s.round x))
+      near absent up = of_more s.frame s.round (resolve s.round x) up
+      near (free v) up = tt
+      near (constant v) up = tt
+      near (copied scoped v) up = nearest scoped refl (at.numbers scoped).0
+      near (captured scoped v may shown fixed) up = nearest scoped refl (at.numbers scoped).0
 
   -- where the name is bound outwards
   abbrev Outer : Slot → List ℕ → Type 0
@@ -94,17 +138,17 @@ module _ {W : World} {es fs : List Environment} {ps : List Object} (r : SlotsRel
       out : {frames : List Frame} {e f : Option EnvId} → s.round ≡ frames → (environment_at es s.one).outer ≡ e → (environment_at fs s.two).outer ≡ f → Round W frames e f → Outer s x
           → FoundRel W ps (λ y. lookup fs s.two y) x (resolve frames x) (first_bound s.one None e (λ q. lookup es q x)) (first_bound s.two None f (λ q. lookup fs q x))
       out a c d outermost up = nowhere
-      out a c d (based b j) up = rw (up_is es s.one b.one x, up_is fs s.two b.two x) (found_sealed 0 ((r.bases b j).names x own))
-      out a c d (inside t j) up = outwards t.two s at d (subst (λ z. IsBelow (resolve (t.frame ∷ t.round) x) (length z)) (sym a) (resolve_below (t.frame ∷ t.round) x)) (up t j c d)
+      out a c d (based b j) up = rw (up_is es s.one b.one x, up_is fs s.two b.two x) (found_sealed b.frame.number ((r.bases b j).names x own))
+      out a c d (inside t j) up = outwards t.two s at d (subst (λ z. IsOf z (resolve (t.frame ∷ t.round) x)) (sym a) (of_at (suc t.one) t x j own (omega arith))) (up t j c d)
 
       -- the right finds the scope object
-      scope_here : s.frame.scoped ≡ true → W.opens ≡ true → lookup fs s.two (scope_name (length s.round)) ≡ Some (env_id s.two, value.Object (record { 0 = s.place }))
+      scope_here : s.frame.scoped ≡ true → W.opens ≡ true → lookup fs s.two (scope_name s.frame.number) ≡ Some (env_id s.two, value.Object (record { 0 = s.place }))
       scope_here scoped opens =
-          rw (lookup_on fs s.two (scope_name (length s.round)) right)
-          (rw (at.scopes opens (length s.round) at.small, scoped, eq-eqb (length s.round) (length s.round) refl) refl)
+          rw (lookup_on fs s.two (scope_name s.frame.number) right)
+          (rw (at.scopes opens s.frame.number (at.numbers scoped).0, scoped, eq-eqb s.frame.number s.frame.number refl) refl)
 
       near : {k : Kept} {a b : Option Value} {p : Option Prop} → s.frame.keeps x ≡ k → own_property (object_at ps s.place).props x ≡ p → NameRel (named W) s.frame.scoped (s.known x) k a b p → Outer s x
-          → FoundRel W ps (λ y. lookup fs s.two y) x (resolved k (length s.round) (resolve s.round x))
+          → FoundRel W ps (λ y. lookup fs s.two y) x (resolved k s.frame.number (resolve s.round x))
           (first_bound s.one a (environment_at es s.one).outer (λ q. lookup es q x)) (first_bound s.two b (environment_at fs s.two).outer (λ q. lookup fs q x))
       near e f absent up = out refl refl refl at.outer up
       near e f (free v) up = is_free s i e v
@@ -123,7 +167,15 @@ module _ {W : World} {es fs : List Environment} {ps : List Object} (r : SlotsRel
   pub found_rel : {frames : List Frame} {e f : Option EnvId} (x : List ℕ) → Round W frames e f → is_reserved W.opens x ≡ false → FoundRel W ps (look_in fs f) x (resolve frames x) (look_in es e x) (look_in fs f x)
   found_rel x outermost own = nowhere
   found_rel x (inside s i) own = found_at (suc s.one) s x i own (omega arith)
-  found_rel x (based b i) own = found_sealed 0 ((r.bases b i).names x own)
+  found_rel x (based b i) own = found_sealed b.frame.number ((r.bases b i).names x own)
+
+-- the right finds the scope object of an environment there
+pub scope_found : {W : World} {es fs : List Environment} {ps : List Object} → SlotsRel W es fs ps → AreInside fs → (s : Slot) → In s W.slots → s.frame.scoped ≡ true → W.opens ≡ true
+    → lookup fs s.two (scope_name s.frame.number) ≡ Some (env_id s.two, value.Object (record { 0 = s.place }))
+scope_found {fs = fs} r right s i scoped opens =
+    let at = r.at s i in
+    rw (lookup_on fs s.two (scope_name s.frame.number) right)
+    (rw (at.scopes opens s.frame.number (at.numbers scoped).0, scoped, eq-eqb s.frame.number s.frame.number refl) refl)
 
 -- what is found outwards is found from where it is
 pub found_there : (es : List Environment) (env : Option EnvId) (x : List ℕ) (e : EnvId) (v : Value) → AreInside es → look_in es env x ≡ Some (e, v) → lookup es e.0 x ≡ Some (e, v)

@@ -123,7 +123,7 @@ set_agrees {W = W} {h = h} {g = g} {v = v} {w = w} s x i kept own k r =
           (λ m. rw m (rw (kept, bound_there e.names x v kept (a.names x own) refl, bound_too f.names x w kept (a.names x own) refl) (free k)))
           (λ m. rw (set_other e.names x y v m, set_other f.names x y w m) (a.names y b));
       scopes = λ o d m. set_other f.names x (scope_name d) w (no_scope_name x d (reserved_as x (sym o) own)) ∙ a.scopes o d m;
-      small = a.small;
+      numbers = a.numbers;
       own = a.own;
       plain = a.plain;
     }

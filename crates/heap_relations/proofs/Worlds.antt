@@ -40,7 +40,7 @@ pub reserved_as : {a b : Bool} (x : List ℕ) → a ≡ b → is_reserved b x �
 reserved_as x e h = ap (λ c. is_reserved c x) e ∙ h
 
 pub larger_same : {W : World} → Larger W W
-larger_same = record { opens = refl; objects = λ p h. h; nodes = λ p h. h; opened = refl; fits = refl; before = refl; slots = λ p h. h; bases = λ b h. h }
+larger_same = record { opens = refl; objects = λ p h. h; nodes = λ p h. h; opened = refl; fits = refl; before = refl; slots = λ p h. h; bases = refl }
 
 pub larger_more : {U V W : World} → Larger U V → Larger V W → Larger U W
 larger_more e f = record {
@@ -51,14 +51,14 @@ larger_more e f = record {
   fits = e.fits ∙ f.fits;
   before = e.before ∙ f.before;
   slots = λ s h. f.slots s (e.slots s h);
-  bases = λ b h. f.bases b (e.bases b h);
+  bases = e.bases ∙ f.bases;
 }
 
 module _ {V W : World} (l : Larger V W) where
   pub round_up : {fs : List Frame} {e f : Option EnvId} → Round V fs e f → Round W fs e f
   round_up outermost = outermost
   round_up (inside s i) = inside s (l.slots s i)
-  round_up (based b i) = based b (l.bases b i)
+  round_up (based b i) = based b (subst (In b) l.bases i)
 
   -- by this one lemma all that `Related` relates stays so
   pub grows : Grows (named V) (named W)
@@ -67,8 +67,9 @@ module _ {V W : World} (l : Larger V W) where
     node = λ a b h. record { named = l.nodes _ h.named };
     function = λ c e d f h. record {
       frames = h.frames;
-      code = h.code ∙ ap (λ o. o h.frames c) l.opened;
-      fits = subst (λ b. IsTrue (b h.frames c)) l.fits h.fits;
+      number = h.number;
+      code = h.code ∙ ap (λ o. o h.number h.frames c) l.opened;
+      fits = subst (λ b. IsTrue (b h.number h.frames c)) l.fits h.fits;
       round = round_up h.round;
     };
   }
@@ -81,7 +82,7 @@ module _ {V W : World} (l : Larger V W) where
   name_up (copied s v) = copied s (value_up grows _ _ v)
 
   pub slot_up : {s : Slot} {e f : Environment} {o : Object} → SlotRel V s e f o → SlotRel W s e f o
-  slot_up h = record { outer = round_up h.outer; names = λ x a. name_up (h.names x (reserved_as x l.opens a)); scopes = λ o. h.scopes (l.opens ∙ o); small = h.small; own = λ x a. let o = h.own x a in record { slot = o.slot; named = l.slots _ o.named; there = o.there; kept = o.kept; same = o.same }; plain = λ b. let p = h.plain b in (sym l.opens ∙ p.0, p.1, p.2) }
+  slot_up h = record { outer = round_up h.outer; names = λ x a. name_up (h.names x (reserved_as x l.opens a)); scopes = λ o. h.scopes (l.opens ∙ o); numbers = h.numbers; own = λ x a. let o = h.own x a in record { slot = o.slot; named = l.slots _ o.named; there = o.there; kept = o.kept; same = o.same }; plain = λ b. let p = h.plain b in (sym l.opens ∙ p.0, p.1, p.2) }
 
   sealed_up : {k : Kept} {o p : Option (EnvId × Value)} → SealedRel (named V) k o p → SealedRel (named W) k o p
   sealed_up unbound = unbound
@@ -104,7 +105,7 @@ slot_scope {W = W} {s = s} {e = e} {f = f} {o = o} {p = p} same h = record {
   outer = h.outer;
   names = λ x a. name x (h.names x a);
   scopes = h.scopes;
-  small = h.small;
+  numbers = h.numbers;
   own = h.own;
   plain = λ b. rw (same b) (h.plain b);
 }

@@ -1,6 +1,6 @@
 -- A naming: a one-to-one correspondence of the ids of two heaps, which grows; and when two heaps agree for it. On the right
 -- some variables may be held by an object, the scope object of their environment.
-use Rattle.std.specs.Prelude.{◌≡◌, ℕ, ◌<◌, ◌≤◌, ◌^◌, Bool, true, false, cond, ◌&&◌, IsTrue, nat_eq, codes, List, [], ◌∷◌, ◌++◌, Option, Some, None, length, slice_index_or}
+use Rattle.std.specs.Prelude.{◌≡◌, ℕ, ◌<◌, ◌≤◌, ◌^◌, Bool, true, false, cond, not, ◌&&◌, ◌||◌, IsTrue, nat_eq, nat_lt, codes, List, [], ◌∷◌, ◌++◌, Option, Some, None, length, slice_index_or}
 use Rattle.std.specs.Fmt.{decimal}
 use Rattle.std.specs.Option.{ForSome}
 use Rattle.js_core.specs.Tree.{Code}
@@ -9,7 +9,7 @@ use Rattle.js_values.specs.declared.line.Line.{Line}
 use Rattle.js_values.specs.declared.value.Value.{Value}
 use Rattle.js_values.specs.declared.value.Value.TheVariants as value
 use Rattle.object_heap.specs.Attempt.{Attempt}
-use Rattle.object_heap.specs.Chain.{object_at}
+use Rattle.object_heap.specs.Chain.{get, object_at}
 use Rattle.object_heap.specs.Environment.{Environment, environment_at, value_of}
 use Rattle.object_heap.specs.Heap.{Contents, IsSound, look_in}
 use Rattle.object_heap.specs.Object.{Object}
@@ -40,10 +40,16 @@ pub data Kept : Type 0 where
   Sealed : Kept
   Unused : Kept
 
--- a function or a catch clause: how the right keeps each name, and whether there is a scope object
+-- a function or a catch clause: how the right keeps each name, whether there is a scope object, and its number
 pub record Frame : Type 0 where
   pub keeps : List ℕ → Kept
   pub scoped : Bool
+  pub number : ℕ
+
+-- each scope object of these frames has a number below this one
+abbrev pub are_below : ℕ → List Frame → Bool
+are_below n [] = true
+are_below n (f ∷ fs) = (not f.scoped || nat_lt f.number n) && are_below n fs
 
 -- an environment on the left and its counterpart; of what code they are, and what code is round it; the place of the scope
 -- object, if there is one; and the values of sealed and copied names on the left
@@ -67,11 +73,11 @@ pub record Before : Type 0 where
   pub two : List Line
 
 -- opens: whether the right has scope objects, so that no name of the page begins like theirs; opened: what a function's code is on the
--- right, in these frames; fits: whether code may stand in them
+-- right, in these frames, where the scopes inside are numbered from here on; fits: whether code may stand in them
 pub record World : Type 0 where
   pub opens : Bool
-  pub opened : List Frame → Code → Code
-  pub fits : List Frame → Code → Bool
+  pub opened : ℕ → List Frame → Code → Code
+  pub fits : ℕ → List Frame → Code → Bool
   pub before : Before
   pub objects : List Pair
   pub nodes : List Pair
@@ -95,15 +101,16 @@ pub data Round (W : World) : List Frame → Option EnvId → Option EnvId → Ty
 
 pub record Functions (W : World) (c : Code) (e : Option EnvId) (d : Code) (f : Option EnvId) : Type 0 where
   pub frames : List Frame
-  pub code : d ≡ W.opened frames c
-  pub fits : IsTrue (W.fits frames c)
+  pub number : ℕ
+  pub code : d ≡ W.opened number frames c
+  pub fits : IsTrue (W.fits number frames c)
   pub round : Round W frames e f
 
 -- the relations of `Related` at a naming
 abbrev pub named : World → Links
 named W = record { object = Named W; node = Nodes W; function = Functions W }
 
--- the second naming has what the first has
+-- the second naming has what the first has, and round the same functions that were rebuilt
 pub record Larger (V W : World) : Type 0 where
   pub opens : V.opens ≡ W.opens
   pub objects : (p : Pair) → In p V.objects → In p W.objects
@@ -112,7 +119,8 @@ pub record Larger (V W : World) : Type 0 where
   pub fits : V.fits ≡ W.fits
   pub before : V.before ≡ W.before
   pub slots : (s : Slot) → In s V.slots → In s W.slots
-  pub bases : (b : Base) → In b V.bases → In b W.bases
+  -- none joins
+  pub bases : V.bases ≡ W.bases
 
 abbrev pub with_object : World → ℕ → ℕ → World
 with_object W a b = record { opens = W.opens; opened = W.opened; fits = W.fits; before = W.before; objects = pair a b ∷ W.objects; nodes = W.nodes; slots = W.slots; bases = W.bases }
@@ -122,7 +130,7 @@ with_slot W s = record { opens = W.opens; opened = W.opened; fits = W.fits; befo
 
 -- ---- names
 
--- the name of the scope object of code with so many frames round it
+-- the name of the scope object of this number
 abbrev pub scope_name : ℕ → List ℕ
 scope_name k = codes "$$" ++ decimal k
 
@@ -155,7 +163,7 @@ resolved Unused k outer = Nowhere
 -- for code in these frames
 abbrev pub resolve : List Frame → List ℕ → Place
 resolve [] x = Itself
-resolve (f ∷ fs) x = resolved (f.keeps x) (length fs) (resolve fs x)
+resolve (f ∷ fs) x = resolved (f.keeps x) f.number (resolve fs x)
 
 -- ---- environments
 
@@ -183,8 +191,9 @@ scope_at false place = None
 pub record SlotRel (W : World) (s : Slot) (e f : Environment) (o : Object) : Type 0 where
   pub outer : Round W s.round e.outer f.outer
   pub names : (x : List ℕ) → is_reserved W.opens x ≡ false → NameRel (named W) s.frame.scoped (s.known x) (s.frame.keeps x) (value_of e.names x) (value_of f.names x) (own_property o.props x)
-  pub scopes : W.opens ≡ true → (k : ℕ) → k < 2 ^ 64 → value_of f.names (scope_name k) ≡ scope_at (s.frame.scoped && nat_eq k (length s.round)) s.place
-  pub small : length s.round < 2 ^ 64
+  pub scopes : W.opens ≡ true → (k : ℕ) → k < 2 ^ 64 → value_of f.names (scope_name k) ≡ scope_at (s.frame.scoped && nat_eq k s.frame.number) s.place
+  -- inner scopes have larger numbers
+  pub numbers : s.frame.scoped ≡ true → (s.frame.number < 2 ^ 64) × (are_below s.frame.number s.round ≡ true)
   pub own : (x : List ℕ) → s.frame.keeps x ≡ Copied → OwnName W s x e.outer
   pub plain : s.frame.scoped ≡ true → (W.opens ≡ true) × (o.class ≡ class.Plain) × (o.closed ≡ false)
 
@@ -232,15 +241,32 @@ pub data FoundRel (W : World) (ps : List Object) (look : List ℕ → Option (En
   nowhere : FoundRel W ps look x Itself None None
   is_free : {v w : Value} (s : Slot) → In s W.slots → s.frame.keeps x ≡ Free → ValueRel (named W) v w → FoundRel W ps look x Itself (Some (env_id s.one, v)) (Some (env_id s.two, w))
   is_captured : {v : Value} {any : Option (EnvId × Value)} (s : Slot) → In s W.slots → s.frame.keeps x ≡ Captured → W.opens ≡ true
-      → look (scope_name (length s.round)) ≡ Some (env_id s.two, value.Object (record { 0 = s.place }))
+      → look (scope_name s.frame.number) ≡ Some (env_id s.two, value.Object (record { 0 = s.place }))
       → {p : Prop} → own_property (object_at ps s.place).props x ≡ Some p → ValueRel (named W) v p.value
-      → FoundRel W ps look x (InScope (length s.round)) (Some (env_id s.one, v)) any
+      → FoundRel W ps look x (InScope s.frame.number) (Some (env_id s.one, v)) any
   is_copied : {e : EnvId} {v : Value} {any : Option (EnvId × Value)} (s : Slot) → W.opens ≡ true
-      → look (scope_name (length s.round)) ≡ Some (env_id s.two, value.Object (record { 0 = s.place }))
+      → look (scope_name s.frame.number) ≡ Some (env_id s.two, value.Object (record { 0 = s.place }))
       → {p : Prop} → own_property (object_at ps s.place).props x ≡ Some p → ValueRel (named W) v p.value
-      → FoundRel W ps look x (Copy (length s.round)) (Some (e, v)) any
+      → FoundRel W ps look x (Copy s.frame.number) (Some (e, v)) any
   is_sealed : {e f : EnvId} {v w : Value} → ValueRel (named W) v w → FoundRel W ps look x Fixed (Some (e, v)) (Some (f, w))
   is_unused : {o p : Option (EnvId × Value)} → FoundRel W ps look x Nowhere o p
+
+-- what a variable is that both have
+pub record BothRel (W : World) (h g : Contents) (s : Slot) (x : List ℕ) : Type 0 where
+  pub left : Value
+  pub right : Value
+  pub one : value_of (environment_at h.environments s.one).names x ≡ Some left
+  pub two : value_of (environment_at g.environments s.two).names x ≡ Some right
+  pub same : ValueRel (named W) left right
+
+-- what a captured variable is, on the right as a property of the scope object, which is plain
+pub record CapturedRel (W : World) (h g : Contents) (s : Slot) (x : List ℕ) : Type 0 where
+  pub left : Value
+  pub right : Value
+  pub one : value_of (environment_at h.environments s.one).names x ≡ Some left
+  pub two : get g.objects s.place x ≡ Some right
+  pub same : ValueRel (named W) left right
+  pub plain : (object_at g.objects s.place).class ≡ class.Plain
 
 -- the one heap is as it is, and on the other nothing is thrown
 pub record Assigned (W : World) (h : Contents) (attempt : Attempt Contents) : Type 0 where

@@ -13,7 +13,7 @@ ghost use Rattle.heap_relations.specs.Laws.{
   RelatedStay,
   SameAgree,
 };
-ghost use Rattle.heap_relations.specs.Scope.{ScopesAgree};
+ghost use Rattle.heap_relations.specs.Scope.{OwnFunctionsAgree, ScopesAgree};
 
 /// The laws of objects.
 pub fn law_objects_agree()
@@ -46,4 +46,6 @@ pub fn law_environments_agree()
     ensures new_environments { OpenedAgree }
     // So does one whose captured variables the second heap puts into an object literal.
     ensures scopes { ScopesAgree }
+    // Functions with an own name join the naming with the environments that bind it.
+    ensures own_functions { OwnFunctionsAgree }
 {}
