@@ -34,7 +34,7 @@ found_links None = []
 found_links (Some found) = value_links found.1
 
 -- the parts of two joined lists are below what the whole is
-below_parts : (n : ℕ) (xs ys : List ℕ) → all_below n (xs ++ ys) ≡ true → (all_below n xs ≡ true) × (all_below n ys ≡ true)
+pub below_parts : (n : ℕ) (xs ys : List ℕ) → all_below n (xs ++ ys) ≡ true → (all_below n xs ≡ true) × (all_below n ys ≡ true)
 below_parts n xs ys h =
     let split = and_parts (all_below n xs) (all_below n ys) (sym (list_all-append (λ k. nat_lt k n) xs ys) ∙ h) in
     (split.0, split.1)

@@ -4,7 +4,7 @@ pub mod Callers
 pub mod Joining
 pub mod Needing
 pub mod Places
+pub mod Remaking
 pub mod Resting
-pub mod Standing
 pub mod Walks
 pub mod Weights

@@ -1,6 +1,6 @@
-pub mod Alone
 pub mod Laws
 pub mod Needs
+pub mod Remade
 pub mod Still
 pub mod Things
 pub mod Walking

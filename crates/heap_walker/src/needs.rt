@@ -101,9 +101,9 @@ fn bound_value(state: &State, env: Option<EnvId>, name: &Units) -> Result<Value,
     }
 }
 
-// The names of those variables, in the order of their uses. The work is in proportion to the function's code, and each use
-// costs as much as there are functions and catch clauses round it.
-fn needed_names(alloc: Global, code: &FunctionCode) -> Result<IndexSet<Units>, OutOfMemory>
+/// The names of those variables, in the order of their uses. The work is in proportion to the function's code, and each use
+/// costs as much as there are functions and catch clauses round it.
+pub fn needed_names(alloc: Global, code: &FunctionCode) -> Result<IndexSet<Units>, OutOfMemory>
     ensures { IfOk result (λ names. names.keys ≡ needed_variables code.now) }
 {
     let bound = bound_round(alloc, code)?;

@@ -1,6 +1,6 @@
 use Rattle.std.proofs.Common.{◌∙◌, ap}
 use Rattle.heap_walker.proofs.Bound.{found_is_here, nowhere_is_here, outside, place_of, resolves_to}
-use Rattle.heap_walker.proofs.alone.is_here.Goals as goal
+use Rattle.heap_walker.proofs.remade.is_here.Goals as goal
 
 pub returns-in-Environment : goal.returns-in-Environment
 returns-in-Environment c =

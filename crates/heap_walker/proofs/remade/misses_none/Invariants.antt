@@ -2,8 +2,8 @@ use Rattle.std.proofs.Common.{◌≡◌, ℕ, List, bytes_eq, length}
 use Rattle.indexmap.specs.IndexSet.{contains}
 use Rattle.scope_analysis.specs.Names.{is_among}
 use Rattle.scope_analysis.specs.Uses.{leaving_function}
-use Rattle.heap_walker.specs.Alone.{misses_none}
-use Rattle.heap_walker.proofs.alone.misses_none.Given as goal
+use Rattle.heap_walker.specs.Remade.{misses_none}
+use Rattle.heap_walker.proofs.remade.misses_none.Given as goal
 
 abbrev pub invariant-loop-rest : goal.invariant-loop-rest
 invariant-loop-rest l =

@@ -1,7 +1,7 @@
 use Rattle.std.proofs.Common.{◌∙◌, sym}
 use Rattle.code_table.specs.Declarations.{name_of}
 use Rattle.heap_walker.proofs.Bound.{own_name_from}
-use Rattle.heap_walker.proofs.alone.has_own_name.Goals as goal
+use Rattle.heap_walker.proofs.remade.has_own_name.Goals as goal
 
 pub returns-then-is_here : goal.returns-then-is_here
 returns-then-is_here c =

@@ -1,4 +1,4 @@
-//! Functions that can be made again from their code alone.
+//! Functions that can be made again from their code and what their needed variables hold.
 
 ghost use Rattle.std.specs.Prelude.{
   ◌≡◌,
@@ -13,23 +13,27 @@ ghost use Rattle.std.specs.Prelude.{
   bytes_eq,
   is_some,
 };
+ghost use Rattle.std.specs.List.{list_all};
 ghost use Rattle.std.specs.Option.{option_map};
 ghost use Rattle.code_table.specs.Declarations.{name_of};
 ghost use Rattle.indexmap.specs.IndexSet.{contains};
 ghost use Rattle.js_core.specs.Height.{code_height};
 ghost use Rattle.js_values.specs.declared.value.Value.TheVariants as value;
 ghost use Rattle.object_heap.specs.Heap.{look_in};
+ghost use Rattle.object_shapes.specs.Links.{all_below, value_links};
 ghost use Rattle.page_meaning.specs.Properties.{class_at};
+ghost use Rattle.scope_analysis.specs.FreeUses.{needed_variables};
 ghost use Rattle.scope_analysis.specs.Names.{is_among};
 ghost use Rattle.scope_analysis.specs.Uses.{leaving_function};
-ghost use Rattle.heap_walker.specs.Alone as spec;
-ghost use Rattle.heap_walker.specs.Alone.{StandAlone, StandsAlone};
+ghost use Rattle.heap_walker.specs.Remade as spec;
+ghost use Rattle.heap_walker.specs.Remade.{AllCanBeRemade, CanBeRemade};
 ghost use Rattle.heap_walker.specs.Still.{OwnName, bound_here};
 
-use crate::needs::{bound_round, source_of, uses_of};
+use crate::needs::{bound_round, needed_names, source_of, uses_of};
 use crate::reached::Walked;
 use code_table::FunctionCode;
 use indexmap::IndexSet;
+use js_core::limits::FUNCTION_HEIGHT_LIMIT;
 use js_core::memory::OutOfMemory;
 use js_core::units::Units;
 use js_values::ids::{EnvId, ObjId};
@@ -40,30 +44,27 @@ use page_state::State;
 use scope_analysis::name_test::is_reserved;
 use scope_analysis::name_use::Use;
 
-// How high the code of a function may be.
-const HEIGHT: u64 = 399;
-
-/// Whether each function among the things can be made again from its code alone. The work is in proportion to the code of the
-/// functions, and each use of a name costs as much as there are functions and catch clauses round it.
-pub fn stand_alone(state: &State, walked: &Walked) -> Result<bool, OutOfMemory>
-    ensures { IfOk result (λ alone. (alone ≡ true)
-        ↔ StandAlone state.now walked.now.things.keys) }
+/// Whether each function among the things can be made again from its code and what its needed variables hold. The work is in
+/// proportion to the code of the functions, and each use of a name costs as much as there are functions and catch clauses round it.
+pub fn all_can_be_remade(state: &State, walked: &Walked) -> Result<bool, OutOfMemory>
+    ensures { IfOk result (λ remade. (remade ≡ true)
+        ↔ AllCanBeRemade state.now walked.now.things.keys) }
 {
     for place in walked.things.as_slice() {
-        if !is_alone(state, ObjId(*place))? {
+        if !object_can_be_remade(state, ObjId(*place))? {
             return Ok(false);
         }
     }
     Ok(true)
 }
 
-// Whether the object at the place can be made again from its code alone, if it is a function of the page.
-fn is_alone(state: &State, at: ObjId) -> Result<bool, OutOfMemory>
-    ensures { IfOk result (λ alone. (alone ≡ true)
-        ↔ spec.ClassStands state.now at.0 (class_at state.now at)) }
+// Whether the object at the place can be made again so, if it is a function of the page.
+fn object_can_be_remade(state: &State, at: ObjId) -> Result<bool, OutOfMemory>
+    ensures { IfOk result (λ remade. (remade ≡ true)
+        ↔ spec.ClassCanBeRemade state.now at.0 (class_at state.now at)) }
 {
     match state.class(at) {
-        Class::Page { code, env } => stands_alone(state, at, code, *env),
+        Class::Page { code, env } => can_be_remade(state, at, code, *env),
         Class::Plain
         | Class::List
         | Class::Bound { .. }
@@ -76,26 +77,26 @@ fn is_alone(state: &State, at: ObjId) -> Result<bool, OutOfMemory>
     }
 }
 
-// Whether the function at the place can be made again from its code alone.
-fn stands_alone(
+// Whether the function at the place can be made again so.
+fn can_be_remade(
     state: &State,
     at: ObjId,
     code: &FunctionCode,
     env: Option<EnvId>,
 ) -> Result<bool, OutOfMemory>
-    ensures { IfOk result (λ alone. (alone ≡ true) ↔ StandsAlone state.now at.0 code.now env) }
+    ensures { IfOk result (λ remade. (remade ≡ true) ↔ CanBeRemade state.now at.0 code.now env) }
 {
     if !is_low(code) || !has_own_name(state, at, code, env) {
         return Ok(false);
     }
-    misses_nothing(state, code, env)
+    Ok(has_needs(state, at, code, env)? && misses_nothing(state, code, env)?)
 }
 
 // Whether the code is no higher than that of a function of a form page.
 fn is_low(code: &FunctionCode) -> bool
     ensures { (result ≡ true) ↔ (code_height code.now + 1 ≤ 400) }
 {
-    source_of(code).height() <= HEIGHT
+    source_of(code).height() < FUNCTION_HEIGHT_LIMIT
 }
 
 // Whether the function's own name, if it has one, is bound in its innermost environment to the function.
@@ -141,13 +142,61 @@ fn is_object(held: &Value, at: ObjId) -> bool
     }
 }
 
-// Whether all names that the function leaves to the scopes round it are neither variables that it needs nor bound there.
+// Whether the variables that the function needs are bound round it, and hold what is older than it.
+fn has_needs(
+    state: &State,
+    at: ObjId,
+    code: &FunctionCode,
+    env: Option<EnvId>,
+) -> Result<bool, OutOfMemory>
+    ensures { IfOk result (λ held. held
+        ≡ list_all (spec.is_held state.now at.0 env) (needed_variables code.now)) }
+{
+    let names = needed_names(state.alloc(), code)?;
+    Ok(all_held(state, at, env, names.as_slice()))
+}
+
+// The same of these names.
+fn all_held(state: &State, at: ObjId, env: Option<EnvId>, names: &[Units]) -> bool
+    ensures { result ≡ list_all (spec.is_held state.now at.0 env) names.now }
+{
+    let mut rest = names;
+    while let [name, after @ ..] = rest {
+        if !is_held(state, at, env, name) {
+            return false;
+        }
+        rest = after;
+    }
+    true
+}
+
+// The same of this name.
+fn is_held(state: &State, at: ObjId, env: Option<EnvId>, name: &Units) -> bool
+    ensures { result ≡ spec.is_held state.now at.0 env name.now }
+{
+    match state.bound(env, name) {
+        Some(value) => is_older(value, at),
+        None => false,
+    }
+}
+
+// Whether the value is no object, or an older one than this.
+fn is_older(held: &Value, at: ObjId) -> bool
+    ensures { result ≡ all_below at.0 (value_links held.now) }
+{
+    match held {
+        Value::Object(place) => place.0 < at.0,
+        Value::Undefined | Value::Null | Value::Bool(_) | Value::Num(_) | Value::Text(_) => true,
+    }
+}
+
+// Whether none of the other names that the function leaves to the scopes round it is bound there.
 fn misses_nothing(
     state: &State,
     code: &FunctionCode,
     env: Option<EnvId>,
 ) -> Result<bool, OutOfMemory>
-    ensures { IfOk result (λ alone. alone
+    ensures { IfOk result (λ unbound. unbound
         ≡ spec.misses_none state.now env (spec.left_by code.now)) }
 {
     let bound = bound_round(state.alloc(), code)?;
@@ -171,9 +220,9 @@ fn misses_none(state: &State, env: Option<EnvId>, bound: &IndexSet<Units>, uses:
     true
 }
 
-// Whether a function made again from its code alone would miss the name.
+// Whether the name is not that of a needed variable, and is bound round the function.
 fn is_missed(state: &State, env: Option<EnvId>, name: &Units) -> bool
     ensures { result ≡ spec.is_missed state.now env name.now }
 {
-    is_reserved(name) || state.bound(env, name).is_some()
+    !is_reserved(name) && state.bound(env, name).is_some()
 }

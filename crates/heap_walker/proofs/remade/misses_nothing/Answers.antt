@@ -1,9 +1,9 @@
 use Rattle.std.proofs.Common.{◌∙◌, ◌++◌, ap, List, ℕ}
 use Rattle.code_table.specs.Declarations.{name_of}
 use Rattle.scope_analysis.specs.Names.{bound_names, maybe_name}
-use Rattle.heap_walker.specs.Alone.{misses_none}
-use Rattle.heap_walker.proofs.Standing.{left_of}
-use Rattle.heap_walker.proofs.alone.misses_nothing.Goals as goal
+use Rattle.heap_walker.specs.Remade.{misses_none}
+use Rattle.heap_walker.proofs.Remaking.{left_of}
+use Rattle.heap_walker.proofs.remade.misses_nothing.Goals as goal
 
 pub returns : goal.returns
 returns c =
