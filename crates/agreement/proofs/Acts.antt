@@ -1,30 +1,16 @@
 -- Acts are put together.
-use Rattle.std.proofs.Common.{◌≡◌, refl, ◌∙◌, Bool, true, false}
+use Rattle.std.proofs.Common.{◌≡◌, Bool, true, false}
 use Rattle.js_values.specs.declared.value.Value.{Value}
-use Rattle.page_meaning.specs.Act.{Act, ActOf, Outcome, also, asking, bind, choose, on_value, ret, then_on}
+use Rattle.page_meaning.specs.Act.{Act, ActOf, Outcome, also, asking, bind, choose, give, on_value, ret, then_on}
 use Rattle.page_meaning.specs.Store.{Store}
 use Rattle.page_meaning.specs.declared.signal.Signal.{Signal}
+use Rattle.heap_relations.proofs.Callers.{larger_more, larger_same}
 use Rattle.heap_relations.specs.Naming.{Larger, named, World}
 use Rattle.heap_relations.specs.Related.{IsOneToOne}
 use Rattle.agreement.proofs.Heap.{value_up}
 use Rattle.agreement.specs.Acts.{ActRel, Agrees, Continues, HasBuiltIns, OutcomeRel, Relation, SignalRel, StoreRel, break, continue, ended, return, stopped, thrown, value}
 
-pub larger_same : {W : World} → Larger W W
-larger_same = record { opens = refl; opened = refl; fits = refl; before = refl; objects = λ p h. h; nodes = λ p h. h; slots = λ s h. h; bases = λ b h. h }
-
-pub larger_more : {U V W : World} → Larger U V → Larger V W → Larger U W
-larger_more e f = record {
-  opens = e.opens ∙ f.opens;
-  opened = e.opened ∙ f.opened;
-  fits = e.fits ∙ f.fits;
-  before = e.before ∙ f.before;
-  objects = λ p h. f.objects p (e.objects p h);
-  nodes = λ p h. f.nodes p (e.nodes p h);
-  slots = λ s h. f.slots s (e.slots s h);
-  bases = λ b h. f.bases b (e.bases b h);
-}
-
-outcome_up : {A : Type 0} {R : Relation A} {U V : World} {o p : Outcome A} → Larger U V → OutcomeRel R V o p → OutcomeRel R U o p
+pub outcome_up : {A : Type 0} {R : Relation A} {U V : World} {o p : Outcome A} → Larger U V → OutcomeRel R V o p → OutcomeRel R U o p
 outcome_up l (ended W m h g) = ended W (larger_more l m) h g
 outcome_up l (stopped W m g) = stopped W (larger_more l m) g
 
@@ -60,6 +46,10 @@ on_value_rel h continue = ret_rel (λ W l. continue)
 
 pub also_rel : {V : World} {p q : Act} {f g : Value → Act} → Agrees V p q → Continues V f g → Agrees V (also p f) (also q g)
 also_rel m h = bind_rel m (λ W l a b r. on_value_rel (λ X j. h X (larger_more l j)) r)
+
+-- on the right a value is given before
+pub after_given : {R : Relation Signal} {V : World} {p : Act} (w : Value) (g : Value → Act) → ActRel R V p (g w) → ActRel R V p (also (give w) g)
+after_given w g h = record { run = λ W l s t n r. h.run W l s t n r }
 
 -- an act may speak of what is built in
 pub on_built_ins : {A : Type 0} {R : Relation A} {V : World} {p q : ActOf A} → ((W : World) → Larger V W → HasBuiltIns W → ActRel R W p q) → ActRel R V p q

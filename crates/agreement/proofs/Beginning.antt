@@ -1,5 +1,6 @@
 -- A page before its scripts agrees with itself: each built-in object names itself, and refers only to built-in ones (section 15).
 use Rattle.std.proofs.Common.{◌≡◌, refl, sym, subst, ℕ, zero, suc, ◌<◌, Bool, true, false, ◌&&◌, nat_eq, nat_lt, List, [], ◌∷◌, Option, Some, None, length, arith}
+use Rattle.agreement.specs.Opened.{HasTrees, function_stands, opened_code}
 use Rattle.std.proofs.lemmas.Bool.{and_parts, ltb-true}
 use Rattle.std.proofs.lemmas.Bool.Decides.{nat_tests}
 use Rattle.js_core.specs.Tree as tree
@@ -15,7 +16,7 @@ use Rattle.object_heap.specs.declared.object.Class.TheVariants as class
 use Rattle.object_heap.specs.declared.property.Prop.{Prop}
 use Rattle.page_meaning.specs.Places.{array_prototype_place, boolean_prototype_place, console_place, error_prototype_place, function_place, math_place, number_prototype_place, range_error_prototype_place, reference_error_prototype_place, string_prototype_place, type_error_prototype_place}
 use Rattle.page_meaning.specs.Pristine.{pristine}
-use Rattle.heap_relations.specs.Naming.{here, In, named, Pair, pair, SlotsRel, there, World}
+use Rattle.heap_relations.specs.Naming.{here, In, named, Pair, pair, SlotsRel, there, World, Frame}
 use Rattle.heap_relations.specs.Related.{array, ClassRel, Entries, entry, fault, math, Maybe, native, no_entries, none, null, num, object, ObjectIds, ObjectRel, ObjectsRel, plain, PropRel, some, text, truth, undefined, ValueRel, window}
 use Rattle.object_shapes.proofs.Callers.{pristine_shaped}
 use Rattle.object_shapes.specs.Links.{built_in_count}
@@ -29,12 +30,12 @@ abbrev same_below : ℕ → List Pair
 same_below zero = []
 same_below (suc n) = pair n n ∷ same_below n
 
--- whose functions pass this test
-abbrev pub pristine_world : (tree.Code → Bool) → World
-pristine_world asks = record {
-  opens = false;
-  opened = λ fs c. c;
-  fits = code_fits asks;
+-- where functions have such code on the right, and may stand so
+abbrev pub pristine_of : Bool → (ℕ → List Frame → tree.Code → tree.Code) → (ℕ → List Frame → tree.Code → Bool) → World
+pristine_of opens opened fits = record {
+  opens = opens;
+  opened = opened;
+  fits = fits;
   before = record { one = []; two = [] };
   objects = same_below built_in_count;
   nodes = [];
@@ -42,8 +43,19 @@ pristine_world asks = record {
   bases = [];
 }
 
+-- with equal trees, whose functions pass this test
+abbrev pub pristine_world : (tree.Code → Bool) → World
+pristine_world asks = pristine_of false (λ n fs c. c) (λ n. code_fits asks)
+
 abbrev pub pristine_trees : (asks : tree.Code → Bool) → HasEqualTrees (pristine_world asks)
-pristine_trees asks = record { asks = asks; opens = refl; opened = λ fs c. refl; fits = λ fs c. refl }
+pristine_trees asks = record { asks = asks; opens = refl; opened = λ n fs c. refl; fits = λ n fs c. refl }
+
+-- with opened trees
+abbrev pub opened_world : (tree.Code → Bool) → World
+opened_world asks = pristine_of true (opened_code true) (function_stands (record { opens = true; asks = asks }))
+
+abbrev pub opened_trees : (asks : tree.Code → Bool) → HasTrees (opened_world asks)
+opened_trees asks = record { demand = record { opens = true; asks = asks }; opens = refl; opened = λ n fs c. refl; fits = λ n fs c. refl; bases = λ e. refl }
 
 -- what is named below a place
 record IsSame (n a b : ℕ) : Type 0 where
@@ -63,8 +75,8 @@ below_named (suc n) k h = by_case (nat_eq k n) refl (λ below. below_named n k b
     by_case true e up = let same : n ≡ k = grind (arith, nat_tests) in subst (λ m. In (pair k k) (pair m m ∷ same_below n)) (sym same) here
     by_case false e up = there (up (grind (arith, nat_tests)))
 
-pub pristine_named : (asks : tree.Code → Bool) → HasBuiltIns (pristine_world asks)
-pristine_named asks k h = record { named = below_named built_in_count k h }
+pub pristine_named : (opens : Bool) (opened : ℕ → List Frame → tree.Code → tree.Code) (fits : ℕ → List Frame → tree.Code → Bool) → HasBuiltIns (pristine_of opens opened fits)
+pristine_named opens opened fits k h = record { named = below_named built_in_count k h }
 
 -- ---- what an object refers to
 
@@ -160,13 +172,13 @@ pristine_there k h = subst (λ n. k < n) (sym all_there) h
 no_one : {A : Type 0} {x : A} → In x [] → ⊥
 no_one i = elim i [ ]
 
-module _ (asks : tree.Code → Bool) where
-  both_at : (a b : ℕ) → a ≡ b → ObjectRel (named (pristine_world asks)) (object_at pristine.heap.objects a) (object_at pristine.heap.objects b)
+module _ (opens : Bool) (opened : ℕ → List Frame → tree.Code → tree.Code) (fits : ℕ → List Frame → tree.Code → Bool) where
+  both_at : (a b : ℕ) → a ≡ b → ObjectRel (named (pristine_of opens opened fits)) (object_at pristine.heap.objects a) (object_at pristine.heap.objects b)
   both_at a b e =
       let o = object_at pristine.heap.objects a in
-      subst (λ c. ObjectRel (named (pristine_world asks)) o (object_at pristine.heap.objects c)) e (built_in_itself (pristine_named asks) a)
+      subst (λ c. ObjectRel (named (pristine_of opens opened fits)) o (object_at pristine.heap.objects c)) e (built_in_itself (pristine_named opens opened fits) a)
 
-  pristine_objects : ObjectsRel (named (pristine_world asks)) pristine.heap.objects pristine.heap.objects
+  pristine_objects : ObjectsRel (named (pristine_of opens opened fits)) pristine.heap.objects pristine.heap.objects
   pristine_objects = record {
     at = λ a b i. both_at a b (is_same built_in_count a b i.named).same;
     inside = λ a b i.
@@ -177,7 +189,7 @@ module _ (asks : tree.Code → Bool) where
     };
   }
 
-  no_slots : SlotsRel (pristine_world asks) [] [] pristine.heap.objects
+  no_slots : SlotsRel (pristine_of opens opened fits) [] [] pristine.heap.objects
   no_slots = record {
     at = λ s i. absurd (no_one i);
     inside = λ s i. absurd (no_one i);
@@ -189,10 +201,10 @@ module _ (asks : tree.Code → Bool) where
     bases = λ b i. absurd (no_one i);
   }
 
-  pub pristine_stores : IsSound pristine.heap → StoreRel (pristine_world asks) pristine pristine
+  pub pristine_stores : IsSound pristine.heap → StoreRel (pristine_of opens opened fits) pristine pristine
   pristine_stores sound = record {
     heap = record { objects = pristine_objects; slots = no_slots; left = sound; right = sound };
     lines = record { more = []; one = refl; two = refl };
-    built_ins = pristine_named asks;
+    built_ins = pristine_named opens opened fits;
     shaped = pristine_shaped;
   }

@@ -1,15 +1,15 @@
 -- What calls back: calls that agree, and related lists of values (section 15.3.4).
-use Rattle.std.proofs.Common.{◌≡◌, refl, ap, subst, ℕ, zero, suc, Bool, true, false, List, ◌++◌, length, drop, if◌then◌else◌}
+use Rattle.std.proofs.Common.{◌≡◌, refl, subst, ℕ, Bool, true, false, List, if◌then◌else◌}
 use Rattle.js_values.specs.declared.value.Value.{Value}
 use Rattle.object_heap.specs.Define.{number}
 use Rattle.page_meaning.specs.Act.{Calls}
 use Rattle.page_meaning.specs.FunctionRows.{is_callable}
 use Rattle.page_meaning.specs.Store.{Store}
 use Rattle.whole_ops.specs.Conversions.{is_true}
+use Rattle.heap_relations.proofs.Callers.{larger_more}
 use Rattle.heap_relations.specs.Naming.{Larger, named, World}
-use Rattle.heap_relations.specs.Related.{Each, ValueRel, each, no_more, undefined, null, truth, num, text, object}
+use Rattle.heap_relations.specs.Related.{Each, ValueRel, undefined, null, truth, num, text, object}
 use Rattle.agreement.specs.Acts.{CallsRel, Relation, StoreRel}
-use Rattle.agreement.proofs.Acts.{larger_more}
 use Rattle.agreement.proofs.Properties.{class_of_rel, is_function_same}
 
 pub calls_up : {V W : World} {c d : Calls} → Larger V W → CallsRel V c d → CallsRel W c d
@@ -22,19 +22,6 @@ calls_up l calls = record {
 
 abbrev pub Values : Relation (List Value)
 Values W = Each (ValueRel (named W))
-
-pub append_rel : {A : Type 0} {R : A → A → Type 0} {xs ys us vs : List A} → Each R xs ys → Each R us vs → Each R (xs ++ us) (ys ++ vs)
-append_rel no_more k = k
-append_rel (each h hs) k = each h (append_rel hs k)
-
-pub drop_rel : {A : Type 0} {R : A → A → Type 0} {xs ys : List A} (n : ℕ) → Each R xs ys → Each R (drop n xs) (drop n ys)
-drop_rel zero h = h
-drop_rel (suc n) no_more = no_more
-drop_rel (suc n) (each h hs) = drop_rel n hs
-
-pub length_same : {A : Type 0} {R : A → A → Type 0} {xs ys : List A} → Each R xs ys → length xs ≡ length ys
-length_same no_more = refl
-length_same (each h hs) = ap suc (length_same hs)
 
 -- ---- values
 

@@ -1,5 +1,5 @@
 -- Calls and constructions in both pages (sections 11.2.3, 13.2.1, 13.2.2 and 15.3.4.5).
-use Rattle.std.proofs.Common.{◌≡◌, refl, sym, ap, subst, ◌∙◌, ℕ, zero, suc, Bool, true, false, List, Option, Some, codes}
+use Rattle.std.proofs.Common.{◌≡◌, refl, sym, subst, ◌∙◌, ℕ, zero, suc, Bool, true, false, List, Option, Some, codes}
 use Rattle.js_core.specs.Tree as tree
 use Rattle.js_core.specs.Tree.{code}
 use Rattle.js_values.specs.declared.ids.EnvId.{EnvId}
@@ -16,65 +16,39 @@ use Rattle.page_meaning.specs.Functions.{enter}
 use Rattle.page_meaning.specs.Places.{object_prototype}
 use Rattle.page_meaning.specs.Primitives.{make}
 use Rattle.page_meaning.specs.Statements.{exec_all}
-use Rattle.heap_relations.specs.Naming.{Frame, Functions, Larger, Named, named, Round, World, based, inside, outermost}
+use Rattle.heap_relations.proofs.Callers.{each_append, larger_more, larger_same, functions_up}
+use Rattle.heap_relations.specs.Naming.{Functions, Named, named, World}
 use Rattle.heap_relations.specs.Related.{ClassRel, Each, Maybe, ValueRel, array, bound, event, fault, math, native, no_entries, node, none, null, num, object, page, plain, some, text, truth, undefined, window}
 use Rattle.agreement.specs.Acts.{ActRel, Agrees, CallsRel, Ids, Relation}
-use Rattle.agreement.specs.Trees.{HasEqualTrees, code_fits}
-use Rattle.agreement.proofs.Acts.{act_up, also_rel, asking_rel, bind_rel, choose_rel, larger_more, larger_same, on_built_ins}
+use Rattle.agreement.specs.Opened.{HasTrees}
+use Rattle.agreement.proofs.Acts.{act_up, also_rel, asking_rel, bind_rel, choose_rel, on_built_ins}
 use Rattle.agreement.proofs.AllRows.{row_of_rel}
-use Rattle.agreement.proofs.Called.{append_rel, calls_up}
+use Rattle.agreement.proofs.Called.{calls_up}
 use Rattle.agreement.proofs.EqualTrees.{trees_up}
-use Rattle.agreement.proofs.Functions.{RunsIn, enter_rel}
+use Rattle.agreement.proofs.Entered.{entered_code}
 use Rattle.agreement.proofs.Heap.{make_rel, named_up, take_step_rel, value_up, values_up}
 use Rattle.agreement.proofs.Made.{object_place}
 use Rattle.agreement.proofs.Properties.{class_of_rel, is_function_same, read_property_rel}
-use Rattle.agreement.proofs.Statements.{exec_all_rel}
 use Rattle.agreement.proofs.Values.{give_rel, object_value_rel, raise_rel}
-
--- ---- equal trees
-
--- what a page's function is entered with, where trees are equal
-pub record OneCode (V : World) (asks : tree.Code → Bool) (c : tree.Code) (e : Option EnvId) (d : tree.Code) (f : Option EnvId) : Type 0 where
-  pub frames : List Frame
-  pub same : c ≡ d
-  pub fits : code_fits asks frames c ≡ true
-  pub round : Round V frames e f
-
-pub one_code : {V : World} {c d : tree.Code} {e f : Option EnvId} (trees : HasEqualTrees V) → Functions V c e d f → OneCode V trees.asks c e d f
-one_code {c = c} trees h = record {
-  frames = h.frames;
-  same = sym (h.code ∙ trees.opened h.frames c);
-  fits = sym (trees.fits h.frames c) ∙ h.fits;
-  round = h.round;
-}
 
 -- ---- entering a page's function
 
-runs_in : {V : World} (c d : Calls) (body : tree.Stmts) → CallsRel V c d → RunsIn V (exec_all c) (exec_all d) body
-runs_in c d body calls = λ W l fs a b h f. exec_all_rel c d fs a b body (calls_up l calls) h f
-
-entered_one : {V : World} {this that : Value} {vs ws : List Value} (c d : Calls) (fs : List Frame) (k : tree.Code) (e f : Option EnvId)
-    → CallsRel V c d → (trees : HasEqualTrees V) → Round V fs e f → code_fits trees.asks fs k ≡ true
-    → ValueRel (named V) this that → Each (ValueRel (named V)) vs ws → Agrees V (enter (exec_all c) k e this vs) (enter (exec_all d) k f that ws)
-entered_one c d fs (code x formals body) e f calls trees r fit h hs =
-    enter_rel (exec_all c) (exec_all d) fs x formals body e f trees r fit (runs_in c d body calls) h hs
-
-pub entered_rel : {V : World} {this that : Value} {vs ws : List Value} {k m : tree.Code} {e f : Option EnvId} (c d : Calls) → CallsRel V c d → HasEqualTrees V → Functions V k e m f
+pub entered_rel : {V : World} {this that : Value} {vs ws : List Value} {k m : tree.Code} {e f : Option EnvId} (c d : Calls) → CallsRel V c d → HasTrees V → Functions V k e m f
     → ValueRel (named V) this that → Each (ValueRel (named V)) vs ws → Agrees V (enter (exec_all c) k e this vs) (enter (exec_all d) m f that ws)
 entered_rel {V = V} {this = this} {that = that} {vs = vs} {ws = ws} {k = k} {e = e} {f = f} c d calls trees n h hs =
-    let one = one_code trees n in
-    subst (λ x. Agrees V (enter (exec_all c) k e this vs) (enter (exec_all d) x f that ws)) one.same (entered_one c d one.frames k e f calls trees one.round one.fits h hs)
+    subst (λ x. Agrees V (enter (exec_all c) k e this vs) (enter (exec_all d) x f that ws)) (sym (n.code ∙ trees.opened n.number n.frames k))
+    (entered_code c d n.number n.frames k e f calls trees n.round (sym (trees.fits n.number n.frames k) ∙ n.fits) h hs)
 
 -- ---- calls
 
-pub called_rel : {V : World} {this that : Value} {vs ws : List Value} {k m : Option Class} (c d : Calls) → CallsRel V c d → HasEqualTrees V → ValueRel (named V) this that → Each (ValueRel (named V)) vs ws
+pub called_rel : {V : World} {this that : Value} {vs ws : List Value} {k m : Option Class} (c d : Calls) → CallsRel V c d → HasTrees V → ValueRel (named V) this that → Each (ValueRel (named V)) vs ws
     → Maybe (ClassRel (named V)) k m → Agrees V (called c this vs k) (called d that ws m)
 called_rel c d calls trees h hs none = raise_rel NotFunction
 called_rel c d calls trees h hs (some plain) = raise_rel NotFunction
 called_rel c d calls trees h hs (some array) = raise_rel NotFunction
 called_rel c d calls trees h hs (some (page n)) = entered_rel c d calls trees n h hs
 called_rel c d calls trees h hs (some (native {b = which})) = row_of_rel c d false which calls h hs
-called_rel c d calls trees h hs (some (bound {t = t} {u = u} n own args)) = calls.call _ larger_same (object_value_rel t u n) own (append_rel args hs)
+called_rel c d calls trees h hs (some (bound {t = t} {u = u} n own args)) = calls.call _ larger_same (object_value_rel t u n) own (each_append args hs)
 called_rel c d calls trees h hs (some fault) = raise_rel NotFunction
 called_rel c d calls trees h hs (some math) = raise_rel NotFunction
 called_rel c d calls trees h hs (some window) = raise_rel NotFunction
@@ -114,34 +88,21 @@ fresh_rel {v = v} {w = w} h = on_built_ins (λ U i there.
       props = no_entries;
     }) refl (λ W l s t g. tt))
 
-round_up : {V W : World} {fs : List Frame} {e f : Option EnvId} → Larger V W → Round V fs e f → Round W fs e f
-round_up l outermost = outermost
-round_up l (inside s i) = inside s (l.slots s i)
-round_up l (based b i) = based b (l.bases b i)
-
-functions_up : {V W : World} {k m : tree.Code} {e f : Option EnvId} → Larger V W → Functions V k e m f → Functions W k e m f
-functions_up {k = k} {m = m} l h = record {
-  frames = h.frames;
-  code = h.code ∙ ap (λ f. f h.frames k) l.opened;
-  fits = ap (λ f. f h.frames k) (sym l.fits) ∙ h.fits;
-  round = round_up l h.round;
-}
-
-pub build_rel : {V : World} {f g : Value} {vs ws : List Value} {k m : tree.Code} {e o : Option EnvId} (c d : Calls) → CallsRel V c d → HasEqualTrees V → ValueRel (named V) f g → Functions V k e m o
+pub build_rel : {V : World} {f g : Value} {vs ws : List Value} {k m : tree.Code} {e o : Option EnvId} (c d : Calls) → CallsRel V c d → HasTrees V → ValueRel (named V) f g → Functions V k e m o
     → Each (ValueRel (named V)) vs ws → Agrees V (build c f k e vs) (build d g m o ws)
 build_rel c d calls trees h n hs =
     also_rel (read_property_rel h (codes "prototype")) (λ W l p q r. bind_rel (fresh_rel r) (λ X j a b i.
     let up = larger_more l j in
     also_rel (entered_rel c d (calls_up up calls) (trees_up up trees) (functions_up up n) (object_value_rel a b i) (values_up up hs)) (λ Y x v w s. give_rel (built_rel a b (named_up x i) s))))
 
-pub constructed_rel : {V : World} {f g : Value} {vs ws : List Value} {k m : Option Class} (c d : Calls) → CallsRel V c d → HasEqualTrees V → ValueRel (named V) f g → Each (ValueRel (named V)) vs ws
+pub constructed_rel : {V : World} {f g : Value} {vs ws : List Value} {k m : Option Class} (c d : Calls) → CallsRel V c d → HasTrees V → ValueRel (named V) f g → Each (ValueRel (named V)) vs ws
     → Maybe (ClassRel (named V)) k m → Agrees V (constructed c f vs k) (constructed d g ws m)
 constructed_rel c d calls trees h hs none = raise_rel NotFunction
 constructed_rel c d calls trees h hs (some plain) = raise_rel NotFunction
 constructed_rel c d calls trees h hs (some array) = raise_rel NotFunction
 constructed_rel c d calls trees h hs (some (page n)) = build_rel c d calls trees h n hs
 constructed_rel c d calls trees h hs (some (native {b = which})) = row_of_rel c d true which calls undefined hs
-constructed_rel c d calls trees h hs (some (bound {t = t} {u = u} n own args)) = calls.construct _ larger_same (object_value_rel t u n) (append_rel args hs)
+constructed_rel c d calls trees h hs (some (bound {t = t} {u = u} n own args)) = calls.construct _ larger_same (object_value_rel t u n) (each_append args hs)
 constructed_rel c d calls trees h hs (some fault) = raise_rel NotFunction
 constructed_rel c d calls trees h hs (some math) = raise_rel NotFunction
 constructed_rel c d calls trees h hs (some window) = raise_rel NotFunction
@@ -169,7 +130,7 @@ begin_rel x y e h = choose_rel x y e (bind_rel take_step_rel (λ W l a b u. act_
 abbrev pub Classes : Relation (Option Class)
 Classes W = Maybe (ClassRel (named W))
 
-pub calls_at_rel : {V : World} (n : ℕ) → HasEqualTrees V → CallsRel V (calls_at n) (calls_at n)
+pub calls_at_rel : {V : World} (n : ℕ) → HasTrees V → CallsRel V (calls_at n) (calls_at n)
 calls_at_rel zero trees = record {
   call = λ W l h k hs. asking_rel {R = Classes} (λ X j s t r. class_of_rel r (value_up j h)) (λ X j x y r. begin_rel _ _ (is_function_same r) (raise_rel TooDeep));
   construct = λ W l h hs. asking_rel {R = Classes} (λ X j s t r. class_of_rel r (value_up j h)) (λ X j x y r. begin_rel _ _ (is_constructor_same r) (raise_rel TooDeep));

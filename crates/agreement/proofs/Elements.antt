@@ -11,12 +11,13 @@ use Rattle.page_meaning.specs.Act.{Act}
 use Rattle.page_meaning.specs.Elements.{define_element, delete_element, element, element_or, length_of, list_in, on_element, on_list, on_some, put_each, put_element, set_length, turns_down, turns_up}
 use Rattle.page_meaning.specs.Properties.{class_at}
 use Rattle.page_meaning.specs.Store.{Store}
+use Rattle.heap_relations.proofs.Callers.{larger_more, larger_same, list_same}
 use Rattle.heap_relations.specs.Naming.{Larger, Named, named, World}
 use Rattle.heap_relations.specs.Related.{Each, Maybe, ObjectIds, ValueRel, each, no_more, none, some, undefined, null, truth, num, text, object}
 use Rattle.agreement.specs.Acts.{Agrees, Continues, StoreRel}
-use Rattle.agreement.proofs.Acts.{also_rel, asking_rel, bind_rel, larger_more, larger_same}
+use Rattle.agreement.proofs.Acts.{also_rel, asking_rel, bind_rel}
 use Rattle.agreement.proofs.Heap.{class_rel, get_rel, named_up, take_step_rel, value_up, values_up}
-use Rattle.agreement.proofs.Properties.{define_member_rel, delete_member_rel, get_at_rel, is_list_same, put_in_rel}
+use Rattle.agreement.proofs.Properties.{define_member_rel, delete_member_rel, get_at_rel, put_in_rel}
 use Rattle.agreement.proofs.Values.{done_rel, raise_rel}
 
 -- the array that a value is on either side
@@ -33,7 +34,7 @@ list_in_rel g truth = none
 list_in_rel g num = none
 list_in_rel g text = none
 list_in_rel {s = s} {t = t} {v = value.Object a} {w = value.Object b} g (object n) =
-    chosen_list a b (is_list (class_at s a)) (is_list (class_at t b)) (is_list_same (class_rel g a.0 b.0 n)) n
+    chosen_list a b (is_list (class_at s a)) (is_list (class_at t b)) (list_same (class_rel g a.0 b.0 n)) n
 
 -- what is done to an object that is named
 abbrev pub ActsOn : World → (ObjId → Act) → (ObjId → Act) → Type 0

@@ -1,6 +1,7 @@
 -- What functions and catch clauses bind when they are entered, and their environments in both pages (sections 10.2.1.1 and 10.5).
-use Rattle.std.proofs.Common.{◌≡◌, refl, sym, ap, ◌∙◌, ℕ, suc, ◌<◌, ◌^◌, ◌||◌, Bool, true, false, cond, List, [], ◌∷◌, ◌++◌, Option, Some, None, is_some, length, bytes_eq, arith, if◌then◌else◌}
-use Rattle.std.proofs.lemmas.Bool.{ltb-true}
+use Rattle.std.proofs.Common.{◌≡◌, refl, sym, ap, ◌∙◌, ℕ, ◌||◌, Bool, true, false, cond, List, [], ◌∷◌, ◌++◌, Option, Some, None, is_some, bytes_eq, if◌then◌else◌, subst, ◌<◌, ◌^◌, length}
+use Rattle.page_meaning.specs.Store.{Store}
+use Rattle.object_shapes.specs.Links.{all_below, bound_links}
 use Rattle.std.proofs.lemmas.Slice.Eq.{bytes_eq-Decides}
 use Rattle.code_table.specs.Declarations.{functions_of, variables_of}
 use Rattle.js_core.specs.Tree as tree
@@ -12,24 +13,21 @@ use Rattle.object_heap.specs.declared.property.Prop.{Prop}
 use Rattle.page_meaning.specs.Functions.{entry_names, function_names, with_arguments, with_names}
 use Rattle.page_meaning.specs.Primitives.{bind_name, make_environment}
 use Rattle.scope_analysis.specs.Names.{is_among}
+use Rattle.heap_relations.proofs.Callers.{is_some_same}
 use Rattle.heap_relations.proofs.Callers as heap
 use Rattle.heap_relations.specs.Laws.{free_slot}
-use Rattle.heap_relations.specs.Naming.{Copied, Frame, Free, In, Larger, NameRel, Round, Slot, World, absent, env_id, free, here, inside, is_reserved, named, there, with_slot}
+use Rattle.heap_relations.specs.Naming.{Copied, Frame, Free, In, Larger, NameRel, Round, Slot, World, absent, env_id, free, here, inside, is_reserved, named, there, with_slot, scope_name}
 use Rattle.heap_relations.specs.Related.{Each, Entries, Links, Maybe, ValueRel, each, entry, no_entries, no_more, none, some, undefined}
 use Rattle.object_heap.specs.Laws.{binds, opens}
 use Rattle.object_shapes.proofs.Callers as shapes
 use Rattle.agreement.proofs.Linked.{names_below, value_below}
-use Rattle.agreement.specs.Acts.{ActRel, Equal, ended}
-use Rattle.agreement.specs.Trees.{HasEqualTrees, are_few, entry_frame, frame_of, free_where}
-
-is_some_same : {A : Type 0} {R : A → A → Type 0} {o p : Option A} → Maybe R o p → is_some o ≡ is_some p
-is_some_same none = refl
-is_some_same (some h) = refl
+use Rattle.agreement.specs.Acts.{ActRel, Equal, ended, StoreRel}
+use Rattle.agreement.specs.Trees.{entry_frame, frame_of, free_where}
 
 -- ---- lists of names, with related values
 
 module _ {R : Value → Value → Type 0} (r : R Undefined Undefined) where
-  arguments_rel : (xs : List (List ℕ)) (vs ws : List Value) → Each R vs ws → Entries R (with_arguments xs vs) (with_arguments xs ws)
+  pub arguments_rel : (xs : List (List ℕ)) (vs ws : List Value) → Each R vs ws → Entries R (with_arguments xs vs) (with_arguments xs ws)
   arguments_rel [] vs ws h = no_entries
   arguments_rel (x ∷ xs) [] [] h = entry r (arguments_rel xs [] [] no_more)
   arguments_rel (x ∷ xs) (v ∷ vs) (w ∷ ws) (each h hs) = entry h (arguments_rel xs vs ws hs)
@@ -119,14 +117,6 @@ one_name_same x v y = by_case (bytes_eq y x)
 pub own_name_free : (x : List ℕ) → (frame_of (x ∷ [])).keeps x ≡ Free
 own_name_free x = rw ((bytes_eq-Decides x x).1 refl) refl
 
--- ---- frames
-
-pub few_round : (fs : List Frame) → are_few fs ≡ true → length fs < 2 ^ 64
-few_round fs e = omega (arith, ltb-true (length fs) 18446744073709551616 e)
-
-pub few_inside : (f : Frame) (fs : List Frame) → are_few (f ∷ fs) ≡ true → length fs < 2 ^ 64
-few_inside f fs e = omega (arith, ltb-true (suc (length fs)) 18446744073709551616 e)
-
 -- ---- environments
 
 -- two environments of one frame, with others round it
@@ -149,36 +139,50 @@ not_copied : (b : Bool) → free_where b ≡ Copied → ⊥
 not_copied true e = cc e
 not_copied false e = cc e
 
-names_up : {V W : World} {b c : Bound} → Larger V W → Entries (ValueRel (named V)) b c → Entries (ValueRel (named W)) b c
+pub names_up : {V W : World} {b c : Bound} → Larger V W → Entries (ValueRel (named V)) b c → Entries (ValueRel (named W)) b c
 names_up l no_entries = no_entries
 names_up l (entry h r) = entry (heap.value_up l h) (names_up l r)
 
--- an environment is made on both sides
-pub opened_rel : {V : World} (bound : List ℕ → Bool) (fs : List Frame) (e f : Option EnvId) (names others : Bound) → HasEqualTrees V → Round V fs e f → length fs < 2 ^ 64
-    → Entries (ValueRel (named V)) names others → ((x : List ℕ) → is_some (value_of names x) ≡ bound x)
-    → ActRel (λ W. Enters W (record { keeps = λ x. free_where (bound x); scoped = false }) fs) V (make_environment e names) (make_environment f others)
-opened_rel bound fs e f names others trees o few h same = record {
+-- an environment is made on both sides, on the right maybe with more names, or in another order; it has no scope object
+pub environment_rel : {V : World} (bound : List ℕ → Bool) (fs : List Frame) (e f : Option EnvId) (names others : Bound) → Round V fs e f
+    → ((x : List ℕ) → is_reserved V.opens x ≡ false → Maybe (ValueRel (named V)) (value_of names x) (value_of others x)) → ((x : List ℕ) → is_some (value_of names x) ≡ bound x)
+    → (V.opens ≡ true → (k : ℕ) → k < 2 ^ 64 → value_of others (scope_name k) ≡ None)
+    → ((W : World) → Larger V W → (s t : Store) → StoreRel W s t → all_below (length s.heap.objects) (bound_links names) ≡ true)
+    → ActRel (λ W. Enters W (record { keeps = λ x. free_where (bound x); scoped = false; number = 0 }) fs) V (make_environment e names) (make_environment f others)
+environment_rel bound fs e f names others o h same hidden below = record {
   run = λ W l s t n g.
       let slot = free_slot s.heap t.heap (λ x. free_where (bound x)) fs (λ x. Undefined) in
       let up = heap.larger_slot {W = W} slot in
       ended (with_slot W slot) up (enters slot (heap.named_slot W slot)) (record {
-        heap = heap.environments_opened W s.heap t.heap e f names others (λ x. free_where (bound x)) fs (λ x. Undefined) g.heap (heap.round_up l o) few
-            (λ x own p. free_name Undefined (bound x) (same x) (heap.some_value_up l (heap.entry_found (bytes_eq x) h)))
+        heap = heap.environments_opened W s.heap t.heap e f names others (λ x. free_where (bound x)) fs (λ x. Undefined) g.heap (heap.round_up l o)
+            (λ x own p. free_name Undefined (bound x) (same x) (heap.some_value_up l (h x (subst (λ b. is_reserved b x ≡ false) (sym l.opens) own))))
             (λ x k. not_copied (bound x) k)
-            (λ q. absurd (cc (q, sym l.opens ∙ trees.opens)));
+            (λ q. hidden (l.opens ∙ q));
         lines = g.lines;
         built_ins = λ k small. heap.named_up up (g.built_ins k small);
-        shaped = shapes.step_shaped s (opens e names) g.heap.left g.shaped (names_below g (names_up l h));
+        shaped = shapes.step_shaped s (opens e names) g.heap.left g.shaped (below W l s t g);
       });
 }
 
+-- with the same names, of which none is a scope object's
+pub opened_rel : {V : World} (bound : List ℕ → Bool) (fs : List Frame) (e f : Option EnvId) (names others : Bound)
+    → (V.opens ≡ true → (k : ℕ) → k < 2 ^ 64 → value_of others (scope_name k) ≡ None) → Round V fs e f
+    → Entries (ValueRel (named V)) names others → ((x : List ℕ) → is_some (value_of names x) ≡ bound x)
+    → ActRel (λ W. Enters W (record { keeps = λ x. free_where (bound x); scoped = false; number = 0 }) fs) V (make_environment e names) (make_environment f others)
+opened_rel bound fs e f names others hidden o h same =
+    environment_rel bound fs e f names others o (λ x own. heap.entry_found (bytes_eq x) h) same hidden (λ W l s t g. names_below g (names_up l h))
+
+-- where nothing is opened, none is
+pub never_opens : {b : Bool} {A : Type 0} → b ≡ false → b ≡ true → A
+never_opens closed q = absurd (cc (q, closed))
+
 -- a name of it takes the value
-pub bound_rel : {V : World} {f : Frame} {fs : List Frame} {a b : EnvId} {v w : Value} (x : List ℕ) → HasEqualTrees V → Enters V f fs a b → f.keeps x ≡ Free → ValueRel (named V) v w
+pub bound_rel : {V : World} {f : Frame} {fs : List Frame} {a b : EnvId} {v w : Value} (x : List ℕ) → is_reserved V.opens x ≡ false → Enters V f fs a b → f.keeps x ≡ Free → ValueRel (named V) v w
     → ActRel (Equal {A = Unit {0}}) V (bind_name a x v) (bind_name b x w)
-bound_rel {v = v} x trees (enters s i) is_free r = record {
+bound_rel {v = v} x own (enters s i) is_free r = record {
   run = λ W l t u n g.
       ended W heap.larger_same refl (record {
-        heap = heap.name_set g.heap s x (l.slots s i) (ap (λ o. is_reserved o x) (sym l.opens ∙ trees.opens)) is_free (heap.value_up l r);
+        heap = heap.name_set g.heap s x (l.slots s i) (subst (λ b. is_reserved b x ≡ false) l.opens own) is_free (heap.value_up l r);
         lines = g.lines;
         built_ins = g.built_ins;
         shaped = shapes.step_shaped t (binds s.one x v) g.heap.left g.shaped (value_below g (heap.value_up l r));

@@ -14,12 +14,13 @@ use Rattle.page_meaning.specs.FunctionRows.{apply_elements, apply_function, appl
 use Rattle.page_meaning.specs.Places.{function_at, function_place, function_prototype}
 use Rattle.page_meaning.specs.Rows.{function_row}
 use Rattle.page_meaning.specs.Store.{Store}
+use Rattle.heap_relations.proofs.Callers.{each_append, each_drop, each_length, larger_more, larger_same}
 use Rattle.heap_relations.specs.Naming.{Named, named, World}
 use Rattle.heap_relations.specs.Related.{Each, ObjectRel, PropRel, ValueRel, bound, each, entry, no_entries, no_more, null, num, object, some, text, truth, undefined}
 use Rattle.object_shapes.specs.Links.{built_in_count}
 use Rattle.agreement.specs.Acts.{ActRel, Agrees, CallsRel, Equal, HasBuiltIns, OutcomeRel, SignalRel, StoreRel}
-use Rattle.agreement.proofs.Acts.{asking_rel, bind_rel, choose_rel, larger_more, larger_same, ret_rel, then_rel}
-use Rattle.agreement.proofs.Called.{Values, append_rel, calls_up, chosen_value, drop_rel, is_callable_same, length_same, number_same}
+use Rattle.agreement.proofs.Acts.{asking_rel, bind_rel, choose_rel, ret_rel, then_rel}
+use Rattle.agreement.proofs.Called.{Values, calls_up, chosen_value, is_callable_same, number_same}
 use Rattle.agreement.proofs.Elements.{element_or_rel, length_of_same, on_list_rel}
 use Rattle.agreement.proofs.Heap.{made_now, named_up, take_step_rel, value_up, values_up}
 use Rattle.agreement.proofs.ObjectRows.{argument_rel}
@@ -28,7 +29,7 @@ use Rattle.agreement.proofs.Values.{give_rel, object_value_rel, raise_rel}
 
 pub call_function_rel : {V : World} {f g : Value} {vs ws : List Value} (c d : Calls) → CallsRel V c d → ValueRel (named V) f g → Each (ValueRel (named V)) vs ws
     → Agrees V (call_function c f vs) (call_function d g ws)
-call_function_rel c d calls h hs = calls.call _ larger_same h (argument_rel hs 0) (drop_rel 1 hs)
+call_function_rel c d calls h hs = calls.call _ larger_same h (argument_rel hs 0) (each_drop 1 hs)
 
 -- ---- a call with the elements of an array
 
@@ -36,7 +37,7 @@ pub gather_rel : {V : World} {vs ws : List Value} (a b : ObjId) → Named V a.0 
 gather_rel a b n hs k zero = ret_rel (λ W l. values_up l hs)
 gather_rel a b n hs k (suc m) =
     bind_rel take_step_rel (λ W l x y e. asking_rel {R = λ X. ValueRel (named X)} (λ X j s t g. element_or_rel g a b (named_up (larger_more l j) n) k)
-    (λ X j v w r. gather_rel a b (named_up (larger_more l j) n) (append_rel (values_up (larger_more l j) hs) (each r no_more)) (suc k) m))
+    (λ X j v w r. gather_rel a b (named_up (larger_more l j) n) (each_append (values_up (larger_more l j) hs) (each r no_more)) (suc k) m))
 
 -- as many as the length, which is the same
 gather_all_rel : {V : World} (a b : ObjId) → Named V a.0 b.0 → (m n : ℕ) → m ≡ n → ActRel Values V (gather a [] 0 m) (gather b [] 0 n)
@@ -75,7 +76,7 @@ unfolding built_in_count
 function_prototype_below = omega arith
 
 formals_left : {V : World} {vs ws : List Value} (m n : ℕ) → m ≡ n → Each (ValueRel (named V)) vs ws → m - length vs ≡ n - length ws
-formals_left {vs = vs} {ws = ws} m n e hs = ap (λ k. m - k) (length_same hs) ∙ ap (λ k. k - length ws) e
+formals_left {vs = vs} {ws = ws} m n e hs = ap (λ k. m - k) (each_length hs) ∙ ap (λ k. k - length ws) e
 
 fixed_rel : {V : World} {v w : Value} → ValueRel (named V) v w → PropRel (named V) (fixed v) (fixed w)
 fixed_rel h = record { value = h; writable = refl; enumerable = refl; configurable = refl }
@@ -117,7 +118,7 @@ bind_function_rel num hs = raise_rel WrongArgument
 bind_function_rel text hs = raise_rel WrongArgument
 bind_function_rel {f = value.Object a} {g = value.Object b} (object n) hs = record {
   run = λ W l s t k g.
-      bind_if_now k g a b (named_up l n) (argument_rel (values_up l hs) 0) (drop_rel 1 (values_up l hs)) (is_callable (value.Object a) s) (is_callable (value.Object b) t) refl
+      bind_if_now k g a b (named_up l n) (argument_rel (values_up l hs) 0) (each_drop 1 (values_up l hs)) (is_callable (value.Object a) s) (is_callable (value.Object b) t) refl
       (is_callable_same g (object_value_rel a b (named_up l n)));
 }
 

@@ -1,44 +1,48 @@
 -- Functions of both pages, how they are made and entered (sections 10.4.3, 10.5, 13 and 13.2).
-use Rattle.std.proofs.Common.{◌≡◌, refl, sym, ap, ◌∙◌, ℕ, suc, ◌<◌, ◌&&◌, true, List, [], ◌∷◌, length, Option, Some, None, is_some, arith}
-use Rattle.std.proofs.lemmas.Bool.{and_parts}
-use Rattle.code_table.specs.Declarations.{formals_of, functions_of}
+use Rattle.std.proofs.Common.{◌≡◌, refl, sym, ap, ◌∙◌, ℕ, suc, ◌<◌, ◌&&◌, true, List, [], ◌∷◌, length, Option, Some, None, arith, ◌+◌, Bool, false, subst, nat_lt, length-append, not}
+use Rattle.agreement.proofs.Declared.{tops_passed}
+use Rattle.instrumenter.specs.Counting.{stmt_scopes}
+use Rattle.object_heap.specs.Object.{settled}
+use Rattle.object_heap.proofs.Callers.{sound_made, sound_opened}
+use Rattle.object_heap.specs.Laws.{after_step, after_steps, binds, opens}
+use Rattle.object_heap.specs.Heap.{Contents, IsSound, made}
+use Rattle.heap_relations.specs.Scope.{own_frame, own_slot, with_own}
+use Rattle.agreement.proofs.Closures.{closed_code, declared_code}
+use Rattle.instrumenter.specs.Opening.{open_function, open_tops}
+use Rattle.instrumenter.specs.Fields.{expression_fields}
+use Rattle.instrumenter.specs.Around.{Around, opened_fields}
+use Rattle.agreement.specs.Opened.{HasTrees, HereRel, are_plain, expr_stands, function_stands, name_frame, opened_code, stmt_stands, stmts_stand, opened_at}
+use Rattle.std.proofs.lemmas.Bool.{and_parts, and_from, lt-ltb}
+use Rattle.code_table.specs.Declarations.{functions_of}
 use Rattle.js_core.specs.Tree as tree
 use Rattle.js_core.specs.Tree.{code, function, no_stmts, then_stmt}
 use Rattle.js_values.specs.declared.ids.EnvId.{EnvId}
 use Rattle.js_values.specs.declared.throw.Throw.TheVariants.{CannotDefine}
-use Rattle.js_values.specs.declared.value.Value.{Value}
 use Rattle.js_values.specs.declared.value.Value.TheVariants.{Undefined}
-use Rattle.object_heap.specs.Environment.{value_of}
 use Rattle.object_heap.specs.declared.object.Class.TheVariants.{Page}
 use Rattle.object_heap.specs.declared.property.Prop.{Prop}
-use Rattle.page_meaning.specs.Act.{Act, ActOf, Outcome}
-use Rattle.page_meaning.specs.Functions.{call_end, close_over, declare_functions, declare_globals, define_global, enter, entry_names, function_names, function_place, global_variables, make_function, own_global, script_property, variable_place}
+use Rattle.page_meaning.specs.Functions.{call_end, close_over, declare_globals, define_global, function_place, global_variables, make_function, own_global, script_property, variable_place, function_fit, function_object, function_steps, prototype_fit, prototype_object}
 use Rattle.page_meaning.specs.Names.{Here}
 use Rattle.page_meaning.specs.Places.{function_prototype, object_prototype, window}
-use Rattle.page_meaning.specs.Primitives.{make_environment}
-use Rattle.page_meaning.specs.Store.{Store}
+use Rattle.page_meaning.specs.Store.{Store, with_heap}
 use Rattle.page_meaning.specs.declared.signal.Signal.{Signal}
-use Rattle.scope_analysis.specs.Names.{is_among}
+use Rattle.scope_analysis.specs.Names.{is_among, own_name}
+use Rattle.heap_relations.proofs.Callers.{larger_more}
 use Rattle.heap_relations.proofs.Callers as heap
-use Rattle.heap_relations.specs.Naming.{Frame, Free, In, Larger, Round, World, here, named, outermost, there, with_object}
+use Rattle.heap_relations.specs.Naming.{Frame, Larger, Round, World, named, outermost, with_object, is_reserved, Itself}
+use Rattle.heap_relations.specs.Related as related
 use Rattle.heap_relations.specs.Related.{ChangeRel, Each, Maybe, PropRel, ValueRel, entry, no_entries, none, page, some, undefined}
-use Rattle.agreement.proofs.Acts.{also_rel, asking_rel, bind_rel, choose_rel, larger_more, on_built_ins, ret_rel}
-use Rattle.agreement.proofs.Entries.{Enters, bound_rel, enters_round, enters_up, entry_free, entry_names_rel, entry_names_same, few_inside, few_round, one_name_same, opened_rel, own_name_free}
+use Rattle.agreement.proofs.Acts.{also_rel, asking_rel, bind_rel, choose_rel, on_built_ins}
+use Rattle.agreement.proofs.Entries.{bound_rel, enters_round, enters_up, one_name_same, opened_rel, own_name_free, never_opens}
 use Rattle.agreement.proofs.EqualTrees.{trees_up}
 use Rattle.agreement.proofs.Heap.{define_at_rel, named_up, own_rel, value_up}
 use Rattle.agreement.proofs.Made.{made_rel, object_place}
 use Rattle.agreement.proofs.Properties.{put_in_rel}
 use Rattle.agreement.proofs.Values.{done_rel, give_rel, object_value_rel, raise_rel, unless_rel}
 use Rattle.object_shapes.proofs.Callers as shapes
-use Rattle.object_shapes.specs.Links.{built_in_count}
-use Rattle.agreement.specs.Acts.{ActRel, Agrees, Ids, OutcomeRel, Relation, SignalRel, StoreRel, break, continue, ended, return, stopped, thrown, value}
-use Rattle.agreement.specs.Trees.{HasEqualTrees, HereRel, are_few, code_fits, entry_frame, expr_fits, frame_of, stmt_fits, stmts_fit}
-
--- a body that stands in these frames does the same in both pages
-abbrev pub RunsIn : World → (Here → tree.Stmts → Act) → (Here → tree.Stmts → Act) → tree.Stmts → Type 0
-RunsIn V run ran body =
-    (W : World) → Larger V W → (fs : List Frame) (a b : Here) (h : HereRel W fs a b) → stmts_fit h.trees.asks fs body ≡ true
-    → Agrees W (run a body) (ran b body)
+use Rattle.object_shapes.specs.Links.{built_in_count, all_below, value_links}
+use Rattle.agreement.specs.Acts.{ActRel, Agrees, Ids, SignalRel, StoreRel, break, continue, ended, return, thrown, value}
+use Rattle.agreement.specs.Trees.{frame_of}
 
 -- ---- functions are made
 
@@ -50,48 +54,122 @@ pub window_place : window.0 < built_in_count
 unfolding built_in_count
 window_place = omega arith
 
-pub make_function_rel : {V : World} (fs : List Frame) (c : tree.Code) (e f : Option EnvId) → (trees : HasEqualTrees V) → Round V fs e f
-    → code_fits trees.asks fs c ≡ true → ActRel Ids V (make_function c e) (make_function c f)
-make_function_rel fs c e f trees o fits = record {
-  run = λ W l s t n g.
+pub make_function_rel : {V : World} (n : ℕ) (fs : List Frame) (x : Option (List ℕ)) (formals : List (List ℕ)) (body opened : tree.Stmts) (e f : Option EnvId) → (trees : HasTrees V)
+    → code x formals opened ≡ opened_code trees.demand.opens n fs (code x formals body) → Round V fs e f
+    → function_stands trees.demand n fs (code x formals body) ≡ true → ActRel Ids V (make_function (code x formals body) e) (make_function (code x formals opened) f)
+make_function_rel n fs x formals body opened e f trees same o stands = record {
+  run = λ W l s t m g.
       let a = length s.heap.objects in
       let b = length t.heap.objects in
       let up = heap.larger_function {W = W} a b in
       let there = trees_up l trees in
       ended (with_object (with_object W a b) (suc a) (suc b)) up (heap.named_up (heap.larger_object {W = with_object W a b} (suc a) (suc b)) (heap.named_object {W = W} a b)) (record {
-        heap = heap.functions_made W s.heap t.heap (Page c e) (Page c f) (Some function_prototype) (Some function_prototype) (length (formals_of c)) (Some object_prototype) (Some object_prototype) g.heap
-            (page (record { frames = fs; code = sym (there.opened fs c); fits = there.fits fs c ∙ fits; round = heap.round_up l o })) refl
+        heap = heap.functions_made W s.heap t.heap (Page (code x formals body) e) (Page (code x formals opened) f) (Some function_prototype) (Some function_prototype) (length formals) (Some object_prototype) (Some object_prototype) g.heap
+            (page (record {
+              frames = fs;
+              number = n;
+              code = same ∙ sym (there.opened n fs (code x formals body));
+              fits = there.fits n fs (code x formals body) ∙ stands;
+              round = heap.round_up l o;
+            })) refl
             (some (record { linked = g.built_ins function_prototype.0 function_prototype_place })) (some (record { linked = g.built_ins object_prototype.0 object_place }));
         lines = g.lines;
         built_ins = λ k small. heap.named_up up (g.built_ins k small);
-        shaped = shapes.function_shaped s c e g.heap.left g.shaped;
+        shaped = shapes.function_shaped s (code x formals body) e g.heap.left g.shaped;
       });
 }
 
+-- ---- function expressions
+
+pub plain_one : (x : List ℕ) → are_plain true (x ∷ []) ≡ true → is_reserved true x ≡ false
+plain_one x e = by_case (is_reserved true x) e
+  where
+    by_case : (b : Bool) → (not b && true) ≡ true → b ≡ false
+    by_case true e = absurd (cc e)
+    by_case false e = refl
+
+-- the heap after a function is made, and after its name is bound
+abbrev functions_after : Contents → tree.Code → Option EnvId → Contents
+functions_after h c env = after_steps h (function_steps c env (length h.objects))
+
+functions_sound : (h : Contents) (c : tree.Code) (env : Option EnvId) → IsSound h → IsSound (functions_after h c env)
+functions_sound h c env sound =
+    let k = length h.objects in
+    let one = sound_made h sound (function_object c env (k + 1)) (function_fit c env (k + 1)) in
+    sound_made (made h (function_object c env (k + 1))) one (prototype_object k) (prototype_fit k)
+
+-- a function that has a name, in the environment that binds it, where trees are opened
+own_rel_opened : {V : World} (n : ℕ) (fs : List Frame) (x : List ℕ) (formals : List (List ℕ)) (body opened : tree.Stmts) (e f : Option EnvId) → (trees : HasTrees V)
+    → code (Some x) formals opened ≡ opened_code trees.demand.opens n (own_frame x ∷ fs) (code (Some x) formals body) → Round V fs e f → is_reserved V.opens x ≡ false
+    → function_stands trees.demand n (own_frame x ∷ fs) (code (Some x) formals body) ≡ true
+    → Agrees V (close_over (code (Some x) formals body) e) (close_over (code (Some x) formals opened) f)
+own_rel_opened n fs x formals body opened e f trees same o own stands = record {
+  run = λ W l s t m g.
+      let a = length s.heap.objects in
+      let b = length t.heap.objects in
+      let c = code (Some x) formals body in
+      let d = code (Some x) formals opened in
+      let there = trees_up l trees in
+      let slot = own_slot s.heap t.heap x fs in
+      let up : Larger W (with_own W s.heap t.heap x fs) = larger_more (heap.larger_function {W = W} a b) (heap.larger_slot slot) in
+      let made = heap.own_functions_made W s.heap t.heap e f x fs n c d (Some function_prototype) (Some function_prototype) (length formals) (Some object_prototype) (Some object_prototype) g.heap (heap.round_up l o)
+      (subst (λ q. is_reserved q x ≡ false) l.opens own) (same ∙ sym (there.opened n (own_frame x ∷ fs) c)) (there.fits n (own_frame x ∷ fs) c ∙ stands)
+      (some (record { linked = g.built_ins function_prototype.0 function_prototype_place })) (some (record { linked = g.built_ins object_prototype.0 object_place }))
+      in
+      let left = heap.own_bound_later s.heap e x c (Some function_prototype) (length formals) (Some object_prototype) in
+      let right = heap.own_bound_later t.heap f x d (Some function_prototype) (length formals) (Some object_prototype) in
+      let env : EnvId = record { 0 = length s.heap.environments } in
+      let h1 = after_step s.heap (opens e ((x, Undefined) ∷ [])) in
+      let sound1 = sound_opened s.heap g.heap.left e ((x, Undefined) ∷ []) in
+      let h2 = functions_after h1 c (Some env) in
+      let shaped1 = shapes.step_shaped s (opens e ((x, Undefined) ∷ [])) g.heap.left g.shaped refl in
+      let shaped2 = shapes.function_shaped (with_heap s h1) c (Some env) sound1 shaped1 in
+      let below : all_below (length h2.objects) (value_links (heap.scope_value a)) ≡ true = place_below a (length h2.objects) (functions_longer h1 c (Some env)) in
+      let shaped3 = shapes.step_shaped (with_heap s h2) (binds env.0 x (heap.scope_value a)) (functions_sound h1 c (Some env) sound1) shaped2 below in
+      ended (with_own W s.heap t.heap x fs) up
+      (value (related.object (heap.named_up (heap.larger_slot slot) (heap.named_up (heap.larger_object {W = with_object W a b} (suc a) (suc b)) (heap.named_object {W = W} a b)))))
+      (record {
+        heap = rw (left, right) made;
+        lines = g.lines;
+        built_ins = λ k small. heap.named_up up (g.built_ins k small);
+        shaped = shaped3;
+      });
+}
+  where
+    place_below : (a n : ℕ) → a < n → all_below n (value_links (heap.scope_value a)) ≡ true
+    place_below a n h = and_from (nat_lt a n) true (lt-ltb a n h) refl
+
+    functions_longer : (h : Contents) (c : tree.Code) (env : Option EnvId) → length h.objects < length (functions_after h c env).objects
+    functions_longer h c env =
+        let k = length h.objects in
+        omega (
+          arith,
+          length-append h.objects (settled k (function_object c env (k + 1)) ∷ []),
+          length-append (made h (function_object c env (k + 1))).objects (settled (length (made h (function_object c env (k + 1))).objects) (prototype_object k) ∷ []),
+        )
+
 -- a function expression
-pub close_over_rel : {V : World} (fs : List Frame) (c : tree.Code) (a b : Here) → (h : HereRel V fs a b)
-    → expr_fits h.trees.asks fs (tree.func c) ≡ true → Agrees V (close_over c a.env) (close_over c b.env)
-close_over_rel fs (code None formals body) a b h e = made_rel (make_function_rel fs (code None formals body) a.env b.env h.trees h.round e)
-close_over_rel fs (code (Some x) formals body) a b h e =
-    let small = few_inside (frame_of (x ∷ [])) fs (and_parts _ _ (and_parts _ _ e).1).0 in
-    bind_rel (opened_rel (λ y. is_among y (x ∷ [])) fs a.env b.env ((x, Undefined) ∷ []) ((x, Undefined) ∷ []) h.trees h.round small (entry undefined no_entries) (one_name_same x Undefined)) (λ W l p q n.
-    bind_rel (make_function_rel (frame_of (x ∷ []) ∷ fs) (code (Some x) formals body) (Some p) (Some q) (trees_up l h.trees) (enters_round n) e) (λ X j k m o.
-    bind_rel (bound_rel x (trees_up (larger_more l j) h.trees) (enters_up j n) (own_name_free x) (object_value_rel k m o)) (λ Y i u w r. give_rel (object_value_rel k m (named_up i o)))))
-
--- ---- functions are entered
-
--- the declared functions of a body, each bound to its name
-declared_rel : {V : World} (ss : tree.Stmts) (f : Frame) (fs : List Frame) (a b : EnvId) (trees : HasEqualTrees V) → Enters V f fs a b
-    → ((x : List ℕ) → In x (function_names (functions_of ss)) → f.keeps x ≡ Free)
-    → stmts_fit trees.asks (f ∷ fs) ss ≡ true → Agrees V (declare_functions a (functions_of ss)) (declare_functions b (functions_of ss))
-declared_rel no_stmts f fs a b trees n free fits = done_rel
-declared_rel (then_stmt (function (code None formals body)) ss) f fs a b trees n free fits = declared_rel ss f fs a b trees n free (and_parts _ _ fits).1
-declared_rel (then_stmt (function (code (Some x) formals body)) ss) f fs a b trees n free fits =
-    bind_rel (make_function_rel (f ∷ fs) (code None formals body) (Some a) (Some b) trees (enters_round n) (and_parts _ _ fits).0) (λ W l k m o.
-    bind_rel (bound_rel x (trees_up l trees) (enters_up l n) (free x here) (object_value_rel k m o)) (λ X j u w r.
-    declared_rel ss f fs a b (trees_up (larger_more l j) trees) (enters_up (larger_more l j) n) (λ y i. free y (there i)) (and_parts _ _ fits).1))
-declared_rel (then_stmt s ss) f fs a b trees n free fits =
-    declared_rel ss f fs a b trees n free (and_parts (stmt_fits trees.asks (f ∷ fs) s) (stmts_fit trees.asks (f ∷ fs) ss) fits).1
+pub close_over_rel : {V : World} (around : Around) (n : ℕ) (fs : List Frame) (x : Option (List ℕ)) (formals : List (List ℕ)) (body : tree.Stmts) (a b : Here) → (h : HereRel V around fs a b)
+    → expr_stands h.trees.demand n fs (tree.func (code x formals body)) ≡ true
+    → Agrees V (close_over (code x formals body) a.env)
+    (close_over (code x formals (open_function around n (opened_fields around.opens (expression_fields (code x formals body))) (own_name (code x formals body)) (code x formals body))) b.env)
+close_over_rel around n fs None formals body a b h f =
+    made_rel (make_function_rel n fs None formals body _ a.env b.env h.trees (closed_code around n h.trees.demand.opens fs None formals body h.opens h.fields) h.round f)
+close_over_rel {V = V} around n fs (Some x) formals body a b h f =
+    let d = h.trees.demand in
+    let both = and_parts (are_plain d.opens (x ∷ [])) (function_stands d n (name_frame d.opens x ∷ fs) (code (Some x) formals body)) f in
+    by_case d.opens refl both.0 (closed_code around n d.opens fs (Some x) formals body h.opens h.fields) both.1
+  where
+    by_case : (o : Bool) → o ≡ h.trees.demand.opens → are_plain o (x ∷ []) ≡ true → {opened : tree.Stmts} → code (Some x) formals opened ≡ opened_code h.trees.demand.opens n (name_frame o x ∷ fs) (code (Some x) formals body)
+        → function_stands h.trees.demand n (name_frame o x ∷ fs) (code (Some x) formals body) ≡ true
+        → Agrees V (close_over (code (Some x) formals body) a.env) (close_over (code (Some x) formals opened) b.env)
+    by_case true o plain {opened = opened} same stands =
+        own_rel_opened n fs x formals body opened a.env b.env h.trees same h.round (subst (λ q. is_reserved q x ≡ false) (sym (h.trees.opens ∙ sym o)) (plain_one x plain)) stands
+    by_case false o plain {opened = opened} same stands =
+        let closed : V.opens ≡ false = h.trees.opens ∙ sym o in
+        bind_rel (opened_rel (λ y. is_among y (x ∷ [])) fs a.env b.env ((x, Undefined) ∷ []) ((x, Undefined) ∷ []) (never_opens closed) h.round (entry undefined no_entries) (one_name_same x Undefined)) (λ W l p q m.
+        bind_rel (make_function_rel n (frame_of (x ∷ []) ∷ fs) (Some x) formals body opened (Some p) (Some q) (trees_up l h.trees) same (enters_round m) stands) (λ X j k u v.
+        bind_rel (bound_rel x (ap (λ q. is_reserved q x) (sym (larger_more l j).opens ∙ closed)) (enters_up j m) (own_name_free x) (object_value_rel k u v)) (λ Y i z w r. give_rel (object_value_rel k u (named_up i v)))))
 
 pub call_end_rel : {V W : World} {s r : Signal} → Larger V W → SignalRel V s r → SignalRel W (call_end s) (call_end r)
 call_end_rel l (value h) = value undefined
@@ -99,40 +177,6 @@ call_end_rel l (thrown h) = thrown (value_up l h)
 call_end_rel l (return h) = value (value_up l h)
 call_end_rel l break = value undefined
 call_end_rel l continue = value undefined
-
--- a function is entered
-pub enter_rel : {V : World} {this that : Value} {vs ws : List Value} (run ran : Here → tree.Stmts → Act) (fs : List Frame) (x : Option (List ℕ)) (formals : List (List ℕ)) (body : tree.Stmts) (e f : Option EnvId)
-    → (trees : HasEqualTrees V) → Round V fs e f → code_fits trees.asks fs (code x formals body) ≡ true → RunsIn V run ran body
-    → ValueRel (named V) this that → Each (ValueRel (named V)) vs ws
-    → Agrees V (enter run (code x formals body) e this vs) (enter ran (code x formals body) f that ws)
-enter_rel {this = this} {that = that} {vs = vs} {ws = ws} run ran fs x formals body e f trees o fits runs t h =
-    let frame = entry_frame formals body in
-    let parts = and_parts (are_few fs) (stmts_fit trees.asks (frame ∷ fs) body) (and_parts _ _ fits).1 in
-    bind_rel (opened_rel (λ y. is_some (value_of (entry_names formals body []) y)) fs e f (entry_names formals body vs) (entry_names formals body ws) trees o (few_round fs parts.0)
-    (entry_names_rel formals body vs ws h) (entry_names_same formals body vs)) (λ W l a b n.
-    also_rel (declared_rel body frame fs a b (trees_up l trees) n (entry_free formals body) parts.1) (λ X j v w r.
-    let more = larger_more l j in
-    bind_rel (runs X more (frame ∷ fs) (record { env = Some a; this = this }) (record { env = Some b; this = that })
-    (record { trees = trees_up more trees; round = heap.round_up j (enters_round n); this = value_up more t }) parts.1) (λ Y k p q s.
-    ret_rel (λ Z m. call_end_rel m s))))
-
--- what is told is related in another way too
-pub weaker_rel : {A : Type 0} {R S : Relation A} {V : World} {p q : ActOf A} → ((W : World) (a b : A) → R W a b → S W a b) → ActRel R V p q → ActRel S V p q
-weaker_rel {A = A} {R = R} {S = S} h m = record { run = λ W l s t n g. by_case (m.run W l s t n g) }
-  where
-    by_case : {W : World} {x y : Outcome A} → OutcomeRel R W x y → OutcomeRel S W x y
-    by_case (ended X j r g) = ended X j (h X _ _ r) g
-    by_case (stopped X j g) = stopped X j g
-
--- the environment of a catch clause
-pub record EntersOne (fs : List Frame) (x : List ℕ) (W : World) (a b : EnvId) : Type 0 where
-  pub round : Round W (frame_of (x ∷ []) ∷ fs) (Some a) (Some b)
-
-pub one_name_rel : {V : World} {v w : Value} (fs : List Frame) (x : List ℕ) (a b : Here) → HereRel V fs a b → are_few fs ≡ true → ValueRel (named V) v w
-    → ActRel (EntersOne fs x) V (make_environment a.env ((x, v) ∷ [])) (make_environment b.env ((x, w) ∷ []))
-one_name_rel {v = v} {w = w} fs x a b h e r =
-    weaker_rel (λ W p q n. record { round = enters_round n })
-    (opened_rel (λ y. is_among y (x ∷ [])) fs a.env b.env ((x, v) ∷ []) ((x, w) ∷ []) h.trees h.round (few_round fs e) (entry r no_entries) (one_name_same x v))
 
 -- ---- scripts
 
@@ -155,17 +199,24 @@ variable_place_rel x (some h) = done_rel
 own_global_rel : {W : World} {s t : Store} (x : List ℕ) → StoreRel W s t → Maybe (PropRel (named W)) (own_global x s) (own_global x t)
 own_global_rel x g = own_rel g window.0 window.0 (g.built_ins window.0 window_place) x
 
--- what a script declares
-pub declare_globals_rel : {V : World} (body : tree.Stmts) (trees : HasEqualTrees V) → stmts_fit trees.asks [] body ≡ true
-    → Agrees V (declare_globals (functions_of body)) (declare_globals (functions_of body))
-declare_globals_rel no_stmts trees e = done_rel
-declare_globals_rel (then_stmt (function (code None formals body)) ss) trees e = declare_globals_rel ss trees (and_parts _ _ e).1
-declare_globals_rel (then_stmt (function (code (Some x) formals body)) ss) trees e =
-    bind_rel (make_function_rel [] (code None formals body) None None trees outermost (and_parts _ _ e).0) (λ W l k m o.
+-- what a script declares: its functions stay at its top, with their code opened
+pub declare_globals_rel : {V : World} (body : tree.Stmts) (k : Around) (n : ℕ) (trees : HasTrees V) → k.opens ≡ trees.demand.opens → k.fields ≡ (λ x. opened_at trees.demand.opens Itself)
+    → stmts_stand trees.demand n [] body ≡ true → Agrees V (declare_globals (functions_of body)) (declare_globals (functions_of (open_tops k n body)))
+declare_globals_rel no_stmts k n trees same fields e = done_rel
+declare_globals_rel (then_stmt (function (code None formals body)) ss) k n trees same fields e =
+    let c = function (code None formals body) in
+    declare_globals_rel ss k (n + stmt_scopes c) trees same fields (and_parts (stmt_stands trees.demand n [] c) (stmts_stand trees.demand (n + stmt_scopes c) [] ss) e).1
+declare_globals_rel (then_stmt (function (code (Some x) formals body)) ss) k n trees same fields e =
+    let c = function (code (Some x) formals body) in
+    let both = and_parts (stmt_stands trees.demand n [] c) (stmts_stand trees.demand (n + stmt_scopes c) [] ss) e in
+    let one = and_parts (are_plain trees.demand.opens (x ∷ [])) (function_stands trees.demand n [] (code None formals body)) both.0 in
+    bind_rel (make_function_rel n [] None formals body _ None None trees (declared_code k n trees.demand.opens [] formals body same fields) outermost one.1) (λ W l i m o.
     also_rel (asking_rel {R = λ W. Maybe (PropRel (named W))} (λ X j s t g. own_global_rel x g) (λ X j p q r. function_place_rel x r)) (λ X j v w r.
-    also_rel (on_built_ins (λ U i there. put_in_rel window window (there window.0 window_place) x (object_value_rel k m (named_up (larger_more j i) o)))) (λ Y i y z u.
-    declare_globals_rel ss (trees_up (larger_more l (larger_more j i)) trees) (and_parts _ _ e).1)))
-declare_globals_rel (then_stmt s ss) trees e = declare_globals_rel ss trees (and_parts (stmt_fits trees.asks [] s) (stmts_fit trees.asks [] ss) e).1
+    also_rel (on_built_ins (λ U i there. put_in_rel window window (there window.0 window_place) x (object_value_rel _ m (named_up (larger_more j i) o)))) (λ Y i y z u.
+    declare_globals_rel ss k (n + stmt_scopes c) (trees_up (larger_more l (larger_more j i)) trees) same fields both.1)))
+declare_globals_rel {V = V} (then_stmt s ss) k n trees same fields e =
+    subst (λ fs. Agrees V (declare_globals (functions_of (then_stmt s ss))) (declare_globals fs)) (sym (tops_passed k n s (open_tops k (n + stmt_scopes s) ss) refl))
+    (declare_globals_rel ss k (n + stmt_scopes s) trees same fields (and_parts (stmt_stands trees.demand n [] s) (stmts_stand trees.demand (n + stmt_scopes s) [] ss) e).1)
 
 pub global_variables_rel : {V : World} (xs : List (List ℕ)) → Agrees V (global_variables xs) (global_variables xs)
 global_variables_rel [] = done_rel

@@ -7,10 +7,11 @@ use Rattle.js_values.specs.declared.throw.Throw.TheVariants.{WrongArgument}
 use Rattle.js_values.specs.declared.value.Value.{Value}
 use Rattle.page_meaning.specs.Act.{Calls}
 use Rattle.page_meaning.specs.Rows.{list_row, list_row_on}
+use Rattle.heap_relations.proofs.Callers.{larger_more}
 use Rattle.heap_relations.specs.Naming.{Named, named, World}
 use Rattle.heap_relations.specs.Related.{Each, ValueRel}
 use Rattle.agreement.specs.Acts.{Agrees, Equal}
-use Rattle.agreement.proofs.Acts.{asking_rel, larger_more}
+use Rattle.agreement.proofs.Acts.{asking_rel}
 use Rattle.agreement.proofs.Elements.{length_of_same, on_list_rel}
 use Rattle.agreement.proofs.Heap.{named_up, values_up}
 use Rattle.agreement.proofs.ListRows.{concat_rel, index_of_rel, join_rel, last_index_of_rel, pop_rel, push_rel, reverse_rel, shift_rel, slice_rel, splice_rel, unshift_rel}

@@ -14,10 +14,11 @@ use Rattle.page_meaning.specs.ListRows as list
 use Rattle.page_meaning.specs.Operators.{text_limit, text_or_long}
 use Rattle.page_meaning.specs.Properties.{is_object}
 use Rattle.page_meaning.specs.Store.{Store}
+use Rattle.heap_relations.proofs.Callers.{larger_more}
 use Rattle.heap_relations.specs.Naming.{Larger, Named, named, World}
 use Rattle.heap_relations.specs.Related.{Each, IsOneToOne, Maybe, ObjectIds, ValueRel, each, no_more, none, some, undefined, null, truth, num, text, object}
 use Rattle.agreement.specs.Acts.{Agrees, StoreRel}
-use Rattle.agreement.proofs.Acts.{also_rel, asking_rel, bind_rel, choose_rel, larger_more}
+use Rattle.agreement.proofs.Acts.{also_rel, asking_rel, bind_rel, choose_rel}
 use Rattle.agreement.proofs.Elements.{define_element_rel, delete_element_rel, element_or_rel, element_rel, length_of_same, list_in_rel, on_element_rel, put_each_rel, put_element_rel, set_length_rel, turns_down_rel, turns_up_rel}
 use Rattle.agreement.proofs.Heap.{named_up, take_step_rel, value_up, values_up}
 use Rattle.agreement.proofs.Made.{new_list_rel}

@@ -1,5 +1,5 @@
 -- Loops of acts that agree (section 12.6).
-use Rattle.std.proofs.Common.{◌≡◌, refl, ap, subst, ◌∙◌, ℕ, zero, suc, ◌<◌, ◌&&◌, Bool, true, false, not, List, [], ◌∷◌, ◌++◌, map, Option, Some, is_some, if◌then◌else◌, bytes_eq, arith}
+use Rattle.std.proofs.Common.{◌≡◌, refl, ap, subst, ◌∙◌, ℕ, zero, suc, ◌<◌, ◌&&◌, Bool, true, false, not, List, [], ◌∷◌, ◌++◌, map, Option, Some, if◌then◌else◌, bytes_eq, arith}
 use Rattle.std.specs.List.{list_any}
 use Rattle.std.specs.Map.{keys_of}
 use Rattle.std.specs.Option.{ForSome}
@@ -14,13 +14,15 @@ use Rattle.page_meaning.specs.Loops.{Listed, each_name, is_held, listed_from, li
 use Rattle.page_meaning.specs.Places.{at_place, boolean_prototype_place, number_prototype_place, string_prototype_place}
 use Rattle.page_meaning.specs.Store.{Store}
 use Rattle.page_meaning.specs.declared.signal.Signal.{Signal}
+use Rattle.heap_relations.proofs.Callers.{each_append, is_some_same, larger_more}
 use Rattle.heap_relations.specs.Naming.{Larger, Named, named, World}
 use Rattle.heap_relations.specs.Related.{Each, Entries, Maybe, ObjectIds, ObjectsRel, PropRel, ValueRel, each, entry, no_entries, no_more, none, some, undefined, null, truth, num, text, object}
 use Rattle.object_shapes.specs.Links.{built_in_count}
 use Rattle.agreement.specs.Acts.{Agrees, Continues, Equal, Relation, SignalRel, StoreRel, break, continue, return, thrown, value as given}
-use Rattle.agreement.proofs.Acts.{act_up, also_rel, asking_rel, bind_rel, choose_rel, larger_more, ret_rel}
+use Rattle.agreement.proofs.Acts.{act_up, also_rel, asking_rel, bind_rel, choose_rel, ret_rel}
 use Rattle.agreement.proofs.Heap.{named_up, own_rel, stop_rel, take_step_rel, value_up}
 use Rattle.agreement.proofs.Operators.{is_true_same}
+use Rattle.agreement.proofs.Properties.{boolean_place, number_place, string_place}
 use Rattle.agreement.proofs.Values.{done_rel, text_same}
 
 -- ---- turns
@@ -55,10 +57,6 @@ pub record ListedOne (V : World) (p q : Option ObjId × List ℕ) : Type 0 where
 
 abbrev pub ListedRel : Relation Listed
 ListedRel V = Each (ListedOne V)
-
-pub each_append : {A : Type 0} {R : A → A → Type 0} {os ps xs ys : List A} → Each R os ps → Each R xs ys → Each R (os ++ xs) (ps ++ ys)
-each_append no_more k = k
-each_append (each r h) k = each r (each_append h k)
 
 pub keys_of_same : {A : Type 0} {R : A → A → Type 0} {xs ys : List (List ℕ × A)} → Entries R xs ys → keys_of xs ≡ keys_of ys
 keys_of_same no_entries = refl
@@ -111,18 +109,6 @@ listed_up_rel g seen a b n =
 built_in_up : {W : World} {s t : Store} → StoreRel W s t → (seen : List (List ℕ)) (at : ObjId) → at.0 < built_in_count → ListedRel W (listed_up s seen (Some at)) (listed_up t seen (Some at))
 built_in_up g seen at h = listed_up_rel g seen at at (g.built_ins at.0 h)
 
-string_place : string_prototype_place < built_in_count
-unfolding string_prototype_place built_in_count
-string_place = omega arith
-
-number_place : number_prototype_place < built_in_count
-unfolding number_prototype_place built_in_count
-number_place = omega arith
-
-boolean_place : boolean_prototype_place < built_in_count
-unfolding boolean_prototype_place built_in_count
-boolean_place = omega arith
-
 pub listed_of_rel : {W : World} {s t : Store} {v w : Value} → StoreRel W s t → ValueRel (named W) v w → ListedRel W (listed_of s v) (listed_of t w)
 listed_of_rel g undefined = no_more
 listed_of_rel g null = no_more
@@ -132,10 +118,6 @@ listed_of_rel {v = value.Text t} g text = each_append (unit_names_rel 0 t) (buil
 listed_of_rel {v = value.Object a} {w = value.Object b} g (object n) = listed_up_rel g [] a b n
 
 -- ---- for-in
-
-is_some_same : {A : Type 0} {R : A → A → Type 0} {a b : Option A} → Maybe R a b → is_some a ≡ is_some b
-is_some_same none = refl
-is_some_same (some h) = refl
 
 pub is_held_same : {W : World} {s t : Store} {p q : Option ObjId} → StoreRel W s t → Maybe (ObjectIds (named W)) p q → (x : List ℕ) → is_held p x s ≡ is_held q x t
 is_held_same g none x = refl

@@ -1,5 +1,6 @@
 -- References to names of both pages (sections 8.7 and 10.2.2.1).
-use Rattle.std.proofs.Common.{◌≡◌, refl, ap, subst, ◌∙◌, ℕ, ◌<◌, Bool, true, false, List, length, Option, Some, None, arith}
+use Rattle.std.proofs.Common.{◌≡◌, refl, ap, subst, ◌∙◌, ℕ, ◌<◌, Bool, true, false, not, List, Option, Some, None, arith}
+use Rattle.std.proofs.lemmas.Bool.{and_parts}
 use Rattle.js_values.specs.declared.ids.EnvId.{EnvId}
 use Rattle.js_values.specs.declared.throw.Throw.TheVariants.{NotDefined}
 use Rattle.js_values.specs.declared.value.Value.{Value}
@@ -7,13 +8,14 @@ use Rattle.object_heap.specs.Environment.{AreInside}
 use Rattle.object_heap.specs.Heap.{look_in}
 use Rattle.object_heap.specs.Object.{Object}
 use Rattle.page_meaning.specs.Act.{Act, bind, give, then_on}
-use Rattle.page_meaning.specs.Names.{Here, assign_name, found_or_raise, global_or_not, held, read, read_name, resolve as resolve_here, resolved, type_of_name, type_of_reference, write}
+use Rattle.page_meaning.specs.Names.{Here, found_or_raise, global_or_not, held, read, read_name, resolve as resolve_here, resolved, type_of_name, type_of_reference, write}
 use Rattle.page_meaning.specs.Operators.{give_type}
 use Rattle.page_meaning.specs.Places.{window}
 use Rattle.page_meaning.specs.Primitives.{bind_name, find_name}
 use Rattle.page_meaning.specs.Store.{Store}
 use Rattle.page_meaning.specs.declared.reference.Reference.{Reference}
 use Rattle.page_meaning.specs.declared.reference.Reference.TheVariants.{Environment, Global, Nowhere}
+use Rattle.heap_relations.proofs.Callers.{larger_same}
 use Rattle.heap_relations.proofs.Callers as heap
 use Rattle.heap_relations.specs.Naming as naming
 use Rattle.heap_relations.specs.Naming.{FoundRel, Frame, Free, In, Itself, Kept, Larger, named, Place, resolve, Slot, World, env_id, inside, is_captured, is_copied, is_free, is_reserved, is_sealed, is_unused, nowhere as unbound}
@@ -23,8 +25,10 @@ use Rattle.object_shapes.proofs.Callers as shapes
 use Rattle.object_shapes.specs.Links.{built_in_count}
 use Rattle.agreement.proofs.Linked.{value_below}
 use Rattle.agreement.specs.Acts.{ActRel, Agrees, Continues, Equal, OutcomeRel, SignalRel, StoreRel, ended}
-use Rattle.agreement.specs.Trees.{HereRel, is_reached}
-use Rattle.agreement.proofs.Acts.{also_rel, asking_rel, bind_rel, larger_same, on_built_ins, ret_rel}
+use Rattle.instrumenter.specs.Around.{Around}
+use Rattle.agreement.specs.Opened.{Demand, HereRel, may_use, name_stands}
+use Rattle.agreement.specs.Trees.{is_reached}
+use Rattle.agreement.proofs.Acts.{also_rel, asking_rel, bind_rel, on_built_ins, ret_rel}
 use Rattle.agreement.proofs.EqualTrees.{trees_up}
 use Rattle.agreement.proofs.Heap.{get_rel, tells_rel, value_up}
 use Rattle.agreement.proofs.Operators.{give_type_rel}
@@ -39,7 +43,7 @@ pub data ReferenceRel (x : List ℕ) (W : World) : Reference → Reference → T
 
 -- ---- larger namings
 
-reserved_up : {V W : World} (x : List ℕ) → Larger V W → is_reserved V.opens x ≡ false → is_reserved W.opens x ≡ false
+pub reserved_up : {V W : World} (x : List ℕ) → Larger V W → is_reserved V.opens x ≡ false → is_reserved W.opens x ≡ false
 reserved_up x l own = subst (λ b. is_reserved b x ≡ false) l.opens own
 
 pub reference_up : {x : List ℕ} {V W : World} {r q : Reference} → Larger V W → ReferenceRel x V r q → ReferenceRel x W r q
@@ -47,8 +51,8 @@ reference_up {x = x} l (bound s i free own) = bound s (l.slots s i) free (reserv
 reference_up l global = global
 reference_up l nowhere = nowhere
 
-abbrev pub here_up : {V W : World} {fs : List Frame} {a b : Here} → Larger V W → HereRel V fs a b → HereRel W fs a b
-here_up l h = record { trees = trees_up l h.trees; round = heap.round_up l h.round; this = value_up l h.this }
+abbrev pub here_up : {V W : World} {k : Around} {fs : List Frame} {a b : Here} → Larger V W → HereRel V k fs a b → HereRel W k fs a b
+here_up l h = record { trees = trees_up l h.trees; opens = h.opens; fields = h.fields; round = heap.round_up l h.round; this = value_up l h.this }
 
 -- ---- the object that has the globals
 
@@ -63,7 +67,7 @@ global_same true false e = absurd (cc e)
 global_same false true e = absurd (cc e)
 
 -- a name that no environment binds
-outside_rel : {V : World} (x : List ℕ) → ActRel (ReferenceRel x) V (resolved x None) (resolved x None)
+pub outside_rel : {V : World} (x : List ℕ) → ActRel (ReferenceRel x) V (resolved x None) (resolved x None)
 outside_rel x = tells_rel (λ W l s t g. global_same _ _ (has_property_same g window window (g.built_ins window.0 window_place) x))
 
 found_or_raise_rel : {V : World} {o p : Option Value} (x : List ℕ) → Maybe (ValueRel (named V)) o p → Agrees V (found_or_raise x o) (found_or_raise x p)
@@ -75,9 +79,18 @@ global_rel x = asking_rel {R = λ W. Maybe (ValueRel (named W))} (λ W l s t g. 
 
 -- ---- a reference is made
 
--- a page of equal trees has no name that is reserved
-own_name : {V : World} {fs : List Frame} {a b : Here} (x : List ℕ) → HereRel V fs a b → is_reserved V.opens x ≡ false
-own_name x h = ap (λ o. is_reserved o x) h.trees.opens
+-- a name that stands somewhere is no scope object's, and may be used where it is found
+pub own_name : {V : World} {k : Around} {fs : List Frame} {a b : Here} (assigns : Bool) (x : List ℕ) (h : HereRel V k fs a b) → name_stands h.trees.demand assigns fs x ≡ true → is_reserved V.opens x ≡ false
+own_name {fs = fs} assigns x h f =
+    ap (λ o. is_reserved o x) h.trees.opens
+    ∙ not_true (is_reserved h.trees.demand.opens x) (and_parts (not (is_reserved h.trees.demand.opens x)) (may_use h.trees.demand.opens assigns (resolve fs x)) f).0
+  where
+    not_true : (b : Bool) → not b ≡ true → b ≡ false
+    not_true true e = absurd (cc e)
+    not_true false e = refl
+
+pub used : (d : Demand) (fs : List Frame) (assigns : Bool) (x : List ℕ) → name_stands d assigns fs x ≡ true → may_use d.opens assigns (resolve fs x) ≡ true
+used d fs assigns x f = (and_parts (not (is_reserved d.opens x)) (may_use d.opens assigns (resolve fs x)) f).1
 
 -- a name that may be assigned, from where it is bound
 found_rel : {V : World} {ps : List Object} {look : List ℕ → Option (EnvId × Value)} {x : List ℕ} {p : Place} {o q : Option (EnvId × Value)} → FoundRel V ps look x p o q → is_reached true p ≡ true → is_reserved V.opens x ≡ false
@@ -89,11 +102,12 @@ found_rel (is_copied s opens look p v) e own = absurd (cc e)
 found_rel (is_sealed v) e own = absurd (cc e)
 found_rel is_unused e own = absurd (cc e)
 
-pub resolve_rel : {V : World} (fs : List Frame) (a b : Here) (x : List ℕ) → HereRel V fs a b → is_reached true (resolve fs x) ≡ true → ActRel (ReferenceRel x) V (resolve_here a x) (resolve_here b x)
-resolve_rel fs a b x h e = record {
+pub resolve_rel : {V : World} (k : Around) (fs : List Frame) (a b : Here) (x : List ℕ) → (h : HereRel V k fs a b) → name_stands h.trees.demand true fs x ≡ true → is_reached true (resolve fs x) ≡ true
+    → ActRel (ReferenceRel x) V (resolve_here a x) (resolve_here b x)
+resolve_rel k fs a b x h f e = record {
   run = λ W l s t n g.
-      let k = here_up l h in
-      (found_rel (heap.name_found g.heap x k.round (own_name x k)) e (own_name x k)).run W larger_same s t n g;
+      let i = here_up l h in
+      (found_rel (heap.name_found g.heap x i.round (own_name true x i f)) e (own_name true x i f)).run W larger_same s t n g;
 }
 
 -- ---- it is read
@@ -111,7 +125,7 @@ free_place k d p e = ap (λ z. naming.resolved z d p) e
 
 find_name_rel : {V : World} (s : Slot) (x : List ℕ) → In s V.slots → s.frame.keeps x ≡ Free → is_reserved V.opens x ≡ false
     → ActRel (λ W o q. ValueRel (named W) (held o) (held q)) V (find_name (Some (env_id s.one)) x) (find_name (Some (env_id s.two)) x)
-find_name_rel s x i free own = tells_rel (λ W l u t g. held_rel (heap.name_found g.heap x (inside s (l.slots s i)) (reserved_up x l own)) (free_place (s.frame.keeps x) (length s.round) (resolve s.round x) free))
+find_name_rel s x i free own = tells_rel (λ W l u t g. held_rel (heap.name_found g.heap x (inside s (l.slots s i)) (reserved_up x l own)) (free_place (s.frame.keeps x) s.frame.number (resolve s.round x) free))
 
 bound_rel : {V : World} (s : Slot) (x : List ℕ) → In s V.slots → s.frame.keeps x ≡ Free → is_reserved V.opens x ≡ false → Agrees V (read x (Environment (env_id s.one))) (read x (Environment (env_id s.two)))
 bound_rel s x i free own = bind_rel (find_name_rel s x i free own) (λ W l o q v. give_rel v)
@@ -139,16 +153,13 @@ write_rel x (bound s i free own) r = bind_rel (bind_name_rel s x i free own r) (
 write_rel x global r = on_built_ins (λ W l there. put_in_rel window window (there window.0 window_place) x (value_up l r))
 write_rel x nowhere r = raise_rel (NotDefined x)
 
-pub assign_name_rel : {V : World} {v w : Value} (fs : List Frame) (a b : Here) (x : List ℕ) → HereRel V fs a b → is_reached true (resolve fs x) ≡ true → ValueRel (named V) v w → Agrees V (assign_name a x v) (assign_name b x w)
-assign_name_rel fs a b x h e r = bind_rel (resolve_rel fs a b x h e) (λ W l q p k. write_rel x k (value_up l r))
-
 -- ---- a name is read at once, also one that is never assigned
 
 -- f goes on with a reference as m does with its value
-abbrev GoesOn : List ℕ → (Reference → Act) → (Value → Act) → Type 0
+abbrev pub GoesOn : List ℕ → (Reference → Act) → (Value → Act) → Type 0
 GoesOn x f m = (e : EnvId) (s : Store) (n : ℕ) → (f (Environment e)).run s n ≡ (m (held (look_in s.heap.environments (Some e) x))).run s n
 
-value_at : (x : List ℕ) (f : Reference → Act) (m : Value → Act) (s : Store) (n : ℕ) (d : Option EnvId) (e : EnvId) (v : Value) → GoesOn x f m
+pub value_at : (x : List ℕ) (f : Reference → Act) (m : Value → Act) (s : Store) (n : ℕ) (d : Option EnvId) (e : EnvId) (v : Value) → GoesOn x f m
     → AreInside s.heap.environments → look_in s.heap.environments d x ≡ Some (e, v) → (f (Environment e)).run s n ≡ (m v).run s n
 value_at x f m s n d e v goes ages found = goes e s n ∙ ap (λ o. (m (held o)).run s n) (heap.found_there s.heap.environments d x e v ages found)
 
@@ -167,11 +178,12 @@ module _ {W : World} {s t : Store} (n : ℕ) (g : StoreRel W s t) (x : List ℕ)
   reached_rel (is_sealed {e = c} {f = d} r) e i j = both_values c d i j r
   reached_rel is_unused e i j = absurd (cc e)
 
-pub read_name_rel : {V : World} (fs : List Frame) (a b : Here) (x : List ℕ) → HereRel V fs a b → is_reached false (resolve fs x) ≡ true → Agrees V (read_name a x) (read_name b x)
-read_name_rel fs a b x h e = record {
+pub read_name_rel : {V : World} (k : Around) (fs : List Frame) (a b : Here) (x : List ℕ) → (h : HereRel V k fs a b) → name_stands h.trees.demand false fs x ≡ true → is_reached false (resolve fs x) ≡ true
+    → Agrees V (read_name a x) (read_name b x)
+read_name_rel k fs a b x h f e = record {
   run = λ W l s t n g.
-      let k = here_up l h in
-      reached_rel n g x (read x) give (λ d u m. refl) (bind_rel (outside_rel x) (λ X j r q p. read_rel x p)) (λ X j v w r. give_rel r) a.env b.env (heap.name_found g.heap x k.round (own_name x k)) e refl refl;
+      let i = here_up l h in
+      reached_rel n g x (read x) give (λ d u m. refl) (bind_rel (outside_rel x) (λ X j r q p. read_rel x p)) (λ X j v w r. give_rel r) a.env b.env (heap.name_found g.heap x i.round (own_name false x i f)) e refl refl;
 }
 
 type_of_rel : {V : World} {r q : Reference} (x : List ℕ) → ReferenceRel x V r q → Agrees V (type_of_reference x r) (type_of_reference x q)
@@ -179,9 +191,19 @@ type_of_rel x (bound s i free own) = also_rel (bound_rel s x i free own) (λ W l
 type_of_rel x global = also_rel (global_rel x) (λ W l v w r. give_type_rel r)
 type_of_rel x nowhere = give_type_rel undefined
 
-pub type_of_name_rel : {V : World} (fs : List Frame) (a b : Here) (x : List ℕ) → HereRel V fs a b → is_reached false (resolve fs x) ≡ true → Agrees V (type_of_name a x) (type_of_name b x)
-type_of_name_rel fs a b x h e = record {
+pub type_of_name_rel : {V : World} (k : Around) (fs : List Frame) (a b : Here) (x : List ℕ) → (h : HereRel V k fs a b) → name_stands h.trees.demand false fs x ≡ true → is_reached false (resolve fs x) ≡ true
+    → Agrees V (type_of_name a x) (type_of_name b x)
+type_of_name_rel k fs a b x h f e = record {
   run = λ W l s t n g.
-      let k = here_up l h in
-      reached_rel n g x (type_of_reference x) give_type (λ d u m. refl) (bind_rel (outside_rel x) (λ X j r q p. type_of_rel x p)) (λ X j v w r. give_type_rel r) a.env b.env (heap.name_found g.heap x k.round (own_name x k)) e refl refl;
+      let i = here_up l h in
+      reached_rel n g x (type_of_reference x) give_type (λ d u m. refl) (bind_rel (outside_rel x) (λ X j r q p. type_of_rel x p)) (λ X j v w r. give_type_rel r) a.env b.env (heap.name_found g.heap x i.round (own_name false x i f)) e refl refl;
+}
+
+-- a name outside all environments
+pub read_global_rel : {V : World} (a b : Here) (x : List ℕ) → a.env ≡ None → b.env ≡ None → Agrees V (read_name a x) (read_name b x)
+read_global_rel a b x outside around = record {
+  run = λ W l s t n g.
+      let one = ap (λ e. then_on ((resolved x (look_in s.heap.environments e x)).run s n) (read x)) outside in
+      let two = ap (λ e. then_on ((resolved x (look_in t.heap.environments e x)).run t n) (read x)) around in
+      rw (one, two) ((bind_rel {S = SignalRel} {f = read x} {g = read x} (outside_rel x) (λ X j r q p. read_rel x p)).run W larger_same s t n g);
 }

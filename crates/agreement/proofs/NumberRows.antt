@@ -8,10 +8,11 @@ use Rattle.page_meaning.specs.Act.{Act, Calls, also, give}
 use Rattle.page_meaning.specs.Convert.{as_number, number_in, text_in, to_number, to_text}
 use Rattle.page_meaning.specs.Errors.{settle}
 use Rattle.page_meaning.specs.NumberRows.{is_finite, is_not_a_number, number_from, number_text, on_number, parse_int, parsed, radix_of, text_or_outside}
+use Rattle.heap_relations.proofs.Callers.{larger_more}
 use Rattle.heap_relations.specs.Naming.{Larger, named, World}
 use Rattle.heap_relations.specs.Related.{Each, ValueRel, undefined, null, truth, num, text, object, each, no_more}
 use Rattle.agreement.specs.Acts.{Agrees}
-use Rattle.agreement.proofs.Acts.{also_rel, larger_more}
+use Rattle.agreement.proofs.Acts.{also_rel}
 use Rattle.agreement.proofs.Heap.{value_up}
 use Rattle.agreement.proofs.Properties.{text_in_same}
 use Rattle.agreement.proofs.Values.{SettledRel, settled, refused, give_rel, raise_rel, settle_rel, to_number_rel, to_text_rel}

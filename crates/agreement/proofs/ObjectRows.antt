@@ -1,5 +1,5 @@
 -- The constructor `Object`, what it has, and what its prototype has, in both pages (section 15.2).
-use Rattle.std.proofs.Common.{◌≡◌, refl, ap, subst, ◌∙◌, ℕ, zero, suc, Bool, true, false, not, cond, ◌&&◌, List, [], ◌∷◌, ◌++◌, Option, is_some, filter, codes}
+use Rattle.std.proofs.Common.{◌≡◌, refl, ap, subst, ◌∙◌, ℕ, zero, suc, Bool, true, false, not, cond, ◌&&◌, List, [], ◌∷◌, ◌++◌, Option, filter, codes}
 use Rattle.std.specs.Fmt.{decimal}
 use Rattle.std.specs.List.{list_all}
 use Rattle.std.specs.Map.{keys_of}
@@ -18,9 +18,10 @@ use Rattle.page_meaning.specs.Act.{Act, Calls, asking, give}
 use Rattle.page_meaning.specs.Convert.{text_in}
 use Rattle.page_meaning.specs.ObjectRows.{Changes, all_changes, argument, change_all, change_each, changes_in, create, define_as, define_each, define_given, define_properties, define_property, described, enumerable_names, freezing, get_descriptor, get_prototype, has_own, heap_object, is_frozen, is_listed, is_prototype_of, is_sealed, list_texts, lists_own, new_texts, new_with, object_from, on_object, one_change, own_enumerable_names, own_names, prevent, props_at, sealing, tag_of, tagged, telling, value_itself, value_of_prototype, with_given}
 use Rattle.page_meaning.specs.Store.{Store}
+use Rattle.heap_relations.proofs.Callers.{is_some_same, larger_more}
 use Rattle.heap_relations.specs.Naming.{Larger, Named, named, World}
 use Rattle.heap_relations.specs.Related.{ChangeRel, Each, Entries, Maybe, ObjectIds, ObjectRel, PropRel, ValueRel, each, entry, no_entries, no_more, none, null, num, object, plain, some, text, truth, undefined}
-use Rattle.agreement.proofs.Acts.{also_rel, asking_rel, bind_rel, larger_more}
+use Rattle.agreement.proofs.Acts.{also_rel, asking_rel, bind_rel}
 use Rattle.agreement.proofs.Descriptors.{change_in_rel, define_in_rel, new_descriptor_rel, truth_same}
 use Rattle.agreement.proofs.Heap.{change_up, class_rel, make_rel, named_up, object_rel, own_rel, prevent_at_rel, value_up}
 use Rattle.agreement.proofs.Lines.{class_name_same}
@@ -253,10 +254,6 @@ value_itself_rel truth = give_rel truth
 value_itself_rel num = give_rel num
 value_itself_rel text = give_rel text
 value_itself_rel (object n) = give_rel (object n)
-
-is_some_same : {V : World} {p q : Option Prop} → Maybe (PropRel (named V)) p q → is_some p ≡ is_some q
-is_some_same none = refl
-is_some_same (some r) = refl
 
 has_own_rel : {V : World} {v w : Value} → ValueRel (named V) v w → (x : List ℕ) → Agrees V (has_own v x) (has_own w x)
 has_own_rel undefined x = raise_rel WrongArgument

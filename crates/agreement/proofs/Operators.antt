@@ -28,10 +28,11 @@ use Rattle.page_meaning.specs.Errors.{settle}
 use Rattle.page_meaning.specs.Operators.{as_numbers, give_type, has_instance, instance_of, is_above, is_instance_of, is_within, less_of, loosely, next_target, of_loose, on_bits, on_numbers, on_primitives, one_more, operate, operate_one, prototype_for_instances, says, stands_above, sum_of, target_of, text_or_long, type_of, type_of_object, update_with, updated_value, yes_or_no}
 use Rattle.page_meaning.specs.Properties.{has_property, is_object}
 use Rattle.page_meaning.specs.Store.{Store}
+use Rattle.heap_relations.proofs.Callers.{larger_more}
 use Rattle.heap_relations.specs.Naming.{Larger, Named, named, World}
 use Rattle.heap_relations.specs.Related.{ClassRel, IsOneToOne, Links, Maybe, ObjectIds, ObjectsRel, ValueRel, undefined, null, truth, num, text, object, none, some, plain, array, page, native, bound, fault, math, window, node, event}
 use Rattle.agreement.specs.Acts.{Agrees, Continues, Equal, StoreRel}
-use Rattle.agreement.proofs.Acts.{also_rel, asking_rel, choose_rel, on_one_to_one, larger_more}
+use Rattle.agreement.proofs.Acts.{also_rel, asking_rel, choose_rel, on_one_to_one}
 use Rattle.agreement.proofs.Heap.{named_up, value_up}
 use Rattle.agreement.proofs.Properties.{class_of_rel, get_at_rel, has_property_same, is_function_same, text_in_same}
 use Rattle.agreement.proofs.Values.{SettledRel, give_rel, number_of_rel, raise_rel, refused, settle_rel, settled, text_of_same, text_same, to_number_rel, to_primitive_rel, to_text_rel}

@@ -8,26 +8,22 @@ use Rattle.js_values.specs.declared.value.Value.{Value}
 use Rattle.js_values.specs.declared.value.Value.TheVariants as value
 use Rattle.object_heap.specs.Define.{length_name, whole_property}
 use Rattle.object_heap.specs.Index.{index_of}
-use Rattle.object_heap.specs.Object.{is_list}
 use Rattle.object_heap.specs.declared.object.Class.{Class}
 use Rattle.page_meaning.specs.Act.{Calls}
 use Rattle.page_meaning.specs.Convert.{text_in}
 use Rattle.page_meaning.specs.Places.{at_place, boolean_prototype_place, number_prototype_place, string_prototype_place}
 use Rattle.page_meaning.specs.Properties.{class_of, define_member, delete_member, get_at, get_index, get_member, has_property, inherited, is_function, is_length_of, is_object, key_of, own_of_text, property_of, put_in, put_member, read_property, stored, unit_at, with_properties}
 use Rattle.page_meaning.specs.Store.{Store}
+use Rattle.heap_relations.proofs.Callers.{is_some_same, larger_more, list_same}
 use Rattle.heap_relations.specs.Naming.{Named, named, World}
 use Rattle.heap_relations.specs.Related.{ChangeRel, ClassRel, Maybe, ValueRel, undefined, null, truth, num, text, object, none, some, plain, array, page, native, bound, fault, math, window, node, event}
 use Rattle.object_shapes.specs.Links.{built_in_count}
 use Rattle.agreement.specs.Acts.{Agrees, Equal, StoreRel}
-use Rattle.agreement.proofs.Acts.{also_rel, asking_rel, choose_rel, larger_more}
+use Rattle.agreement.proofs.Acts.{also_rel, asking_rel, choose_rel}
 use Rattle.agreement.proofs.Heap.{class_rel, define_at_rel, delete_at_rel, get_rel, get_property_rel, named_up, put_at_rel, value_up}
 use Rattle.agreement.proofs.Values.{give_rel, number_of_rel, raise_rel, settle_rel, to_text_rel, unless_rel}
 
 -- ---- what is read
-
-is_some_same : {A : Type 0} {R : A → A → Type 0} {a b : Option A} → Maybe R a b → is_some a ≡ is_some b
-is_some_same none = refl
-is_some_same (some h) = refl
 
 pub or_undefined : {V : World} {a b : Option Value} → Maybe (ValueRel (named V)) a b → ValueRel (named V) (unwrap_or a value.Undefined) (unwrap_or b value.Undefined)
 or_undefined none = undefined
@@ -59,15 +55,15 @@ chosen R false h k = k
 pub own_of_text_rel : {V : World} (t x : List ℕ) → Maybe (ValueRel (named V)) (own_of_text t x) (own_of_text t x)
 own_of_text_rel {V = V} t x = chosen (Maybe (ValueRel (named V))) (bytes_eq x length_name) (some num) (unit_at_rel t (index_of x))
 
-string_place : string_prototype_place < built_in_count
+pub string_place : string_prototype_place < built_in_count
 unfolding string_prototype_place built_in_count
 string_place = omega arith
 
-number_place : number_prototype_place < built_in_count
+pub number_place : number_prototype_place < built_in_count
 unfolding number_prototype_place built_in_count
 number_place = omega arith
 
-boolean_place : boolean_prototype_place < built_in_count
+pub boolean_place : boolean_prototype_place < built_in_count
 unfolding boolean_prototype_place built_in_count
 boolean_place = omega arith
 
@@ -113,18 +109,6 @@ get_index_rel c d h k = also_rel (key_of_rel c d h k) (λ W l a b r. named_read 
 
 -- ---- classes
 
-pub is_list_same : {V : World} {c d : Class} → ClassRel (named V) c d → is_list c ≡ is_list d
-is_list_same plain = refl
-is_list_same array = refl
-is_list_same (page h) = refl
-is_list_same native = refl
-is_list_same (bound h v vs) = refl
-is_list_same fault = refl
-is_list_same math = refl
-is_list_same window = refl
-is_list_same (node h) = refl
-is_list_same (event h) = refl
-
 pub is_function_same : {V : World} {c d : Option Class} → Maybe (ClassRel (named V)) c d → is_function c ≡ is_function d
 is_function_same none = refl
 is_function_same (some plain) = refl
@@ -158,7 +142,7 @@ pub has_property_same : {W : World} {s t : Store} → StoreRel W s t → (a b : 
 has_property_same g a b n x = is_some_same (get_property_rel g a.0 b.0 n x)
 
 pub is_length_of_same : {W : World} {s t : Store} → StoreRel W s t → (a b : ObjId) → Named W a.0 b.0 → (x : List ℕ) → is_length_of s a x ≡ is_length_of t b x
-is_length_of_same g a b n x = ap (λ l. l && bytes_eq x length_name) (is_list_same (class_rel g a.0 b.0 n))
+is_length_of_same g a b n x = ap (λ l. l && bytes_eq x length_name) (list_same (class_rel g a.0 b.0 n))
 
 -- ---- what is put, defined and deleted
 

@@ -24,7 +24,8 @@ use Rattle.agreement.specs.Trees.{HasEqualTrees, code_fits}
 -- a function fits its frames, and stands in them
 record Fitting (W : World) (c : tree.Code) (env : Option EnvId) : Type 0 where
   frames : List Frame
-  fits : W.fits frames c ≡ true
+  number : ℕ
+  fits : W.fits number frames c ≡ true
   others : Option EnvId
   round : Round W frames env others
 
@@ -36,7 +37,8 @@ function_fits {W = W} {c = c} {env = env} (page {c = k} {e = e} {f = f} h) is =
     let there : e ≡ env = cc is in
     record {
       frames = h.frames;
-      fits = subst (λ x. W.fits h.frames x ≡ true) same h.fits;
+      number = h.number;
+      fits = subst (λ x. W.fits h.number h.frames x ≡ true) same h.fits;
       others = f;
       round = subst (λ x. Round W h.frames x f) there h.round;
     }
@@ -57,7 +59,7 @@ pub function_read : {W : World} {s t : Store} {k l : ℕ} {c : tree.Code} {env :
     → (object_at s.heap.objects k).class ≡ class.Page c env → (trees.asks c ≡ true) × ForSome env (λ e. e.0 < length s.heap.environments)
 function_read {c = c} g trees n is =
     let h = function_fits (heap.class_read g.heap n) is in
-    (asked trees.asks h.frames c (sym (trees.fits h.frames c) ∙ h.fits), (heap.round_there g.heap h.round).0)
+    (asked trees.asks h.frames c (sym (trees.fits h.number h.frames c) ∙ h.fits), (heap.round_there g.heap h.round).0)
 
 -- ---- links
 
@@ -105,7 +107,7 @@ each_head (each h hs) = h
 each_tail : {R : ℕ → ℕ → Type 0} {a b : ℕ} {xs ys : List ℕ} → Each R (a ∷ xs) (b ∷ ys) → Each R xs ys
 each_tail (each h hs) = hs
 
-each_with_itself : {R : ℕ → ℕ → Type 0} (ks : List ℕ) (j : ℕ) → Each R ks ks → In j ks → R j j
+pub each_with_itself : {R : ℕ → ℕ → Type 0} (ks : List ℕ) (j : ℕ) → Each R ks ks → In j ks → R j j
 each_with_itself [] j r i = elim i [ ]
 each_with_itself (k ∷ ks) _ r here = each_head r
 each_with_itself (k ∷ ks) j r (there i) = each_with_itself ks j (each_tail r) i

@@ -1,5 +1,16 @@
 -- Tasks and host events of both pages (sections 10.4.1, 13.2.1 and 14).
-use Rattle.std.proofs.Common.{◌≡◌, refl, sym, ap, subst, ◌∙◌, ◌<◌, true, List, [], ◌∷◌, ◌++◌, length, drop, arith}
+use Rattle.std.proofs.Common.{◌≡◌, refl, sym, ap, subst, ◌∙◌, ◌<◌, true, List, [], ◌∷◌, ◌++◌, length, drop, arith, ℕ, ◌+◌, Bool, false}
+use Rattle.page_meaning.specs.Names.{Here}
+use Rattle.page_meaning.specs.Statements.{exec_all}
+use Rattle.std.proofs.lemmas.Bool.{and_parts}
+use Rattle.js_core.specs.Tree.{code, function, no_stmts, then_stmt}
+use Rattle.instrumenter.specs.Counting.{stmt_scopes}
+use Rattle.instrumenter.specs.Opening.{open_stmt, open_tops}
+use Rattle.instrumenter.specs.Around as around
+use Rattle.instrumenter.specs.Around.{Around}
+use Rattle.agreement.proofs.Unopened.{equal_trees}
+use Rattle.agreement.proofs.Declared.{tops_variables}
+use Rattle.agreement.proofs.Dropped.{act_as, act_from, also_dropped_rel, append_run}
 use Rattle.code_table.specs.Declarations.{variables_of}
 use Rattle.js_core.specs.Tree as tree
 use Rattle.js_values.specs.declared.event.Event.{Event}
@@ -7,27 +18,27 @@ use Rattle.js_values.specs.declared.event.Event.TheVariants as event
 use Rattle.js_values.specs.declared.line.Line.{Line}
 use Rattle.page_meaning.specs.Act.{Calls}
 use Rattle.page_meaning.specs.Calls.{calls_at}
-use Rattle.page_meaning.specs.Functions.{call_end}
+use Rattle.page_meaning.specs.Functions.{global_variables}
 use Rattle.page_meaning.specs.Pages.{do_event, run_all}
 use Rattle.page_meaning.specs.Places.{window}
 use Rattle.page_meaning.specs.Store.{Store}
-use Rattle.page_meaning.specs.Tasks.{Name, Script, Task, after_task, depth_limit, run_script, step_limit, task_of, top}
-use Rattle.page_meaning.specs.declared.signal.Signal.{Signal}
-use Rattle.heap_relations.specs.Naming.{Larger, World, outermost}
+use Rattle.page_meaning.specs.Tasks.{Name, Script, after_task, depth_limit, run_script, step_limit, task_of, top}
+use Rattle.heap_relations.proofs.Callers.{larger_more, larger_same}
+use Rattle.heap_relations.specs.Naming.{Larger, World, outermost, Itself}
 use Rattle.heap_relations.specs.Related.{no_more, undefined}
 use Rattle.object_shapes.specs.Links.{built_in_count}
-use Rattle.agreement.specs.Acts.{AddedRel, Agrees, CallsRel, HasBuiltIns, SignalRel, StoreRel, break, continue, return, thrown, value as given}
+use Rattle.agreement.specs.Acts.{AddedRel, Agrees, CallsRel, HasBuiltIns, StoreRel}
 use Rattle.agreement.specs.Laws.{EventsAgree}
-use Rattle.agreement.specs.Trees.{HasEqualTrees, HereRel, stmts_fit, task_fits}
-use Rattle.agreement.proofs.Acts.{also_rel, bind_rel, larger_more, larger_same, on_built_ins}
+use Rattle.agreement.specs.Opened.{HasTrees, HereRel, opened_at, stmt_stands, stmts_stand}
+use Rattle.agreement.proofs.Acts.{also_rel, bind_rel, on_built_ins, ret_rel}
 use Rattle.agreement.proofs.Called.{calls_up}
 use Rattle.agreement.proofs.Calling.{calls_at_rel}
 use Rattle.agreement.proofs.EqualTrees.{trees_up}
 use Rattle.agreement.proofs.Ends.{LaterRel, finished_rel}
-use Rattle.agreement.proofs.Functions.{declare_globals_rel, global_variables_rel}
-use Rattle.agreement.proofs.Names.{read_name_rel}
-use Rattle.agreement.proofs.Statements.{end_rel, exec_all_rel}
-use Rattle.agreement.proofs.Values.{object_value_rel}
+use Rattle.agreement.proofs.Functions.{declare_globals_rel, global_variables_rel, call_end_rel}
+use Rattle.agreement.proofs.Names.{here_up, read_global_rel}
+use Rattle.agreement.proofs.Statements.{exec_rel}
+use Rattle.agreement.proofs.Values.{object_value_rel, done_rel}
 
 -- ---- a task
 
@@ -35,49 +46,70 @@ pub window_place : window.0 < built_in_count
 unfolding built_in_count
 window_place = omega arith
 
--- it unfolds, so that its test is seen
-abbrev pub top_rel : {V : World} → HasEqualTrees V → HasBuiltIns V → HereRel V [] top top
-top_rel trees there = record { trees = trees; round = outermost; this = object_value_rel window window (there window.0 window_place) }
+-- what stands round the top of a script
+abbrev pub top_around : Bool → Around
+top_around opens = around.top opens
 
-pub call_end_rel : {V : World} {s t : Signal} → SignalRel V s t → SignalRel V (call_end s) (call_end t)
-call_end_rel (given r) = given undefined
-call_end_rel (thrown r) = thrown r
-call_end_rel (return r) = given r
-call_end_rel break = given undefined
-call_end_rel continue = given undefined
+pub top_fields : (opens : Bool) → (top_around opens).fields ≡ (λ x. opened_at opens Itself)
+top_fields true = refl
+top_fields false = refl
 
-pub run_script_rel : {V : World} (c d : Calls) (body : tree.Stmts) → CallsRel V c d → (trees : HasEqualTrees V)
-    → stmts_fit trees.asks [] body ≡ true → Agrees V (run_script c body) (run_script d body)
-run_script_rel c d body calls trees f =
-    also_rel (declare_globals_rel body trees f) (λ W l v w r. also_rel (global_variables_rel (variables_of body)) (λ X j x y q. on_built_ins (λ Y i there.
+-- it unfolds, so that what is asked is seen
+abbrev pub top_rel : {V : World} (trees : HasTrees V) → HasBuiltIns V → HereRel V (top_around trees.demand.opens) [] top top
+top_rel trees there =
+    record { trees = trees; opens = refl; fields = top_fields trees.demand.opens; round = outermost; this = object_value_rel window window (there window.0 window_place) }
+
+-- the functions at the top of a script do nothing where they stand
+tops_rel : {V : World} (c d : Calls) (k : Around) (n : ℕ) (a b : Here) (ss : tree.Stmts) → CallsRel V c d → (h : HereRel V k [] a b) → stmts_stand h.trees.demand n [] ss ≡ true
+    → Agrees V (exec_all c a ss) (exec_all d b (open_tops k n ss))
+tops_rel c d k n a b no_stmts calls h f = done_rel
+tops_rel c d k n a b (then_stmt (function (code x formals body)) ss) calls h f =
+    let s = function (code x formals body) in
+    act_from _ (λ s m. refl) (act_as _ (λ t m. refl)
+    (tops_rel c d k (n + stmt_scopes s) a b ss calls h (and_parts (stmt_stands h.trees.demand n [] s) (stmts_stand h.trees.demand (n + stmt_scopes s) [] ss) f).1))
+tops_rel c d k n a b (then_stmt s ss) calls h f =
+    let both = and_parts (stmt_stands h.trees.demand n [] s) (stmts_stand h.trees.demand (n + stmt_scopes s) [] ss) f in
+    act_as _ (λ t m. append_run d b (open_stmt k n s) (open_tops k (n + stmt_scopes s) ss) t m)
+    (also_dropped_rel _ _ (exec_rel c d k n [] a b s calls h both.0) (λ W l. tops_rel c d k (n + stmt_scopes s) a b ss (calls_up l calls) (here_up l h) both.1))
+
+-- a script, and on the right the same opened
+pub run_script_rel : {V : World} (c d : Calls) (n : ℕ) (body : tree.Stmts) → CallsRel V c d → (trees : HasTrees V)
+    → stmts_stand trees.demand n [] body ≡ true → Agrees V (run_script c body) (run_script d (open_tops (top_around trees.demand.opens) n body))
+run_script_rel c d n body calls trees f =
+    let k = top_around trees.demand.opens in
+    also_rel (declare_globals_rel body k n trees refl (top_fields trees.demand.opens) f) (λ W l v w r.
+    also_rel (subst (λ xs. Agrees W (global_variables (variables_of body)) (global_variables xs)) (sym (tops_variables k n body (λ x. refl))) (global_variables_rel (variables_of body))) (λ X j x y q. on_built_ins (λ Y i there.
     let up = larger_more l (larger_more j i) in
-    bind_rel (exec_all_rel c d [] top top body (calls_up up calls) (top_rel (trees_up up trees) there) f) (λ Z k s t e. end_rel (call_end_rel e)))))
+    bind_rel (tops_rel c d k n top top body (calls_up up calls) (top_rel (trees_up up trees) there) f) (λ Z k s t e. ret_rel (λ S m. call_end_rel m e)))))
 
-pub task_of_rel : {V : World} (c d : Calls) (task : Task) → CallsRel V c d → (trees : HasEqualTrees V) → task_fits trees.asks task ≡ true
-    → Agrees V (task_of c task) (task_of d task)
-task_of_rel c d (Script body) calls trees f = run_script_rel c d body calls trees f
-task_of_rel c d (Name x) calls trees f = on_built_ins (λ U i there.
-    also_rel (read_name_rel [] top top x (top_rel (trees_up i trees) there) refl) (λ W l f g r. calls.call W (larger_more i l) r undefined no_more))
+-- a call of what a global name holds
+pub name_task_rel : {V : World} (c d : Calls) (x : List ℕ) → CallsRel V c d → Agrees V (task_of c (Name x)) (task_of d (Name x))
+name_task_rel c d x calls = also_rel (read_global_rel top top x refl refl) (λ W l f g r. calls.call W l r undefined no_more)
 
-pub after_task_rel : {V : World} {s t : Store} (task : Task) → (trees : HasEqualTrees V) → task_fits trees.asks task ≡ true → StoreRel V s t
-    → LaterRel V (after_task task s) (after_task task t)
-after_task_rel {s = s} {t = t} task trees f g =
+pub after_script_rel : {V : World} {s t : Store} (n : ℕ) (body : tree.Stmts) → (trees : HasTrees V) → stmts_stand trees.demand n [] body ≡ true → StoreRel V s t
+    → LaterRel V (after_task (Script body) s) (after_task (Script (open_tops (top_around trees.demand.opens) n body)) t)
+after_script_rel {s = s} {t = t} n body trees f g =
     let calls = calls_at depth_limit in
-    finished_rel ((task_of_rel calls calls task (calls_at_rel depth_limit trees) trees f).run _ larger_same s t step_limit g)
+    finished_rel ((run_script_rel calls calls n body (calls_at_rel depth_limit trees) trees f).run _ larger_same s t step_limit g)
+
+pub after_name_rel : {V : World} {s t : Store} (x : List ℕ) → HasTrees V → StoreRel V s t → LaterRel V (after_task (Name x) s) (after_task (Name x) t)
+after_name_rel {s = s} {t = t} x trees g =
+    let calls = calls_at depth_limit in
+    finished_rel ((name_task_rel calls calls x (calls_at_rel depth_limit trees)).run _ larger_same s t step_limit g)
 
 -- ---- events
 
 pub at_once : {V : World} {s t : Store} → StoreRel V s t → LaterRel V s t
 at_once {V = V} g = record { world = V; larger = larger_same; stores = g }
 
-pub do_event_rel : {V : World} {s t : Store} (e : Event) → HasEqualTrees V → StoreRel V s t → LaterRel V (do_event e s) (do_event e t)
-do_event_rel (event.Call f) trees g = after_task_rel (Name f) trees refl g
+pub do_event_rel : {V : World} {s t : Store} (e : Event) → HasTrees V → StoreRel V s t → LaterRel V (do_event e s) (do_event e t)
+do_event_rel (event.Call f) trees g = after_name_rel f trees g
 do_event_rel e trees g = at_once g
 
 pub later_up : {V W : World} {s t : Store} → Larger V W → LaterRel W s t → LaterRel V s t
 later_up l h = record { world = h.world; larger = larger_more l h.larger; stores = h.stores }
 
-pub run_all_rel : {V : World} {s t : Store} (es : List Event) → HasEqualTrees V → StoreRel V s t → LaterRel V (run_all s es) (run_all t es)
+pub run_all_rel : {V : World} {s t : Store} (es : List Event) → HasTrees V → StoreRel V s t → LaterRel V (run_all s es) (run_all t es)
 run_all_rel [] trees g = at_once g
 run_all_rel {V = V} {s = s} {t = t} (e ∷ es) trees g =
     let one = do_event_rel e trees g in
@@ -92,7 +124,7 @@ added b m n xs ys e f = ap (λ zs. drop (length zs) ys) e ∙ ap (λ zs. drop (l
 
 pub events_agree : EventsAgree
 events_agree W s t es trees g =
-    let after = run_all_rel es trees g in
+    let after = run_all_rel es (equal_trees trees) g in
     let lines = subst (λ b. AddedRel b (run_all s es).lines (run_all t es).lines) (sym after.larger.before) after.stores.lines in
     added W.before.one g.lines.more lines.more s.lines (run_all s es).lines g.lines.one lines.one
     ∙ sym (added W.before.two g.lines.more lines.more t.lines (run_all t es).lines g.lines.two lines.two)

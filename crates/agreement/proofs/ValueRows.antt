@@ -14,6 +14,7 @@ use Rattle.page_meaning.specs.Functions.{object_of}
 use Rattle.page_meaning.specs.Places.{error_prototype}
 use Rattle.page_meaning.specs.Primitives.{make}
 use Rattle.page_meaning.specs.ValueRows.{error_from, error_saying, is_array, list_from, list_of_length, list_values, saying_fit, silent_error, silent_fit, truth_from, truth_itself, truth_text}
+use Rattle.heap_relations.proofs.Callers.{list_same}
 use Rattle.heap_relations.specs.Naming.{Named, named, World}
 use Rattle.heap_relations.specs.Related.{Each, ValueRel, each, entry, fault, no_entries, no_more, null, num, object, text, truth, undefined}
 use Rattle.agreement.proofs.Acts.{also_rel, bind_rel, choose_rel, on_built_ins}
@@ -21,7 +22,7 @@ use Rattle.agreement.proofs.Descriptors.{is_true_same, truth_same}
 use Rattle.agreement.proofs.Heap.{class_rel, make_rel, named_up, values_up}
 use Rattle.agreement.proofs.Made.{made_rel, new_list_rel, whole_rel}
 use Rattle.agreement.proofs.ObjectRows.{same_rel, tell_truth_rel}
-use Rattle.agreement.proofs.Properties.{define_member_rel, is_list_same, put_in_rel, text_in_same}
+use Rattle.agreement.proofs.Properties.{define_member_rel, put_in_rel, text_in_same}
 use Rattle.agreement.proofs.Values.{error_place, give_rel, raise_rel, to_text_rel}
 use Rattle.agreement.specs.Acts.{Agrees}
 
@@ -58,7 +59,7 @@ is_array_rel null = give_rel truth
 is_array_rel truth = give_rel truth
 is_array_rel num = give_rel truth
 is_array_rel text = give_rel truth
-is_array_rel {v = value.Object a} {w = value.Object b} (object n) = tell_truth_rel (λ W l s t g. is_list_same (class_rel g a.0 b.0 (named_up l n)))
+is_array_rel {v = value.Object a} {w = value.Object b} (object n) = tell_truth_rel (λ W l s t g. list_same (class_rel g a.0 b.0 (named_up l n)))
 
 pub truth_from_rel : {V : World} {v w : Value} (b : Bool) → ValueRel (named V) v w → Agrees V (truth_from b v) (truth_from b w)
 truth_from_rel b h = choose_rel b b refl (raise_rel WrongArgument) (give_rel (truth_same (is_true_same h)))

@@ -12,10 +12,11 @@ use Rattle.page_meaning.specs.ObjectRows.{argument}
 use Rattle.page_meaning.specs.VisitRows.{arguments_of, filter_all, map_all, past_last, reduce, reduce_from, this_of, told, visit_list, visit_on, visit_row, visits}
 use Rattle.page_meaning.specs.declared.visit.Visit.{Visit}
 use Rattle.page_meaning.specs.declared.visit.Visit.TheVariants as visit
+use Rattle.heap_relations.proofs.Callers.{larger_more, larger_same}
 use Rattle.heap_relations.specs.Naming.{Larger, Named, named, World}
 use Rattle.heap_relations.specs.Related.{Each, Maybe, ValueRel, each, no_more, num, truth, undefined}
 use Rattle.agreement.specs.Acts.{Agrees, CallsRel, Equal}
-use Rattle.agreement.proofs.Acts.{also_rel, asking_rel, bind_rel, choose_rel, larger_more, larger_same}
+use Rattle.agreement.proofs.Acts.{also_rel, asking_rel, bind_rel, choose_rel}
 use Rattle.agreement.proofs.Called.{calls_up, is_callable_same, is_true_same}
 use Rattle.agreement.proofs.Elements.{define_element_rel, element_rel, length_of_same, on_element_rel, on_list_rel, set_length_rel}
 use Rattle.agreement.proofs.Heap.{named_up, take_step_rel, value_up, values_up}

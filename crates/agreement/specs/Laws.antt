@@ -1,17 +1,22 @@
 -- Two pages that agree go on agreeing.
-use Rattle.std.specs.Prelude.{◌≡◌, Bool, true, List, drop, length}
+use Rattle.std.specs.Prelude.{◌≡◌, Bool, true, List, drop, length, ◌+◌, ◌<◌, ◌^◌}
+use Rattle.agreement.specs.Opened.{scripts_stand}
+use Rattle.instrumenter.specs.Counting.{scripts_scopes}
+use Rattle.instrumenter.specs.Opened.{IsPlainScript}
+use Rattle.instrumenter.specs.Opening.{open_scripts}
+use Rattle.std.specs.List.{All}
 use Rattle.js_core.specs.Tree as tree
 use Rattle.js_values.specs.declared.built_in.BuiltIn.{BuiltIn}
 use Rattle.js_values.specs.declared.event.Event.{Event}
 use Rattle.js_values.specs.declared.value.Value.{Value}
 use Rattle.page_meaning.specs.Act.{Calls}
-use Rattle.page_meaning.specs.Pages.{run_all, run_of}
+use Rattle.page_meaning.specs.Pages.{run_all, run_of, lines_of_run}
 use Rattle.page_meaning.specs.Rows.{row_of}
 use Rattle.page_meaning.specs.Store.{Store}
 use Rattle.heap_relations.specs.Naming.{named, World}
 use Rattle.heap_relations.specs.Related.{Each, ValueRel}
 use Rattle.agreement.specs.Acts.{Agrees, CallsRel, StoreRel}
-use Rattle.agreement.specs.Trees.{AgreesAsking, AgreesWithItself, HasEqualTrees, are_low, scripts_fit}
+use Rattle.agreement.specs.Trees.{AgreesAsking, AgreesWithItself, HasEqualTrees, scripts_fit}
 
 -- each built-in function, where what it calls agrees: on related values it does the same in pages that agree, and they agree after it
 abbrev pub RowsAgree : Type 0
@@ -26,12 +31,24 @@ EventsAgree =
     (W : World) (s t : Store) (es : List Event) → HasEqualTrees W → StoreRel W s t
     → drop (length s.lines) (run_all s es).lines ≡ drop (length t.lines) (run_all t es).lines
 
--- each page agrees with itself after its scripts and any events, where no script is too high
+-- each page agrees with itself after its scripts and any events
 abbrev pub PagesAgree : Type 0
-PagesAgree = (scripts : List tree.Stmts) (es : List Event) → are_low scripts ≡ true → AgreesWithItself (run_of scripts es)
+PagesAgree = (scripts : List tree.Stmts) (es : List Event) → AgreesWithItself (run_of scripts es)
 
 -- where each script fits in no frames, with functions that pass a test, those that the page holds pass it
 abbrev pub FittingPagesAgree : Type 0
 FittingPagesAgree =
     (asks : tree.Code → Bool) (scripts : List tree.Stmts) (es : List Event)
     → scripts_fit asks scripts ≡ true → AgreesAsking asks (run_of scripts es)
+
+-- a page and the same with its scopes opened put out the same lines, where its scripts may be opened
+abbrev pub OpenedPagesAgree : Type 0
+OpenedPagesAgree =
+    (asks : tree.Code → Bool) (scripts : List tree.Stmts) (es : List Event)
+    → scripts_stand (record { opens = true; asks = asks }) 1 scripts ≡ true → lines_of_run scripts es ≡ lines_of_run (open_scripts scripts) es
+
+-- so it is of each page of plain scripts whose scope objects have numbers that the program can count to
+abbrev pub PlainPagesAgree : Type 0
+PlainPagesAgree =
+    (scripts : List tree.Stmts) (es : List Event) → All IsPlainScript scripts → 1 + scripts_scopes scripts < 2 ^ 64
+    → lines_of_run (open_scripts scripts) es ≡ lines_of_run scripts es

@@ -1,16 +1,12 @@
 -- Which trees may stand in which frames, and where both runs of one tree stand.
-use Rattle.std.specs.Prelude.{◌≡◌, ℕ, Bool, true, false, not, ◌&&◌, nat_le, nat_lt, List, [], ◌∷◌, Option, Some, None, is_some, length}
+use Rattle.std.specs.Prelude.{◌≡◌, ℕ, Bool, true, false, not, ◌&&◌, List, [], ◌∷◌, Option, Some, None, is_some}
 use Rattle.js_core.specs.Tree as tree
 use Rattle.js_core.specs.Tree.{name, num, text, bool, null, this, list, literal, func, member, index, call, construct, unary, update, binary, logical_and, logical_or, conditional, assign, comma, no_exprs, then_expr, no_expr, one_expr, no_holes, then_hole, no_fields, then_field, code, var, function, expr, empty, block, if_else, do_while, while, for, for_in, continue, break, return, throw, try, switch, no_stmts, then_stmt, no_body, one_body, no_declarators, then_declarator, no_init, init_var, init_expr, no_catch, one_catch, no_cases, then_case}
-use Rattle.js_core.specs.Height.{stmts_height}
 use Rattle.object_heap.specs.Environment.{value_of}
 use Rattle.page_meaning.specs.Functions.{entry_names}
-use Rattle.page_meaning.specs.Names.{Here}
 use Rattle.page_meaning.specs.Store.{Store}
-use Rattle.page_meaning.specs.Tasks.{Name, Script, Task}
 use Rattle.scope_analysis.specs.Names.{is_among}
-use Rattle.heap_relations.specs.Naming.{Absent, Fixed, Frame, Free, Itself, Kept, Place, Round, named, resolve, World}
-use Rattle.heap_relations.specs.Related.{ValueRel}
+use Rattle.heap_relations.specs.Naming.{Absent, Fixed, Frame, Free, Itself, Kept, Place, resolve, World}
 use Rattle.agreement.specs.Acts.{StoreRel}
 
 -- ---- frames
@@ -21,11 +17,11 @@ free_where false = Absent
 
 -- these names are declared, and the right has them as they are
 abbrev pub frame_of : List (List ℕ) → Frame
-frame_of xs = record { keeps = λ x. free_where (is_among x xs); scoped = false }
+frame_of xs = record { keeps = λ x. free_where (is_among x xs); scoped = false; number = 0 }
 
 -- what a function binds when it is entered
 abbrev pub entry_frame : List (List ℕ) → tree.Stmts → Frame
-entry_frame formals body = record { keeps = λ x. free_where (is_some (value_of (entry_names formals body []) x)); scoped = false }
+entry_frame formals body = record { keeps = λ x. free_where (is_some (value_of (entry_names formals body []) x)); scoped = false; number = 0 }
 
 -- round the code of a function expression in these frames: where it has a name, an environment binds it
 abbrev pub own_frames : Option (List ℕ) → List Frame → List Frame
@@ -39,10 +35,6 @@ abbrev pub is_reached : Bool → Place → Bool
 is_reached assigns Itself = true
 is_reached assigns Fixed = not assigns
 is_reached assigns p = false
-
--- frames have numbers
-abbrev pub are_few : List Frame → Bool
-are_few fs = nat_lt (length fs) 18446744073709551616
 
 -- a target, from whether it fits as an expression
 abbrev pub target_fits : List Frame → tree.Expr → Bool → Bool
@@ -61,7 +53,7 @@ abbrev mutual
   expr_fits asks fs (list es) = holes_fit asks fs es
   expr_fits asks fs (literal es) = fields_fit asks fs es
   expr_fits asks fs (func (code x formals body)) =
-      asks (code x formals body) && (are_few (own_frames x fs) && stmts_fit asks (entry_frame formals body ∷ own_frames x fs) body)
+      asks (code x formals body) && stmts_fit asks (entry_frame formals body ∷ own_frames x fs) body
   expr_fits asks fs (member e x) = expr_fits asks fs e
   expr_fits asks fs (index a b) = expr_fits asks fs a && expr_fits asks fs b
   expr_fits asks fs (call e es) = expr_fits asks fs e && exprs_fit asks fs es
@@ -95,7 +87,7 @@ abbrev mutual
   stmt_fits asks fs (var ds) = declarators_fit asks fs ds
   -- a declared function is held without its name
   stmt_fits asks fs (function (code x formals body)) =
-      asks (code None formals body) && (are_few fs && stmts_fit asks (entry_frame formals body ∷ fs) body)
+      asks (code None formals body) && stmts_fit asks (entry_frame formals body ∷ fs) body
   stmt_fits asks fs (expr e) = expr_fits asks fs e
   stmt_fits asks fs empty = true
   stmt_fits asks fs (block ss) = stmts_fit asks fs ss
@@ -134,7 +126,7 @@ abbrev mutual
 
   pub catch_fits : (tree.Code → Bool) → List Frame → tree.MaybeCatch → Bool
   catch_fits asks fs no_catch = true
-  catch_fits asks fs (one_catch x ss) = are_few fs && stmts_fit asks (frame_of (x ∷ []) ∷ fs) ss
+  catch_fits asks fs (one_catch x ss) = stmts_fit asks (frame_of (x ∷ []) ∷ fs) ss
 
   pub cases_fit : (tree.Code → Bool) → List Frame → tree.Cases → Bool
   cases_fit asks fs no_cases = true
@@ -142,17 +134,13 @@ abbrev mutual
 
 -- a function's code, in the frames round it
 abbrev pub code_fits : (tree.Code → Bool) → List Frame → tree.Code → Bool
-code_fits asks fs (code x formals body) = asks (code x formals body) && (are_few fs && stmts_fit asks (entry_frame formals body ∷ fs) body)
+code_fits asks fs (code x formals body) = asks (code x formals body) && stmts_fit asks (entry_frame formals body ∷ fs) body
 
 -- a test that each function passes
 abbrev pub any_code : tree.Code → Bool
 any_code c = true
 
 -- a script stands in no frames
-abbrev pub task_fits : (tree.Code → Bool) → Task → Bool
-task_fits asks (Script body) = stmts_fit asks [] body
-task_fits asks (Name x) = true
-
 abbrev pub scripts_fit : (tree.Code → Bool) → List tree.Stmts → Bool
 scripts_fit asks [] = true
 scripts_fit asks (body ∷ bodies) = stmts_fit asks [] body && scripts_fit asks bodies
@@ -163,24 +151,10 @@ scripts_fit asks (body ∷ bodies) = stmts_fit asks [] body && scripts_fit asks 
 pub record HasEqualTrees (W : World) : Type 0 where
   pub asks : tree.Code → Bool
   pub opens : W.opens ≡ false
-  pub opened : (fs : List Frame) (c : tree.Code) → W.opened fs c ≡ c
-  pub fits : (fs : List Frame) (c : tree.Code) → W.fits fs c ≡ code_fits asks fs c
-
--- both stand in these frames, with related `this`
-pub record HereRel (V : World) (fs : List Frame) (a b : Here) : Type 0 where
-  pub trees : HasEqualTrees V
-  pub round : Round V fs a.env b.env
-  pub this : ValueRel (named V) a.this b.this
+  pub opened : (n : ℕ) (fs : List Frame) (c : tree.Code) → W.opened n fs c ≡ c
+  pub fits : (n : ℕ) (fs : List Frame) (c : tree.Code) → W.fits n fs c ≡ code_fits asks fs c
 
 -- ---- pages that agree with themselves
-
--- a script that is this low has fewer frames round its code than there are numbers for them; those of accepted pages are far lower
-abbrev pub is_low : tree.Stmts → Bool
-is_low body = nat_le (stmts_height body) 4294967296
-
-abbrev pub are_low : List tree.Stmts → Bool
-are_low [] = true
-are_low (body ∷ bodies) = is_low body && are_low bodies
 
 -- for a naming whose trees are equal
 pub record AgreesWithItself (s : Store) : Type 0 where
@@ -188,9 +162,10 @@ pub record AgreesWithItself (s : Store) : Type 0 where
   pub trees : HasEqualTrees world
   pub stores : StoreRel world s s
 
--- and whose functions pass this test
+-- and whose functions pass this test. None of them was rebuilt
 pub record AgreesAsking (asks : tree.Code → Bool) (s : Store) : Type 0 where
   pub world : World
   pub trees : HasEqualTrees world
   pub asked : trees.asks ≡ asks
+  pub none_rebuilt : world.bases ≡ []
   pub stores : StoreRel world s s

@@ -1,6 +1,13 @@
 //! What holds of pages that agree.
 
-ghost use Rattle.agreement.specs.Laws.{EventsAgree, FittingPagesAgree, PagesAgree, RowsAgree};
+ghost use Rattle.agreement.specs.Laws.{
+  EventsAgree,
+  FittingPagesAgree,
+  OpenedPagesAgree,
+  PagesAgree,
+  PlainPagesAgree,
+  RowsAgree,
+};
 
 use page_meaning::laws::law_heaps_stay_sound;
 
@@ -24,6 +31,20 @@ pub fn law_pages_agree()
 /// A page whose scripts fit agrees with itself, and its functions pass the test.
 pub fn law_fitting_pages_agree()
     ensures { FittingPagesAgree }
+{
+    law_heaps_stay_sound();
+}
+
+/// A page puts out the same lines with its scopes opened.
+pub fn law_opened_pages_agree()
+    ensures { OpenedPagesAgree }
+{
+    law_heaps_stay_sound();
+}
+
+/// A page of plain scripts puts out the same lines with its scopes opened.
+pub fn law_plain_pages_agree()
+    ensures { PlainPagesAgree }
 {
     law_heaps_stay_sound();
 }

@@ -3,4 +3,7 @@
 
 mod laws;
 
-pub use laws::{law_events_agree, law_fitting_pages_agree, law_pages_agree, law_rows_agree};
+pub use laws::{
+    law_events_agree, law_fitting_pages_agree, law_opened_pages_agree, law_pages_agree,
+    law_plain_pages_agree, law_rows_agree,
+};
