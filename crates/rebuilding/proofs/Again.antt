@@ -1,7 +1,5 @@
 -- A page that was rebuilt is saved as the one that it was rebuilt from.
 use Rattle.std.proofs.Common.{◌≡◌, refl, sym, ap, subst, ◌∙◌, ℕ, zero, suc, ◌<◌, true, List, [], ◌∷◌, Option, Some, length, arith}
-use Rattle.js_core.specs.Tree.{Code}
-use Rattle.js_values.specs.declared.ids.EnvId.{EnvId}
 use Rattle.js_values.specs.declared.ids.ObjId.{ObjId}
 use Rattle.object_heap.specs.Chain.{object_at}
 use Rattle.object_heap.specs.Heap.{Contents}
@@ -13,28 +11,24 @@ use Rattle.object_shapes.specs.Shapes.{HasShape}
 use Rattle.page_meaning.specs.Laws.{LoadsSound}
 use Rattle.page_meaning.specs.Places.{error_prototype}
 use Rattle.page_meaning.specs.Store.{Store}
-use Rattle.scope_analysis.specs.FreeUses.{needed_variables}
 use Rattle.heap_walker.specs.Still.{Still}
-use Rattle.heap_walker.specs.Things.{IsWalk, bound_values, class_links, globals_of, is_in, links}
+use Rattle.heap_walker.specs.Things.{IsWalk, class_links, globals_of, is_in, links, needs_of}
 use Rattle.heap_walker.proofs.Callers.{links_in_walk, made_among, props_among, roots_in_walk, walks_are_same}
 use Rattle.rebuild_plan.specs.Compact.{compact, kind_of, maker_as, moved_needs, moved_props, moved_proto, thing_of, things_at}
 use Rattle.rebuild_plan.specs.declared.statement.Maker.TheVariants as made
 use Rattle.rebuilding.specs.Again.{SavedAgain}
 use Rattle.rebuilding.specs.Rebuilt as rebuilt
-use Rattle.rebuilding.specs.Rebuilt.{ClassIsRebuilt, IsRebuilt, IsRebuiltAs, NeedNone, PlansRebuild, nth}
+use Rattle.rebuilding.specs.Rebuilt.{ClassIsRebuilt, IsRebuilt, IsRebuiltAs, PlansRebuild, nth}
 use Rattle.rebuilding.specs.Running.{StatementsRun}
 use Rattle.rebuilding.specs.Scene.{Scene}
 use Rattle.rebuilding.specs.Sites.{sited_proto}
-use Rattle.rebuilding.proofs.Carried.{bound_back, in_left, in_right, proto_back, props_back}
-use Rattle.rebuilding.proofs.Counterparts.{IsKnown, simple_at}
+use Rattle.rebuilding.proofs.Carried.{bound_back, in_left, in_right, needs_back, proto_back, props_back}
+use Rattle.rebuilding.proofs.Counterparts.{IsKnown}
+use Rattle.rebuilding.proofs.Held.{needs_same}
 use Rattle.rebuilding.proofs.Loading.{script_rebuilt}
 use Rattle.rebuilding.proofs.Placed.{error_low, is_thing_at, place_in, proto_built_in}
 use Rattle.rebuilding.proofs.Scripts.{scene}
 use Rattle.rebuilding.proofs.WalkedAgain.{globals_same, old_things, walked_again, young_sites}
-
--- the names that a function needs, with what they hold, where it needs none
-no_needs : (s : Store) (things : List ℕ) (env : Option EnvId) (xs : List (List ℕ)) → xs ≡ [] → moved_needs things (bound_values s env xs) ≡ []
-no_needs s things env xs none = ap (λ ys. moved_needs things (bound_values s env ys)) none
 
 things_same : (s t : Store) (things sites ks js : List ℕ) → length js ≡ length ks
     → ((n : ℕ) → n < length ks → thing_of t sites (object_at t.heap.objects (nth js n)) ≡ thing_of s things (object_at s.heap.objects (nth ks n)))
@@ -48,7 +42,7 @@ things_same s t things sites (k ∷ ks) (j ∷ js) count each =
     (λ i. one i ∷ others i)
 
 module _ (c : Scene) (s : Store) (things : List ℕ) (h : Contents) (sites : List ℕ) (still : Still s) (walk : IsWalk s things)
-    (need_none : NeedNone s things) (is : IsRebuilt c s things h sites) where
+    (is : IsRebuilt c s things h sites) where
   abbrev t : Store
   t = record { heap = h; lines = [] }
 
@@ -63,25 +57,25 @@ module _ (c : Scene) (s : Store) (things : List ℕ) (h : Contents) (sites : Lis
       in
       ap kind_of (stays ∙ sym built)
 
-  maker_same : (k : ℕ) (p q : Option ObjId) (a b : Class) → ClassIsRebuilt c h.environments things sites k a b
+  maker_same : (k : ℕ) (p q : Option ObjId) (a b : Class) → ClassIsRebuilt c h.environments s things sites k a b
       → q ≡ sited_proto sites (moved_proto things p)
       → (a ≡ class.Fault → kind_of q ≡ kind_of p)
-      → ((source : Code) (env : Option EnvId) → a ≡ class.Page source env → needed_variables source ≡ [])
       → ((j : ℕ) → is_in j (proto_links p) ≡ true → IsKnown things j) → ((j : ℕ) → is_in j (class_links s a) ≡ true → IsKnown things j)
       → maker_as t sites q b ≡ maker_as s things p a
-  maker_same k p q a b rebuilt.plain above kinds none known parts =
+  maker_same k p q a b rebuilt.plain above kinds known parts =
       ap made.Plain (ap (moved_proto sites) above
-      ∙ proto_back things sites is.running.rising is.count (old_things c s things h sites still walk need_none is)
-      (young_sites c s things h sites still walk need_none is) p known)
-  maker_same k p q a b rebuilt.list above kinds none known parts = refl
-  maker_same k p q a b rebuilt.fault above kinds none known parts = ap made.Fault (kinds refl)
-  maker_same k p q a b (rebuilt.page {code = source} {env = env} {round = round} r) above kinds none known parts =
-      let needs : needed_variables source ≡ [] = none source env refl in
+      ∙ proto_back things sites is.running.rising is.count (old_things c s things h sites still walk is)
+      (young_sites c s things h sites still walk is) p known)
+  maker_same k p q a b rebuilt.list above kinds known parts = refl
+  maker_same k p q a b rebuilt.fault above kinds known parts = ap made.Fault (kinds refl)
+  maker_same k p q a b (rebuilt.page {code = source} {env = env} {round = round} r) above kinds known parts =
       ap (made.Func source)
-      (no_needs t sites round (needed_variables source) needs ∙ sym (no_needs s things env (needed_variables source) needs))
-  maker_same k p q a b (rebuilt.bound {target = target} {this = this} {args = args}) above kinds none known parts =
-      let back = bound_back things sites is.running.rising is.count (old_things c s things h sites still walk need_none is)
-      (young_sites c s things h sites still walk need_none is) target this args parts
+      (ap (moved_needs sites) (needs_same c s t things sites is.running.sound.environments k source env round r)
+      ∙ needs_back things sites is.running.rising is.count (old_things c s things h sites still walk is)
+      (young_sites c s things h sites still walk is) (needs_of s env source) parts)
+  maker_same k p q a b (rebuilt.bound {target = target} {this = this} {args = args}) above kinds known parts =
+      let back = bound_back things sites is.running.rising is.count (old_things c s things h sites still walk is)
+      (young_sites c s things h sites still walk is) target this args parts
       in
       let one = back.0 in
       let two = back.1 in
@@ -94,20 +88,19 @@ module _ (c : Scene) (s : Store) (things : List ℕ) (h : Contents) (sites : Lis
       let k : ℕ = nth things n in
       let o : Object = object_at s.heap.objects k in
       let p : Object = object_at h.objects (nth sites n) in
-      let made_as : IsRebuiltAs c h.environments things sites (nth sites n) o p = is.each n below in
+      let made_as : IsRebuiltAs c h.environments s things sites (nth sites n) o p = is.each n below in
       let linked : (j : ℕ) → is_in j (links s k) ≡ true → IsKnown things j = links_in_walk s things still walk k (place_in things n below) in
       let shape : HasShape s o o.class = still.shaped.made k (is_thing_at s things n walk below) in
       let maker : maker_as t sites p.proto p.class ≡ maker_as s things o.proto o.class =
       maker_same (nth sites n) o.proto p.proto o.class p.class made_as.class made_as.proto
       (λ e. kind_same o.proto p.proto o (subst (HasShape s o) e shape) refl made_as.proto)
-      (λ source env e. (simple_at s things still walk need_none n below source env e).none)
       (λ j g. linked j (made_among s k j (in_left j (proto_links o.proto) (class_links s o.class) g)))
       (λ j g. linked j (made_among s k j (in_right j (proto_links o.proto) (class_links s o.class) g)))
       in
       let props : moved_props sites p.props ≡ moved_props things o.props =
       ap (moved_props sites) made_as.props
-      ∙ props_back things sites is.running.rising is.count (old_things c s things h sites still walk need_none is)
-      (young_sites c s things h sites still walk need_none is) o.props (λ j g. linked j (props_among s k j g))
+      ∙ props_back things sites is.running.rising is.count (old_things c s things h sites still walk is)
+      (young_sites c s things h sites still walk is) o.props (λ j g. linked j (props_among s k j g))
       in
       let extensible = made_as.extensible in
       (λ i. record { maker = maker i; props = props i; extensible = extensible i })
@@ -115,11 +108,11 @@ module _ (c : Scene) (s : Store) (things : List ℕ) (h : Contents) (sites : Lis
   pub compact_same : (again : List ℕ) → IsWalk (record { heap = h; lines = [] }) again
       → compact (record { heap = h; lines = [] }) again ≡ compact s things
   compact_same again walked =
-      let rebuilt_walk : IsWalk t sites = walked_again c s things h sites still walk need_none is in
+      let rebuilt_walk : IsWalk t sites = walked_again c s things h sites still walk is in
       let globals =
-      ap (moved_props sites) (globals_same c s things h sites still walk need_none is)
-      ∙ props_back things sites is.running.rising is.count (old_things c s things h sites still walk need_none is)
-      (young_sites c s things h sites still walk need_none is) (globals_of s) (roots_in_walk s things still walk)
+      ap (moved_props sites) (globals_same c s things h sites still walk is)
+      ∙ props_back things sites is.running.rising is.count (old_things c s things h sites still walk is)
+      (young_sites c s things h sites still walk is) (globals_of s) (roots_in_walk s things still walk)
       in
       let each = things_same s t things sites things sites is.count thing_same in
       ap (compact t) (walks_are_same t again sites walked rebuilt_walk) ∙ (λ i. record { globals = globals i; things = each i })
@@ -130,4 +123,4 @@ pub saved_again : LoadsSound → StatementsRun → PlansRebuild → SavedAgain
 saved_again sound run plans s things again can =
     let out = script_rebuilt sound run plans s things can in
     subst (λ t. IsWalk t again → compact t again ≡ compact s things) (sym out.loaded)
-    (compact_same scene s things out.after out.sites can.still can.walk can.need_none out.rebuilt again)
+    (compact_same scene s things out.after out.sites can.still can.walk out.rebuilt again)

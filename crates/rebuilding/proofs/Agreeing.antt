@@ -5,6 +5,7 @@ use Rattle.code_table.specs.Declarations.{name_of}
 use Rattle.js_core.specs.Tree.{Code}
 use Rattle.js_values.specs.declared.ids.EnvId.{EnvId}
 use Rattle.object_heap.specs.Chain.{object_at}
+use Rattle.object_heap.specs.Environment.{Bound}
 use Rattle.object_heap.specs.Heap.{Contents}
 use Rattle.object_heap.specs.declared.object.Class.{Class}
 use Rattle.object_heap.specs.declared.object.Class.TheVariants as class
@@ -16,13 +17,15 @@ use Rattle.agreement.specs.Acts.{HasBuiltIns, StoreRel}
 use Rattle.agreement.specs.Trees.{any_code, code_fits}
 use Rattle.agreement.proofs.Callers.{built_in_itself}
 use Rattle.heap_walker.specs.Still.{Still}
-use Rattle.heap_walker.specs.Things.{IsWalk}
+use Rattle.heap_walker.specs.Things.{bound_value, IsWalk, needs_of}
+use Rattle.rebuild_plan.specs.Compact.{moved_needs}
 use Rattle.rebuilding.specs.Frames.{round_frame}
 use Rattle.rebuilding.specs.Laws.{Agrees}
 use Rattle.rebuilding.specs.Rebuilt as rebuilt
-use Rattle.rebuilding.specs.Rebuilt.{ClassIsRebuilt, IsRebuilt, NeedNone, nth}
+use Rattle.rebuilding.specs.Rebuilt.{ClassIsRebuilt, IsRebuilt, nth}
 use Rattle.rebuilding.specs.Scene.{IsRoundOf, is_site, Scene}
-use Rattle.rebuilding.proofs.Counterparts.{simple_at, there_at, thing_rel, young_at}
+use Rattle.rebuilding.specs.Sites.{sited_needs}
+use Rattle.rebuilding.proofs.Counterparts.{need_known, rest_at, there_at, thing_rel, value_rel, young_at}
 use Rattle.rebuilding.proofs.Frames.{fits_at_rest}
 use Rattle.rebuilding.proofs.WindowsAgree.{window_rel}
 use Rattle.rebuilding.proofs.Naming.{base_at, built_in, built_in_paired, IsPair, pair_is, rebuilt_trees, rebuilt_world, rising_places, thing, thing_paired}
@@ -33,17 +36,22 @@ use Rattle.object_shapes.specs.Links.{built_in_count}
 
 -- ---- places
 
-round_of : (c : Scene) (h : Contents) (things sites : List ℕ) (k : ℕ) (a b : Class) → ClassIsRebuilt c h.environments things sites k a b
+round_of : (c : Scene) (h : Contents) (s : Store) (things sites : List ℕ) (k : ℕ) (a b : Class)
+    → ClassIsRebuilt c h.environments s things sites k a b
     → (source other : Code) (env round : Option EnvId) → a ≡ class.Page source env → b ≡ class.Page other round
-    → IsRoundOf c h.environments k (name_of source) round
-round_of c h things sites k a b rebuilt.plain source other env round one two = absurd (cc one)
-round_of c h things sites k a b rebuilt.list source other env round one two = absurd (cc one)
-round_of c h things sites k a b rebuilt.fault source other env round one two = absurd (cc one)
-round_of c h things sites k a b rebuilt.bound source other env round one two = absurd (cc one)
-round_of c h things sites k a b (rebuilt.page {code = own} {round = around} r) source other env round one two =
+    → IsRoundOf c h.environments k (sited_needs sites (moved_needs things (needs_of s env source))) (name_of source) round
+round_of c h s things sites k a b rebuilt.plain source other env round one two = absurd (cc one)
+round_of c h s things sites k a b rebuilt.list source other env round one two = absurd (cc one)
+round_of c h s things sites k a b rebuilt.fault source other env round one two = absurd (cc one)
+round_of c h s things sites k a b rebuilt.bound source other env round one two = absurd (cc one)
+round_of c h s things sites k a b (rebuilt.page {code = own} {env = from} {round = around} r) source other env round one two =
     let same : own ≡ source = cc one in
+    let same_env : from ≡ env = cc one in
     let where_same : around ≡ round = cc two in
-    subst (λ d. IsRoundOf c h.environments k (name_of d) round) same (subst (λ e. IsRoundOf c h.environments k (name_of own) e) where_same r)
+    let needs : Code → Option EnvId → Bound = λ d e. sited_needs sites (moved_needs things (needs_of s e d)) in
+    subst (λ d. IsRoundOf c h.environments k (needs d env) (name_of d) round) same
+    (subst (λ e. IsRoundOf c h.environments k (needs own e) (name_of own) round) same_env
+    (subst (λ e. IsRoundOf c h.environments k (needs own from) (name_of own) e) where_same r))
 
 module _ (c : Scene) (s : Store) (things : List ℕ) (h : Contents) (sites : List ℕ) (still : Still s) (walk : IsWalk s things)
     (is : IsRebuilt c s things h sites) where
@@ -101,71 +109,70 @@ module _ (c : Scene) (s : Store) (things : List ℕ) (h : Contents) (sites : Lis
       in
       rw (p.one, p.two, q.one, q.two) (left ∙ sym right)
 
-  module _ (need_none : NeedNone s things) where
-    code_fits_at : (n : ℕ) → n < length things → (source : Code) (env : Option EnvId)
-        → (object_at s.heap.objects (nth things n)).class ≡ class.Page source env → code_fits any_code (round_frame source ∷ []) source ≡ true
-    code_fits_at n below source env e =
-        let simple = simple_at s things still walk need_none n below source env e in
-        fits_at_rest source simple.rest simple.none
+  code_fits_at : (n : ℕ) → n < length things → (source : Code) (env : Option EnvId)
+      → (object_at s.heap.objects (nth things n)).class ≡ class.Page source env → code_fits any_code (round_frame source ∷ []) source ≡ true
+  code_fits_at n below source env e =
+      fits_at_rest source (rest_at s things still walk n below source env e)
 
-    object_rel : (a b : ℕ) → IsPair things sites a b → ObjectRel (named W) (object_at s.heap.objects a) (object_at h.objects b)
-    object_rel a b (built_in same low) =
-        subst (λ k. ObjectRel (named W) (object_at s.heap.objects a) (object_at h.objects k)) same (built_in_rel a low)
-    object_rel a b (thing p) =
-        subst (λ k. ObjectRel (named W) (object_at s.heap.objects k) (object_at h.objects b)) (sym p.one)
-        (subst (λ k. ObjectRel (named W) (object_at s.heap.objects (nth things p.place)) (object_at h.objects k)) (sym p.two)
-        (thing_rel s h things sites walk is.count c p.place p.below still (code_fits_at p.place p.below) (is.each p.place p.below)))
+  object_rel : (a b : ℕ) → IsPair things sites a b → ObjectRel (named W) (object_at s.heap.objects a) (object_at h.objects b)
+  object_rel a b (built_in same low) =
+      subst (λ k. ObjectRel (named W) (object_at s.heap.objects a) (object_at h.objects k)) same (built_in_rel a low)
+  object_rel a b (thing p) =
+      subst (λ k. ObjectRel (named W) (object_at s.heap.objects k) (object_at h.objects b)) (sym p.one)
+      (subst (λ k. ObjectRel (named W) (object_at s.heap.objects (nth things p.place)) (object_at h.objects k)) (sym p.two)
+      (thing_rel s h things sites walk is.count c p.place p.below still (code_fits_at p.place p.below) (is.each p.place p.below)))
 
-    objects_rel : ObjectsRel (named W) s.heap.objects h.objects
-    objects_rel = record {
-      at = λ a b i. object_rel a b (pair_is things sites a b i.named);
-      inside = λ a b i. inside a b (pair_is things sites a b i.named);
-      one_to_one = record { same = λ a b d e i j. same_places a b d e (pair_is things sites a b i.named) (pair_is things sites d e j.named) };
-    }
+  objects_rel : ObjectsRel (named W) s.heap.objects h.objects
+  objects_rel = record {
+    at = λ a b i. object_rel a b (pair_is things sites a b i.named);
+    inside = λ a b i. inside a b (pair_is things sites a b i.named);
+    one_to_one = record { same = λ a b d e i j. same_places a b d e (pair_is things sites a b i.named) (pair_is things sites d e j.named) };
+  }
 
-    -- ---- environments
+  -- ---- environments
 
-    based_rel : (b : Base) → In b W.bases → BaseRel W b s.heap.environments h.environments
-    based_rel b i =
-        let at = base_at s.heap.objects h.objects things sites b i in
-        let n : ℕ = at.place in
-        let f = at.is in
-        let simple = simple_at s things still walk need_none n at.below f.source f.env f.one in
-        let round =
-        round_of c h things sites (nth sites n) (object_at s.heap.objects (nth things n)).class (object_at h.objects (nth sites n)).class
-        (is.each n at.below).class f.source f.other f.env f.round f.one f.two
-        in
-        let pair : Named W (nth things n) (nth sites n) = record { named = thing_paired things sites is.count n at.below } in
-        subst (λ d. BaseRel W d s.heap.environments h.environments) (sym f.is)
-        (base_rel c s h things sites sites still.sound.environments is.running (nth things n)
-        (nth sites n) pair f.source f.env f.round simple.rest round)
+  based_rel : (b : Base) → In b W.bases → BaseRel W b s.heap.environments h.environments
+  based_rel b i =
+      let at = base_at s.heap.objects h.objects things sites b i in
+      let n : ℕ = at.place in
+      let f = at.is in
+      let round =
+      round_of c h s things sites (nth sites n) (object_at s.heap.objects (nth things n)).class (object_at h.objects (nth sites n)).class
+      (is.each n at.below).class f.source f.other f.env f.round f.one f.two
+      in
+      let pair : Named W (nth things n) (nth sites n) = record { named = thing_paired things sites is.count n at.below } in
+      subst (λ d. BaseRel W d s.heap.environments h.environments) (sym f.is)
+      (base_rel c s h things sites sites still.sound.environments is.running (nth things n) (nth sites n) pair f.source f.env f.round
+      (rest_at s things still walk n at.below f.source f.env f.one) round
+      (λ x among. value_rel s h things sites walk is.count (bound_value s f.env x)
+      (need_known s things still walk n at.below f.source f.env f.one x among)))
 
-    slots_rel : SlotsRel W s.heap.environments h.environments h.objects
-    slots_rel = record {
-      at = λ t i. elim i [ ];
-      inside = λ t i. elim i [ ];
-      scope_inside = λ t i e. elim i [ ];
-      one_to_one = λ t u i j. elim i [ ];
-      one_slot = λ t u i j e. elim i [ ];
-      one_scope = λ t u i j e f g. elim i [ ];
-      apart = λ t i e p j. elim i [ ];
-      bases = λ b i. based_rel b i;
-    }
+  slots_rel : SlotsRel W s.heap.environments h.environments h.objects
+  slots_rel = record {
+    at = λ t i. elim i [ ];
+    inside = λ t i. elim i [ ];
+    scope_inside = λ t i e. elim i [ ];
+    one_to_one = λ t u i j. elim i [ ];
+    one_slot = λ t u i j e. elim i [ ];
+    one_scope = λ t u i j e f g. elim i [ ];
+    apart = λ t i e p j. elim i [ ];
+    bases = λ b i. based_rel b i;
+  }
 
-    stores_rel : StoreRel W s (record { heap = h; lines = [] })
-    stores_rel = record {
-      heap = record { objects = objects_rel; slots = slots_rel; left = still.sound; right = is.running.sound };
-      lines = record { more = []; one = none_more s.lines; two = refl };
-      built_ins = built_ins_named;
-      shaped = still.shaped;
-    }
+  stores_rel : StoreRel W s (record { heap = h; lines = [] })
+  stores_rel = record {
+    heap = record { objects = objects_rel; slots = slots_rel; left = still.sound; right = is.running.sound };
+    lines = record { more = []; one = none_more s.lines; two = refl };
+    built_ins = built_ins_named;
+    shaped = still.shaped;
+  }
 
 -- ---- the two pages
 
 pub rebuilt_agrees : (c : Scene) (s : Store) (things : List ℕ) (h : Contents) (sites : List ℕ) → Still s → IsWalk s things
-    → NeedNone s things → IsRebuilt c s things h sites → Agrees s (record { heap = h; lines = [] })
-rebuilt_agrees c s things h sites still walk need_none is = record {
+    → IsRebuilt c s things h sites → Agrees s (record { heap = h; lines = [] })
+rebuilt_agrees c s things h sites still walk is = record {
   world = rebuilt_world s h things sites;
   trees = rebuilt_trees s h things sites;
-  stores = stores_rel c s things h sites still walk is need_none;
+  stores = stores_rel c s things h sites still walk is;
 }

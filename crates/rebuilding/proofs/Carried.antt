@@ -7,16 +7,16 @@ use Rattle.std.proofs.lemmas.List.Folds.{list_any-append}
 use Rattle.std.proofs.lemmas.List.Quantifiers.{position-Some}
 use Rattle.std.specs.List.{position}
 use Rattle.std.specs.List.Sorted.{IsStrictlyIncreasing}
-use Rattle.heap_walker.specs.Things.{is_in}
+use Rattle.heap_walker.specs.Things.{is_in, needs_links}
 use Rattle.js_values.specs.declared.ids.ObjId.{ObjId}
 use Rattle.js_values.specs.declared.value.Value.{Value}
 use Rattle.js_values.specs.declared.value.Value.TheVariants as value
 use Rattle.object_heap.specs.Define.{with_value}
 use Rattle.object_heap.specs.Property.{Props}
 use Rattle.object_shapes.specs.Links.{built_in_count, props_links, proto_links, value_links, values_links}
-use Rattle.rebuild_plan.specs.Compact.{moved_props, moved_proto, moved_value, moved_values, place_of, placed}
+use Rattle.rebuild_plan.specs.Compact.{moved_needs, moved_props, moved_proto, moved_value, moved_values, place_of, placed}
 use Rattle.rebuilding.specs.Rebuilt.{nth}
-use Rattle.rebuilding.specs.Sites.{site, sited_props, sited_proto, sited_value, sited_values}
+use Rattle.rebuilding.specs.Sites.{site, sited_needs, sited_props, sited_proto, sited_value, sited_values}
 use Rattle.rebuilding.proofs.Counterparts.{IsKnown}
 use Rattle.rebuilding.proofs.Naming.{rising_places, site_of_built_in}
 use Rattle.rebuilding.proofs.Placed.{number_at, place_in, site_thing}
@@ -104,6 +104,14 @@ module _ (things sites : List ℕ) where
       let others = values_carried vs in
       (λ i. first i ++ others i) ∙ sym (map-append (carried things sites) (value_links v) (values_links vs))
 
+  pub needs_carried : (ns : List (List ℕ × Value)) → needs_links (sited_needs sites (moved_needs things ns))
+      ≡ map (carried things sites) (needs_links ns)
+  needs_carried [] = refl
+  needs_carried (n ∷ ns) =
+      let first = value_carried n.1 in
+      let others = needs_carried ns in
+      (λ i. first i ++ others i) ∙ sym (map-append (carried things sites) (value_links n.1) (needs_links ns))
+
   pub props_carried : (ps : Props) → props_links (sited_props sites (moved_props things ps)) ≡ map (carried things sites) (props_links ps)
   props_carried [] = refl
   props_carried (e ∷ es) =
@@ -142,6 +150,14 @@ module _ (things sites : List ℕ) where
         let first = value_back v (λ j h. known j (in_left j (value_links v) (values_links vs) h)) in
         let others = values_back vs (λ j h. known j (in_right j (value_links v) (values_links vs) h)) in
         (λ i. first i ∷ others i)
+
+    pub needs_back : (ns : List (List ℕ × Value)) → ((j : ℕ) → is_in j (needs_links ns) ≡ true → IsKnown things j)
+        → moved_needs sites (sited_needs sites (moved_needs things ns)) ≡ moved_needs things ns
+    needs_back [] known = refl
+    needs_back (n ∷ ns) known =
+        let first = value_back n.1 (λ j h. known j (in_left j (value_links n.1) (needs_links ns) h)) in
+        let others = needs_back ns (λ j h. known j (in_right j (value_links n.1) (needs_links ns) h)) in
+        (λ i. (n.0, first i) ∷ others i)
 
     pub props_back : (ps : Props) → ((j : ℕ) → is_in j (props_links ps) ≡ true → IsKnown things j)
         → moved_props sites (sited_props sites (moved_props things ps)) ≡ moved_props things ps

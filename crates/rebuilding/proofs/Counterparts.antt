@@ -1,8 +1,9 @@
 -- What is related for the naming of a page that was saved and the one that was rebuilt: values, properties and whole things.
-use Rattle.std.proofs.Common.{◌≡◌, ◌⊎◌, inl, inr, refl, sym, subst, ◌∙◌, ℕ, ◌<◌, ◌≤◌, true, nat_le, nat_lt, List, [], ◌∷◌, ◌++◌, Option, Some, None, length}
+use Rattle.std.proofs.Common.{◌≡◌, ◌⊎◌, inl, inr, refl, sym, subst, ◌∙◌, ℕ, ◌<◌, ◌≤◌, Bool, true, false, bytes_eq, nat_le, nat_lt, List, [], ◌∷◌, ◌++◌, Option, Some, None, length}
 use Rattle.std.proofs.Math.Bool.{or-true}
 use Rattle.std.proofs.lemmas.Bool.{and_parts, eq-eqb, leb-true, ltb-true}
 use Rattle.std.proofs.lemmas.List.Folds.{list_any-append}
+use Rattle.std.proofs.lemmas.Slice.Eq.{bytes_eq-Decides}
 use Rattle.js_core.specs.Tree.{Code}
 use Rattle.js_values.specs.declared.ids.EnvId.{EnvId}
 use Rattle.js_values.specs.declared.ids.ObjId.{ObjId}
@@ -16,20 +17,20 @@ use Rattle.object_heap.specs.declared.object.Class.{Class}
 use Rattle.object_heap.specs.declared.object.Class.TheVariants as class
 use Rattle.page_meaning.specs.Store.{Store}
 use Rattle.scope_analysis.specs.FreeUses.{needed_variables}
+use Rattle.scope_analysis.specs.Names.{is_among}
 use Rattle.heap_relations.specs.Naming.{based, Named, named, World}
 use Rattle.heap_relations.specs.Related.{array, bound, ClassRel, Each, each, Entries, entry, fault, Maybe, no_entries, no_more, none, null, num, object, ObjectIds, ObjectRel, page, plain, PropRel, some, text, truth, undefined, ValueRel}
 use Rattle.agreement.specs.Trees.{any_code, code_fits}
 use Rattle.heap_walker.specs.Still.{IsFunctionAtRest, Still}
-use Rattle.heap_walker.specs.Things.{class_links, is_in, IsWalk}
+use Rattle.heap_walker.specs.Things.{bound_value, bound_values, class_links, is_in, IsWalk, needs_links}
 use Rattle.rebuild_plan.specs.Compact.{moved_props, moved_proto, moved_value, moved_values, place_of}
 use Rattle.rebuilding.specs.Frames.{round_frame}
 use Rattle.rebuilding.specs.Rebuilt as rebuilt
-use Rattle.rebuilding.specs.Rebuilt.{ClassIsRebuilt, is_none, IsRebuiltAs, NeedNone, needs_none, nth}
+use Rattle.rebuilding.specs.Rebuilt.{ClassIsRebuilt, IsRebuiltAs, nth}
 use Rattle.rebuilding.specs.Scene.{Scene}
 use Rattle.rebuilding.specs.Sites.{site, sited_props, sited_proto, sited_value, sited_values}
 use Rattle.heap_walker.proofs.Callers.{links_in_walk, made_among, props_among}
 use Rattle.rebuilding.proofs.Naming.{based_at, built_in_paired, rebuilt_world, site_of_built_in, thing_at, thing_paired}
-use Rattle.rebuilding.proofs.Basics.{all_at}
 use Rattle.rebuilding.proofs.Placed.{is_thing_at, place_in}
 use Rattle.object_shapes.specs.Links.{built_in_count, props_links, proto_links, value_links, values_links}
 
@@ -50,24 +51,10 @@ module _ (s : Store) (things : List ℕ) (walk : IsWalk s things) (n : ℕ) (bel
       ltb-true (nth things n) (length s.heap.objects)
       (and_parts (nat_le built_in_count (nth things n)) (nat_lt (nth things n) (length s.heap.objects)) (is_thing_at s things n walk below)).1
 
-none_of : {A : Type 0} (xs : List A) → is_none xs ≡ true → xs ≡ []
-none_of [] h = refl
-none_of (x ∷ xs) h = cc h
-
--- a function at rest that needs no variables
-pub record IsSimple (s : Store) (k : ℕ) (source : Code) (env : Option EnvId) : Type 0 where
-  pub rest : IsFunctionAtRest s k source env
-  pub none : needed_variables source ≡ []
-
-pub simple_at : (s : Store) (things : List ℕ) → Still s → IsWalk s things → NeedNone s things → (n : ℕ) → n < length things
-    → (source : Code) (env : Option EnvId) → (object_at s.heap.objects (nth things n)).class ≡ class.Page source env
-    → IsSimple s (nth things n) source env
-simple_at s things still walk need_none n below source env is =
-    let k : ℕ = nth things n in
-    let none : needs_none (class.Page source env) ≡ true =
-    subst (λ d. needs_none d ≡ true) is (all_at (λ j. needs_none (object_at s.heap.objects j).class) things n need_none below)
-    in
-    record { rest = still.functions k source env (walk.sound k (place_in things n below)) is; none = none_of (needed_variables source) none }
+-- a function among them is at rest
+pub rest_at : (s : Store) (things : List ℕ) → Still s → IsWalk s things → (n : ℕ) → n < length things → (source : Code) (env : Option EnvId)
+    → (object_at s.heap.objects (nth things n)).class ≡ class.Page source env → IsFunctionAtRest s (nth things n) source env
+rest_at s things still walk n below source env is = still.functions (nth things n) source env (walk.sound (nth things n) (place_in things n below)) is
 
 -- ---- what is named
 
@@ -79,6 +66,31 @@ left_in j ks js h = list_any-append _ ks js ∙ rw h refl
 
 right_in : (j : ℕ) (ks js : List ℕ) → is_in j js ≡ true → is_in j (ks ++ js) ≡ true
 right_in j ks js h = list_any-append _ ks js ∙ rw h (or-true (is_in j ks))
+
+-- what its needed variables hold is known
+need_linked : (s : Store) (env : Option EnvId) (xs : List (List ℕ)) (x : List ℕ) (j : ℕ) → is_among x xs ≡ true
+    → is_in j (value_links (bound_value s env x)) ≡ true → is_in j (needs_links (bound_values s env xs)) ≡ true
+need_linked s env [] x j among h = cc among
+need_linked s env (y ∷ ys) x j among h = by (bytes_eq x y) refl (λ more. need_linked s env ys x j more h)
+  where
+    by : (b : Bool) → bytes_eq x y ≡ b → (is_among x ys ≡ true → is_in j (needs_links (bound_values s env ys)) ≡ true)
+        → is_in j (needs_links (bound_values s env (y ∷ ys))) ≡ true
+    by true same later =
+        left_in j (value_links (bound_value s env y)) (needs_links (bound_values s env ys))
+        (subst (λ z. is_in j (value_links (bound_value s env z)) ≡ true) ((bytes_eq-Decides x y).0 same) h)
+    by false other later =
+        right_in j (value_links (bound_value s env y)) (needs_links (bound_values s env ys)) (later (rw other at among))
+
+pub need_known : (s : Store) (things : List ℕ) → Still s → IsWalk s things → (n : ℕ) → n < length things → (source : Code) (env : Option EnvId)
+    → (object_at s.heap.objects (nth things n)).class ≡ class.Page source env → (x : List ℕ) → is_among x (needed_variables source) ≡ true
+    → (j : ℕ) → is_in j (value_links (bound_value s env x)) ≡ true → IsKnown things j
+need_known s things still walk n below source env is x among j h =
+    let k : ℕ = nth things n in
+    let o : Object = object_at s.heap.objects k in
+    let linked : is_in j (class_links s o.class) ≡ true =
+    subst (λ d. is_in j (class_links s d) ≡ true) (sym is) (need_linked s env (needed_variables source) x j among h)
+    in
+    links_in_walk s things still walk k (place_in things n below) j (made_among s k j (right_in j (proto_links o.proto) (class_links s o.class) linked))
 
 module _ (s : Store) (h : Contents) (things sites : List ℕ) (walk : IsWalk s things) (count : length sites ≡ length things) where
   abbrev W : World
@@ -130,13 +142,14 @@ module _ (s : Store) (h : Contents) (things sites : List ℕ) (walk : IsWalk s t
       → (object_at h.objects (nth sites n)).class ≡ b
       → ((j : ℕ) → is_in j (class_links s a) ≡ true → IsKnown things j)
       → ((source : Code) (env : Option EnvId) → a ≡ class.Page source env → code_fits any_code (round_frame source ∷ []) source ≡ true)
-      → ClassIsRebuilt c h.environments things sites (nth sites n) a b → ClassRel (named W) a b
+      → ClassIsRebuilt c h.environments s things sites (nth sites n) a b → ClassRel (named W) a b
   class_rel c n below a b one two known fits rebuilt.plain = plain
   class_rel c n below a b one two known fits rebuilt.list = array
   class_rel c n below a b one two known fits rebuilt.fault = fault
   class_rel c n below a b one two known fits (rebuilt.page {code = source} {env = env} {round = round} r) =
       page (record {
         frames = round_frame source ∷ [];
+        number = 0;
         code = refl;
         fits = fits source env refl;
         round = based (record { one = env; two = round; frame = round_frame source })
@@ -153,7 +166,7 @@ module _ (s : Store) (h : Contents) (things sites : List ℕ) (walk : IsWalk s t
   pub thing_rel : (c : Scene) (n : ℕ) → n < length things → Still s
       → ((source : Code) (env : Option EnvId) → (object_at s.heap.objects (nth things n)).class ≡ class.Page source env
       → code_fits any_code (round_frame source ∷ []) source ≡ true)
-      → IsRebuiltAs c h.environments things sites (nth sites n) (object_at s.heap.objects (nth things n)) (object_at h.objects (nth sites n))
+      → IsRebuiltAs c h.environments s things sites (nth sites n) (object_at s.heap.objects (nth things n)) (object_at h.objects (nth sites n))
       → ObjectRel (named (rebuilt_world s h things sites)) (object_at s.heap.objects (nth things n)) (object_at h.objects (nth sites n))
   thing_rel c n below still fits is =
       let k : ℕ = nth things n in

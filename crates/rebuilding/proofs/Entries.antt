@@ -1,34 +1,19 @@
 -- What a function binds when it is entered, where no function is declared in it: its formals and all names that it declares.
-use Rattle.std.proofs.Common.{◌≡◌, refl, sym, ap, ◌∙◌, ℕ, Bool, true, false, true≢false, ◌||◌, List, [], ◌∷◌, ◌++◌, bytes_eq, is_some}
+use Rattle.std.proofs.Common.{◌≡◌, refl, sym, ap, ◌∙◌, ℕ, Bool, true, false, true≢false, ◌||◌, List, [], ◌++◌, bytes_eq, is_some}
 use Rattle.std.proofs.lemmas.Bool.{or_parts}
 use Rattle.std.proofs.lemmas.List.Folds.{list_any-append}
-use Rattle.std.proofs.lemmas.Slice.Eq.{bytes_eq-Decides}
 use Rattle.js_core.specs.Tree as tree
 use Rattle.js_core.specs.Tree.{name, code, var, function, expr, empty, block, if_else, do_while, while, for, for_in, continue, break, return, throw, try, switch, no_stmts, then_stmt, no_body, one_body, no_declarators, then_declarator, no_init, init_var, init_expr, no_catch, one_catch, no_cases, then_case}
-use Rattle.js_values.specs.declared.value.Value.TheVariants.{Undefined}
 use Rattle.code_table.specs.Declarations as held
-use Rattle.object_heap.specs.Environment.{Bound, value_of}
+use Rattle.object_heap.specs.Environment.{value_of}
 use Rattle.page_meaning.specs.Functions.{entry_names, function_names, with_arguments, with_names}
+use Rattle.scope_chains.proofs.Callers.{arguments_bound, names_bound, same_declarators, same_init, same_target}
 use Rattle.scope_analysis.specs.Form.{is_declaration}
 use Rattle.scope_analysis.specs.Names as names
 use Rattle.scope_analysis.specs.Names.{declared_names, is_among}
 use Rattle.scope_analysis.specs.Nodes.{cases_any, catch_any, init_any, maybe_expr_any, maybe_stmts_any, stmt_any, stmts_any}
 
 -- ---- where no function is declared, all declared names are variables
-
-same_declarators : (ds : tree.Declarators) → names.declarator_names ds ≡ held.declarator_names ds
-same_declarators no_declarators = refl
-same_declarators (then_declarator x e ds) = ap (λ xs. x ∷ xs) (same_declarators ds)
-
-same_init : (i : tree.ForInit) → names.init_names i ≡ held.init_names i
-same_init no_init = refl
-same_init (init_var ds) = same_declarators ds
-same_init (init_expr e) = refl
-
-same_target : (declared : Bool) (t : tree.Expr) → names.target_names declared t ≡ held.target_names declared t
-same_target true (name x) = refl
-same_target true t = refl
-same_target false t = refl
 
 both : (xs ys us vs : List (List ℕ)) → xs ≡ us → ys ≡ vs → xs ++ ys ≡ us ++ vs
 both xs ys us vs e f = rw (e, f) refl
@@ -77,53 +62,6 @@ mutual
 
 -- ---- what an environment binds at entry
 
-arguments_bound : (xs : List (List ℕ)) (x : List ℕ) → is_some (value_of (with_arguments xs []) x) ≡ is_among x xs
-arguments_bound [] x = refl
-arguments_bound (y ∷ ys) x = by_case (bytes_eq x y) refl (arguments_bound ys x)
-  where
-    by_case : (b : Bool) → bytes_eq x y ≡ b → is_some (value_of (with_arguments ys []) x) ≡ is_among x ys
-        → is_some (value_of (with_arguments (y ∷ ys) []) x) ≡ is_among x (y ∷ ys)
-    by_case true e r = rw (e) refl
-    by_case false e r = rw (e) r
-
-last_bound : (b : Bound) (y x : List ℕ) → is_some (value_of (b ++ (y, Undefined) ∷ []) x) ≡ (is_some (value_of b x) || bytes_eq x y)
-last_bound [] y x = by_case (bytes_eq x y) refl
-  where
-    by_case : (t : Bool) → bytes_eq x y ≡ t → is_some (value_of ((y, Undefined) ∷ []) x) ≡ bytes_eq x y
-    by_case true e = rw (e) refl
-    by_case false e = rw (e) refl
-last_bound (p ∷ ps) y x = by_case (bytes_eq x p.0) refl (last_bound ps y x)
-  where
-    by_case : (t : Bool) → bytes_eq x p.0 ≡ t → is_some (value_of (ps ++ (y, Undefined) ∷ []) x) ≡ (is_some (value_of ps x) || bytes_eq x y)
-        → is_some (value_of ((p ∷ ps) ++ (y, Undefined) ∷ []) x) ≡ (is_some (value_of (p ∷ ps) x) || bytes_eq x y)
-    by_case true e r = rw (e) refl
-    by_case false e r = rw (e) r
-
-or_none : (b : Bool) → b ≡ (b || false)
-or_none true = refl
-or_none false = refl
-
-or_round : (a b c : Bool) → ((a || b) || c) ≡ (a || (b || c))
-or_round true b c = refl
-or_round false b c = refl
-
-names_bound : (b : Bound) (xs : List (List ℕ)) (x : List ℕ) → is_some (value_of (with_names b xs) x) ≡ (is_some (value_of b x) || is_among x xs)
-names_bound b [] x = or_none (is_some (value_of b x))
-names_bound b (y ∷ ys) x = by_case (is_some (value_of b y)) refl (names_bound b ys x) (names_bound (b ++ (y, Undefined) ∷ []) ys x)
-  where
-    kept : (t : Bool) → bytes_eq x y ≡ t → is_some (value_of b y) ≡ true
-        → (is_some (value_of b x) || is_among x ys) ≡ (is_some (value_of b x) || (t || is_among x ys))
-    kept true e h = rw ((bytes_eq-Decides x y).0 e, h) refl
-    kept false e h = refl
-
-    by_case : (t : Bool) → is_some (value_of b y) ≡ t
-        → is_some (value_of (with_names b ys) x) ≡ (is_some (value_of b x) || is_among x ys)
-        → is_some (value_of (with_names (b ++ (y, Undefined) ∷ []) ys) x) ≡ (is_some (value_of (b ++ (y, Undefined) ∷ []) x) || is_among x ys)
-        → is_some (value_of (with_names b (y ∷ ys)) x) ≡ (is_some (value_of b x) || is_among x (y ∷ ys))
-    by_case true h r s = rw (h) (r ∙ kept (bytes_eq x y) refl h)
-    by_case false h r s =
-        rw (h) (s ∙ (ap (λ t. t || is_among x ys) (last_bound b y x) ∙ or_round (is_some (value_of b x)) (bytes_eq x y) (is_among x ys)))
-
 widened : (a b c : Bool) → (a || c) ≡ true → ((a || b) || c) ≡ true
 widened true b c h = refl
 widened false true c h = refl
@@ -141,5 +79,5 @@ entry_binds formals body x none h =
     let same = ap (λ ds. is_among x formals || is_among x ds) (all_variables body none) in
     let parts = list_any-append (bytes_eq x) formals (declared_names body) ∙ same in
     names_bound (with_names (with_arguments formals []) fs) us x
-    ∙ (ap (λ t. t || is_among x us) (names_bound (with_arguments formals []) fs x ∙ ap (λ t. t || is_among x fs) (arguments_bound formals x))
+    ∙ (ap (λ t. t || is_among x us) (names_bound (with_arguments formals []) fs x ∙ ap (λ t. t || is_among x fs) (arguments_bound formals [] x))
     ∙ widened (is_among x formals) (is_among x fs) (is_among x us) (sym parts ∙ h))

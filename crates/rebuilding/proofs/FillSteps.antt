@@ -31,7 +31,7 @@ use Rattle.object_shapes.specs.Shapes.{HasShape}
 
 -- ---- classes
 
-pub class_list : {c : Scene} {es : List Environment} {things sites : List ℕ} {k : ℕ} {C D : Class} → ClassIsRebuilt c es things sites k C D
+pub class_list : {c : Scene} {es : List Environment} {s : Store} {things sites : List ℕ} {k : ℕ} {C D : Class} → ClassIsRebuilt c es s things sites k C D
     → is_list D ≡ is_list C
 class_list plain = refl
 class_list list = refl
@@ -39,7 +39,7 @@ class_list fault = refl
 class_list (page round) = refl
 class_list bound = refl
 
-pub class_window : {c : Scene} {es : List Environment} {things sites : List ℕ} {k : ℕ} {C D : Class} → ClassIsRebuilt c es things sites k C D
+pub class_window : {c : Scene} {es : List Environment} {s : Store} {things sites : List ℕ} {k : ℕ} {C D : Class} → ClassIsRebuilt c es s things sites k C D
     → is_window D ≡ false
 class_window plain = refl
 class_window list = refl
@@ -96,7 +96,7 @@ fill_thing n t = fill (thing_place n) t
 
 pub fill_step : (c : Scene) (End : Contents → List ℕ → Type 0) (s : Store) (things sites : List ℕ) (g : Contents) → IsSound s.heap
     → ((n : ℕ) → n < length things
-    → IsFresh c g.environments things sites (nth sites n) (object_at s.heap.objects (nth things n)) (object_at g.objects (nth sites n)))
+    → IsFresh c g.environments s things sites (nth sites n) (object_at s.heap.objects (nth things n)) (object_at g.objects (nth sites n)))
     → ((n : ℕ) → n < length things
     → HasShape s (object_at s.heap.objects (nth things n)) (object_at s.heap.objects (nth things n)).class)
     → StepSucceeds c End s things sites (λ n. object_at g.objects (nth sites n)) (filled g s things sites) fill_thing

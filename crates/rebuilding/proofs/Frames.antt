@@ -1,9 +1,7 @@
--- The code of a function at rest that needs no variables fits in the frame round it.
-use Rattle.std.proofs.Common.{◌≡◌, refl, sym, ap, ◌∙◌, ℕ, ◌+◌, ◌≤◌, Bool, true, false, true≢false, not, ◌&&◌, List, [], ◌∷◌, ◌++◌, Option, Some, None, IsTrue, bytes_eq, map, arith, if◌then◌else◌}
+-- The code of a function at rest fits in the frame round it.
+use Rattle.std.proofs.Common.{◌≡◌, refl, sym, ap, ◌∙◌, ℕ, Bool, true, false, true≢false, not, ◌&&◌, ◌||◌, List, [], ◌∷◌, ◌++◌, Option, Some, None, IsTrue, bytes_eq, map, if◌then◌else◌}
 use Rattle.std.proofs.lemmas.Bool.{and_from, or_from, or_left, or_parts, or_right}
 use Rattle.std.proofs.lemmas.List.Folds.{list_any-append}
-use Rattle.code_table.specs.Declarations.{name_of}
-use Rattle.js_core.specs.Height.{code_height}
 use Rattle.js_core.specs.Tree as tree
 use Rattle.js_core.specs.Tree.{code}
 use Rattle.js_values.specs.declared.ids.EnvId.{EnvId}
@@ -18,27 +16,27 @@ use Rattle.scope_analysis.specs.Uses.{crossing, is_assigned, leaving_function, s
 use Rattle.scope_analysis.specs.declared.name_use.Use.{Use}
 use Rattle.heap_relations.specs.Naming.{Absent, Fixed, Frame, Itself, Sealed, Unused, resolve, resolved}
 use Rattle.agreement.specs.Trees.{any_code, code_fits, entry_frame, is_reached}
-use Rattle.rebuilding.specs.Frames.{is_own, round_frame}
+use Rattle.rebuilding.specs.Frames.{is_own, is_sealed, round_frame}
 use Rattle.rebuilding.proofs.Entries.{binds, entry_binds}
-use Rattle.rebuilding.proofs.Pieces.{few, stmts_stand}
+use Rattle.rebuilding.proofs.Pieces.{stmts_stand}
 use Rattle.rebuilding.proofs.Uses.{Apt, are_reached, kept_bound, kept_reached, reaches}
 use Rattle.rebuilding.proofs.Basics.{same_name}
-use Rattle.rebuilding.proofs.Wrapped.{declares_none, left_are_others, own_unassigned}
+use Rattle.rebuilding.proofs.Wrapped.{declares_none, left_are_others, names_left, needed_unassigned, own_unassigned}
 
 -- ---- names in the frame round it
 
--- its own name is fixed
-pub round_own : (c : tree.Code) (y : List ℕ) → is_own (name_of c) y ≡ true → resolve (round_frame c ∷ []) y ≡ Fixed
-round_own c y h = by_case (is_own (name_of c) y) h
+-- its own name and what it needs are fixed
+pub round_sealed : (c : tree.Code) (y : List ℕ) → is_sealed c y ≡ true → resolve (round_frame c ∷ []) y ≡ Fixed
+round_sealed c y h = by_case (is_sealed c y) h
   where
     by_case : (b : Bool) → b ≡ true → resolved (if b then Sealed else (if is_among y (other_names c) then Absent else Unused)) 0 Itself ≡ Fixed
     by_case true e = refl
     by_case false e = absurd (true≢false (sym e))
 
 -- its other names are themselves
-pub round_other : (c : tree.Code) (y : List ℕ) → is_own (name_of c) y ≡ false → is_among y (other_names c) ≡ true
+pub round_other : (c : tree.Code) (y : List ℕ) → is_sealed c y ≡ false → is_among y (other_names c) ≡ true
     → resolve (round_frame c ∷ []) y ≡ Itself
-round_other c y h k = by_case (is_own (name_of c) y) (is_among y (other_names c)) h k
+round_other c y h k = by_case (is_sealed c y) (is_among y (other_names c)) h k
   where
     by_case : (a b : Bool) → a ≡ false → b ≡ true → resolved (if a then Sealed else (if b then Absent else Unused)) 0 Itself ≡ Itself
     by_case true b e f = absurd (true≢false e)
@@ -90,50 +88,83 @@ module _ (x : Option (List ℕ)) (formals : List (List ℕ)) (body : tree.Stmts)
   abbrev inside : List Frame
   inside = entry_frame formals body ∷ round
 
-  -- it is bound inside, or is the own name and not assigned to, or one of the other names
-  use_reached : stmts_any is_declaration body ≡ false → (u : Use) (b own : Bool) → is_among u.name bound ≡ b → is_own x u.name ≡ own
-      → (b ≡ false → own ≡ true → u.assigns ≡ false)
-      → (b ≡ false → own ≡ false → is_among u.name (other_names whole) ≡ true) → reaches inside u ≡ true
-  use_reached plain u true own e o f g =
-      ap (is_reached u.assigns) (kept_bound (binds formals body u.name) 1 (resolve round u.name) (entry_binds formals body u.name plain e))
+  -- all that is bound, with its own name
+  abbrev all_bound : List (List ℕ)
+  all_bound = maybe_name x ++ bound
+
+  -- it is bound inside, or is sealed and not assigned to, or one of the other names
+  use_reached : stmts_any is_declaration body ≡ false → (u : Use) (b sealed : Bool) → is_among u.name bound ≡ b → is_sealed whole u.name ≡ sealed
+      → (b ≡ false → sealed ≡ true → u.assigns ≡ false)
+      → (b ≡ false → sealed ≡ false → is_among u.name (other_names whole) ≡ true) → reaches inside u ≡ true
+  use_reached plain u true sealed e o f g =
+      ap (is_reached u.assigns) (kept_bound (binds formals body u.name) 0 (resolve round u.name) (entry_binds formals body u.name plain e))
   use_reached plain u false true e o f g =
-      kept_reached u.assigns (binds formals body u.name) 1 (resolve round u.name)
-      (ap (is_reached u.assigns) (round_own whole u.name o) ∙ ap not (f refl refl))
+      kept_reached u.assigns (binds formals body u.name) 0 (resolve round u.name)
+      (ap (is_reached u.assigns) (round_sealed whole u.name o) ∙ ap not (f refl refl))
   use_reached plain u false false e o f g =
-      kept_reached u.assigns (binds formals body u.name) 1 (resolve round u.name)
+      kept_reached u.assigns (binds formals body u.name) 0 (resolve round u.name)
       (ap (is_reached u.assigns) (round_other whole u.name o (g refl refl)))
+
+  neither : (y : List ℕ) → is_among y bound ≡ false → is_own x y ≡ false → is_among y all_bound ≡ false
+  neither y e o = list_any-append (bytes_eq y) (maybe_name x) bound ∙ or_from _ _ (own_among x y o) e
+
+  -- among uses that do not assign to its own name, and of which those that it leaves do not assign to what it needs
+  sealed_unassigned : (u : Use) (us : List Use)
+      → ((y : List ℕ) → is_among y bound ≡ false → is_own x y ≡ true → is_assigned y (u ∷ us) ≡ false)
+      → ((y : List ℕ) → is_among y (needed_variables whole) ≡ true → is_assigned y (leaving_function all_bound (u ∷ us)) ≡ false)
+      → is_among u.name bound ≡ false → is_sealed whole u.name ≡ true → u.assigns ≡ false
+  sealed_unassigned u us f n e sealed = by (is_own x u.name) refl sealed
+    where
+      left_use : (b : Bool) → b ≡ false
+          → is_assigned u.name (if b then leaving_function all_bound us else (crossing u ∷ leaving_function all_bound us)) ≡ false
+          → u.assigns ≡ false
+      left_use true o h = absurd (true≢false o)
+      left_use false o h = and_other _ _ (or_parts _ _ h).0 (same_name u.name)
+
+      by : (own : Bool) → is_own x u.name ≡ own → (own || is_among u.name (needed_variables whole)) ≡ true → u.assigns ≡ false
+      by true o h = and_other _ _ (or_parts _ _ (f u.name e o)).0 (same_name u.name)
+      by false o h = left_use (is_among u.name all_bound) (neither u.name e o) (n u.name h)
+
+  -- the uses that are left of the others are among those of all
+  others_left : (u : Use) (us : List Use) (y : List ℕ) → is_assigned y (leaving_function all_bound (u ∷ us)) ≡ false
+      → is_assigned y (leaving_function all_bound us) ≡ false
+  others_left u us y h = by (is_among u.name all_bound) h
+    where
+      by : (b : Bool) → is_assigned y (if b then leaving_function all_bound us else (crossing u ∷ leaving_function all_bound us)) ≡ false
+          → is_assigned y (leaving_function all_bound us) ≡ false
+      by true k = k
+      by false k = (or_parts _ _ k).1
 
   uses_reached : stmts_any is_declaration body ≡ false → (us : List Use)
       → ((y : List ℕ) → is_among y bound ≡ false → is_own x y ≡ true → is_assigned y us ≡ false)
-      → ((y : List ℕ) → is_among y (names_of (leaving_function (maybe_name x ++ bound) us)) ≡ true → is_among y (other_names whole) ≡ true)
+      → ((y : List ℕ) → is_among y (needed_variables whole) ≡ true → is_assigned y (leaving_function all_bound us) ≡ false)
+      → ((y : List ℕ) → is_among y (names_of (leaving_function all_bound us)) ≡ true → is_among y (names_left whole) ≡ true)
       → are_reached inside us ≡ true
-  uses_reached plain [] f g = refl
-  uses_reached plain (u ∷ us) f g =
-      and_from _ _ (use_reached plain u (is_among u.name bound) (is_own x u.name) refl refl unassigned other)
-      (uses_reached plain us (λ y e o. (or_parts _ _ (f y e o)).1) (λ y h. g y (more_left (maybe_name x ++ bound) u us y h)))
+  uses_reached plain [] f n g = refl
+  uses_reached plain (u ∷ us) f n g =
+      and_from _ _
+      (use_reached plain u (is_among u.name bound) (is_sealed whole u.name) refl refl (λ e s. sealed_unassigned u us f n e s) other)
+      (uses_reached plain us (λ y e o. (or_parts _ _ (f y e o)).1) (λ y h. others_left u us y (n y h))
+      (λ y h. g y (more_left all_bound u us y h)))
     where
-      unassigned : is_among u.name bound ≡ false → is_own x u.name ≡ true → u.assigns ≡ false
-      unassigned e o = and_other _ _ (or_parts _ _ (f u.name e o)).0 (same_name u.name)
-
-      other : is_among u.name bound ≡ false → is_own x u.name ≡ false → is_among u.name (other_names whole) ≡ true
-      other e o =
-          let neither = list_any-append (bytes_eq u.name) (maybe_name x) bound ∙ or_from _ _ (own_among x u.name o) e in
-          g u.name (use_left (maybe_name x ++ bound) u us neither)
+      other : is_among u.name bound ≡ false → is_sealed whole u.name ≡ false → is_among u.name (other_names whole) ≡ true
+      other e s =
+          let parts = or_parts (is_own x u.name) (is_among u.name (needed_variables whole)) s in
+          left_are_others whole u.name (g u.name (use_left all_bound u us (neither u.name e parts.0))) parts.1
 
 -- ---- the whole function
 
-pub fits_round_in_form : (c : tree.Code) → IsTrue (in_form (wrapped c)) → early_rule (wrapped c) ≡ None → code_height c + 1 ≤ 400
-    → needed_variables c ≡ []
+pub fits_round_in_form : (c : tree.Code) → IsTrue (in_form (wrapped c)) → early_rule (wrapped c) ≡ None
     → code_fits any_code (round_frame c ∷ []) c ≡ true
-fits_round_in_form (code x formals body) formed early low none =
+fits_round_in_form (code x formals body) formed early =
     let c = code x formals body in
     let plain = declares_none x formals body formed in
-    let uses = uses_reached x formals body plain (stmts_uses body) (own_unassigned x formals body early) (left_are_others c none) in
+    let uses = uses_reached x formals body plain (stmts_uses body) (own_unassigned x formals body early) (needed_unassigned c formed) (λ y h. h) in
     let apt : Apt (entry_frame formals body ∷ round_frame c ∷ []) (stmts_uses body) (stmts_any is_declaration body) =
     record { reached = uses; plain = plain } in
-    and_from _ _ (few (round_frame c ∷ []) (omega arith)) (stmts_stand body apt (omega arith))
+    stmts_stand body apt
 
 -- what a page at rest knows of each of its functions is enough
-pub fits_at_rest : {s : Store} {k : ℕ} {env : Option EnvId} (c : tree.Code) → IsFunctionAtRest s k c env → needed_variables c ≡ []
+pub fits_at_rest : {s : Store} {k : ℕ} {env : Option EnvId} (c : tree.Code) → IsFunctionAtRest s k c env
     → code_fits any_code (round_frame c ∷ []) c ≡ true
-fits_at_rest c h none = fits_round_in_form c h.formed h.orderly h.low none
+fits_at_rest c h = fits_round_in_form c h.formed h.orderly

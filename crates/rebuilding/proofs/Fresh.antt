@@ -2,7 +2,8 @@
 use Rattle.std.proofs.Common.{◌≡◌, refl, sym, ap, subst, ◌∙◌, ℕ, suc, ◌+◌, ◌-◌, true, false, nat_lt, List, [], ◌∷◌, ◌++◌, Option, Some, length}
 use Rattle.std.proofs.lemmas.Bool.{eq-eqb}
 use Rattle.std.specs.Prelude.{codes}
-use Rattle.heap_walker.specs.Things.{IsWalk, bound_values, class_links, is_in}
+use Rattle.code_table.specs.Declarations.{name_of}
+use Rattle.heap_walker.specs.Things.{IsWalk, class_links, is_in, needs_of}
 use Rattle.js_core.specs.Tree.{Code}
 use Rattle.js_values.specs.declared.built_in.BuiltIn.TheVariants.{FunctionPrototypeBind}
 use Rattle.js_values.specs.declared.ids.EnvId.{EnvId}
@@ -26,11 +27,11 @@ use Rattle.page_meaning.specs.Properties.{class_at, is_function}
 use Rattle.page_meaning.specs.Store.{Store, with_heap}
 use Rattle.rebuild_plan.specs.Compact.{kind_of, maker_as, moved, moved_needs, moved_proto, moved_values}
 use Rattle.rebuild_plan.specs.Stands.{maker_names}
-use Rattle.rebuilding.specs.Rebuilt.{ClassIsRebuilt, bound, fault, is_none, list, needs_none, page, plain}
+use Rattle.rebuilding.specs.Rebuilt.{ClassIsRebuilt, bound, fault, list, page, plain}
 use Rattle.rebuilding.specs.Running.{CanMake, IsMade}
-use Rattle.rebuilding.specs.Scene.{Scene}
+use Rattle.rebuilding.specs.Scene.{IsRoundOf, Scene}
 use Rattle.rebuilding.specs.Sites.{site, sited, sited_proto, sited_values}
-use Rattle.rebuilding.proofs.Placed.{array_low, error_low, function_low, proto_stays}
+use Rattle.rebuilding.proofs.Placed.{array_low, error_low, function_low, needs_stay, proto_stays}
 use Rattle.rebuilding.proofs.Stages.{IsFresh, MadeProps}
 use Rattle.rebuilding.proofs.Lasting.{bound_same, proto_is}
 use Rattle.object_shapes.specs.Shapes.{HasBoundLength, HasShape}
@@ -57,33 +58,27 @@ target_in s target this args = rw (eq-eqb target.0 target.0 refl) refl
 
 -- ---- a thing can be made
 
-no_needs : (s : Store) (things : List ℕ) (env : Option EnvId) (xs : List (List ℕ)) → is_none xs ≡ true
-    → moved_needs things (bound_values s env xs) ≡ []
-no_needs s things env [] h = refl
-no_needs s things env (x ∷ xs) h = cc h
-
 pub can_make : (s : Store) (things : List ℕ) (h : Contents) (sites : List ℕ) (o : Object) (a : Class) → HasShape s o a
-    → needs_none a ≡ true
     → all_below (built_in_count + length sites) (maker_names (maker_as s things o.proto a)) ≡ true → AreKept s things h sites a
     → CanMake h sites (maker_as s things o.proto a)
-can_make s things h sites o (class.Page body env) made none stands kept = no_needs s things env _ none
-can_make s things h sites o (class.Bound target this args) made none stands kept =
+can_make s things h sites o (class.Page body env) made stands kept = tt
+can_make s things h sites o (class.Bound target this args) made stands kept =
     let target_stands : IsKept s things h sites target = kept target (target_in s target this args) made.2 (left_of _ _ stands) in
     (target_stands.class, target_stands.bind)
-can_make s things h sites o class.Plain made none stands kept = tt
-can_make s things h sites o class.List made none stands kept = tt
-can_make s things h sites o class.Fault made none stands kept = tt
-can_make s things h sites o (class.Native which) made none stands kept = tt
-can_make s things h sites o class.Math made none stands kept = tt
-can_make s things h sites o class.Window made none stands kept = tt
-can_make s things h sites o (class.Node m) made none stands kept = tt
-can_make s things h sites o (class.Event parts) made none stands kept = tt
+can_make s things h sites o class.Plain made stands kept = tt
+can_make s things h sites o class.List made stands kept = tt
+can_make s things h sites o class.Fault made stands kept = tt
+can_make s things h sites o (class.Native which) made stands kept = tt
+can_make s things h sites o class.Math made stands kept = tt
+can_make s things h sites o class.Window made stands kept = tt
+can_make s things h sites o (class.Node m) made stands kept = tt
+can_make s things h sites o (class.Event parts) made stands kept = tt
 
 -- ---- it is as it was first
 
 -- what is known of a thing of this class that was made
-record IsBegun (c : Scene) (es : List Environment) (things sites : List ℕ) (k : ℕ) (a : Class) (o made : Object) : Type 0 where
-  class : ClassIsRebuilt c es things sites k a made.class
+record IsBegun (c : Scene) (es : List Environment) (s : Store) (things sites : List ℕ) (k : ℕ) (a : Class) (o made : Object) : Type 0 where
+  class : ClassIsRebuilt c es s things sites k a made.class
   proto : made.proto ≡ sited_proto sites (moved_proto things o.proto)
   extensible : made.extensible ≡ true
   closed : made.closed ≡ false
@@ -105,7 +100,7 @@ module _ (c : Scene) (s : Store) (things : List ℕ) (h i : Contents) (sites : L
   after = sites ++ place ∷ []
 
   abbrev Begun : Class → Object → Object → Type 0
-  Begun a o made = IsBegun c i.environments things after place a o made
+  Begun a o made = IsBegun c i.environments s things after place a o made
 
   begun_plain : (o made : Object) → all_below (built_in_count + length sites) (maker_names (maker_as s things o.proto class.Plain)) ≡ true
       → made ≡ new_object class.Plain (sited_proto sites (moved_proto things o.proto)) → Begun class.Plain o made
@@ -138,9 +133,11 @@ module _ (c : Scene) (s : Store) (things : List ℕ) (h i : Contents) (sites : L
   })
 
   begun_page : (o made : Object) (body : Code) (env : Option EnvId) → o.proto ≡ Some function_prototype
+      → all_below (built_in_count + length sites) (maker_names (maker_as s things o.proto (class.Page body env))) ≡ true
       → IsMade c h i sites place (maker_as s things o.proto (class.Page body env)) made → Begun (class.Page body env) o made
-  begun_page o made body env proto is = subst (λ m. Begun (class.Page body env) o m) (sym is.object) (record {
-    class = page is.is_round;
+  begun_page o made body env proto stands is = subst (λ m. Begun (class.Page body env) o m) (sym is.object) (record {
+    class = page {env = env} (subst (λ ns. IsRoundOf c i.environments place ns (name_of body) is.round)
+        (sym (needs_stay sites place (moved_needs things (needs_of s env body)) stands)) is.is_round);
     proto = sym (proto_is s things after walk o.proto function_prototype proto function_low);
     extensible = refl;
     closed = refl;
@@ -153,7 +150,7 @@ module _ (c : Scene) (s : Store) (things : List ℕ) (h i : Contents) (sites : L
       → length_of (sited sites (moved things target)) (with_heap pristine h) ≡ length_of target s
       → IsMade c h i sites place (maker_as s things o.proto (class.Bound target this args)) made → Begun (class.Bound target this args) o made
   begun_bound o made target this args proto stands had same is = subst (λ m. Begun (class.Bound target this args) o m) (sym is) (record {
-    class = subst (λ d. ClassIsRebuilt c i.environments things after place (class.Bound target this args) d)
+    class = subst (λ d. ClassIsRebuilt c i.environments s things after place (class.Bound target this args) d)
         (bound_same things sites place target this args stands) bound;
     proto = sym (proto_is s things after walk o.proto function_prototype proto function_low);
     extensible = refl;
@@ -172,7 +169,7 @@ module _ (c : Scene) (s : Store) (things : List ℕ) (h i : Contents) (sites : L
   begun o made class.Plain was stands kept is = begun_plain o made stands is
   begun o made class.List was stands kept is = begun_list o made was.0 is
   begun o made class.Fault was stands kept is = begun_fault o made was.kind was.is is
-  begun o made (class.Page body env) was stands kept is = begun_page o made body env was.0 is
+  begun o made (class.Page body env) was stands kept is = begun_page o made body env was.0 stands is
   begun o made (class.Bound target this args) was stands kept is =
       begun_bound o made target this args was.0 stands was.1 (kept target (target_in s target this args) was.2 (left_of _ _ stands)).length is
   begun o made (class.Native which) was stands kept is = absurd was
@@ -185,7 +182,7 @@ module _ (c : Scene) (s : Store) (things : List ℕ) (h i : Contents) (sites : L
   pub made_fresh : (o made : Object) → HasShape s o o.class
       → all_below (built_in_count + length sites) (maker_names (maker_as s things o.proto o.class)) ≡ true
       → AreKept s things h sites o.class → IsMade c h i sites place (maker_as s things o.proto o.class) made
-      → IsFresh c i.environments things after place o made
+      → IsFresh c i.environments s things after place o made
   made_fresh o made was stands kept is =
       let b : Begun o.class o made = begun o made o.class was stands kept is in
       record { class = b.class; proto = b.proto; extensible = b.extensible; closed = b.closed; props = b.props }

@@ -1,22 +1,23 @@
 -- A thing that is as its maker left it stays so while others are made.
 use Rattle.std.proofs.Common.{◌≡◌, sym, ap, subst, ◌∙◌, ℕ, ◌+◌, ◌<◌, ◌≤◌, true, List, [], ◌∷◌, ◌++◌, Option, Some, length, nat_lt, arith}
 use Rattle.std.proofs.lemmas.List.Folds.{list_all-append}
-use Rattle.heap_walker.specs.Things.{IsWalk}
+use Rattle.code_table.specs.Declarations.{name_of}
+use Rattle.heap_walker.specs.Things.{IsWalk, needs_of}
 use Rattle.js_values.specs.declared.ids.EnvId.{EnvId}
 use Rattle.js_values.specs.declared.ids.ObjId.{ObjId}
 use Rattle.js_values.specs.declared.value.Value.{Value}
-use Rattle.object_heap.specs.Environment.{Environment, environment_at}
+use Rattle.object_heap.specs.Environment.{Bound, Environment, environment_at}
 use Rattle.object_heap.specs.Object.{Object}
 use Rattle.object_heap.specs.declared.object.Class.{Class}
 use Rattle.object_heap.specs.declared.object.Class.TheVariants as class
 use Rattle.page_meaning.specs.Store.{Store}
-use Rattle.rebuild_plan.specs.Compact.{maker_as, moved, moved_proto, moved_value, moved_values}
+use Rattle.rebuild_plan.specs.Compact.{maker_as, moved, moved_needs, moved_proto, moved_value, moved_values}
 use Rattle.rebuild_plan.specs.Stands.{maker_names}
 use Rattle.rebuild_plan.specs.declared.statement.Maker.TheVariants.{Bind}
 use Rattle.rebuilding.specs.Rebuilt.{ClassIsRebuilt, bound, fault, list, page, plain}
-use Rattle.rebuilding.specs.Scene.{IsRoundOf, Scene, bare, named}
+use Rattle.rebuilding.specs.Scene.{IsBinding, IsRoundOf, Scene, bare, named, needed, none_needed}
 use Rattle.rebuilding.specs.Sites.{site, sited, sited_proto, sited_value, sited_values}
-use Rattle.rebuilding.proofs.Placed.{array_low, error_low, function_low, proto_built_in, proto_stays, site_stays, value_stays, values_stay}
+use Rattle.rebuilding.proofs.Placed.{array_low, error_low, function_low, needs_stay, proto_built_in, proto_stays, site_stays, value_stays, values_stay}
 use Rattle.rebuilding.proofs.Stages.{IsFresh}
 use Rattle.object_shapes.specs.Links.{built_in_count, value_links, values_links, all_below}
 use Rattle.rebuilding.proofs.Basics.{left_of, right_of}
@@ -77,25 +78,32 @@ bound_same things sites place target this args stands =
 -- the environments es stay in fs
 module _ (c : Scene) (es fs : List Environment) (more : length es ≤ length fs)
     (same : (e : ℕ) → e < length es → environment_at fs e ≡ environment_at es e) where
-  round_stays : {k : ℕ} {x : Option (List ℕ)} {round : Option EnvId} → IsRoundOf c es k x round → IsRoundOf c fs k x round
-  round_stays bare = bare
-  round_stays (named e there is) = named e (omega (arith, there, more)) (same e there ∙ is)
+  pub binding_stays : {needs : Bound} {b : ℕ} → IsBinding c es needs b → IsBinding c fs needs b
+  binding_stays none_needed = none_needed
+  binding_stays (needed e there is) = needed e (omega (arith, there, more)) (same e there ∙ is)
 
-  class_stays : (s : Store) (things sites : List ℕ) (place k : ℕ) (proto : Option ObjId) {a d : Class} → ClassIsRebuilt c es things sites k a d
+  pub round_stays : {k : ℕ} {needs : Bound} {x : Option (List ℕ)} {round : Option EnvId} → IsRoundOf c es k needs x round
+      → IsRoundOf c fs k needs x round
+  round_stays (bare b) = bare (binding_stays b)
+  round_stays (named e b there is) = named e (binding_stays b) (omega (arith, there, more)) (same e there ∙ is)
+
+  class_stays : (s : Store) (things sites : List ℕ) (place k : ℕ) (proto : Option ObjId) {a d : Class} → ClassIsRebuilt c es s things sites k a d
       → all_below (built_in_count + length sites) (maker_names (maker_as s things proto a)) ≡ true
-      → ClassIsRebuilt c fs things (sites ++ place ∷ []) k a d
+      → ClassIsRebuilt c fs s things (sites ++ place ∷ []) k a d
   class_stays s things sites place k proto plain stands = plain
   class_stays s things sites place k proto list stands = list
   class_stays s things sites place k proto fault stands = fault
-  class_stays s things sites place k proto (page round) stands = page (round_stays round)
+  class_stays s things sites place k proto (page {code = source} {env = env} {round = round} r) stands =
+      page {env = env} (subst (λ ns. IsRoundOf c fs k ns (name_of source) round)
+      (sym (needs_stay sites place (moved_needs things (needs_of s env source)) stands)) (round_stays r))
   class_stays s things sites place k proto (bound {target = target} {this = this} {args = args}) stands =
-      subst (λ d. ClassIsRebuilt c fs things (sites ++ place ∷ []) k (class.Bound target this args) d)
+      subst (λ d. ClassIsRebuilt c fs s things (sites ++ place ∷ []) k (class.Bound target this args) d)
       (bound_same things sites place target this args stands) bound
 
   -- what it refers to from its maker on stands, so it keeps its site
   pub fresh_stays : (s : Store) (things sites : List ℕ) (place k : ℕ) (thing o : Object) → IsWalk s things → HasShape s thing thing.class
       → all_below (built_in_count + length sites) (maker_names (maker_as s things thing.proto thing.class)) ≡ true
-      → IsFresh c es things sites k thing o → IsFresh c fs things (sites ++ place ∷ []) k thing o
+      → IsFresh c es s things sites k thing o → IsFresh c fs s things (sites ++ place ∷ []) k thing o
   fresh_stays s things sites place k thing o walk made stands fresh = record {
     class = class_stays s things sites place k thing.proto fresh.class stands;
     proto = fresh.proto ∙ sym (proto_same s things sites place thing thing.class walk made stands);

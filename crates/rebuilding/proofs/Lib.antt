@@ -18,6 +18,7 @@ pub mod Fresh
 pub mod Globals
 pub mod Going
 pub mod GoingOn
+pub mod Held
 pub mod InOrder
 pub mod Indices
 pub mod Lasting
@@ -27,6 +28,7 @@ pub mod Loading
 pub mod MakePhase
 pub mod Making
 pub mod Naming
+pub mod Needs
 pub mod Paths
 pub mod Phase
 pub mod Pieces

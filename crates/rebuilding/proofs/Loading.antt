@@ -62,7 +62,7 @@ script_rebuilt sound run plans s things can =
     let depth : ℕ = depth_limit - 1 in
     let running : IsRunning scene begun [] = begun_running (sound []) in
     let able : Succeeds scene (IsRebuilt scene s things) begun [] rs =
-    plans scene s things begun can.still can.walk can.need_none can.in_range
+    plans scene s things begun can.still can.walk can.in_range
     (omega (arith, plan_long s things, can.few, few_steps)) running begun_window
     in
     let all : Act = exec_all (calls_at (depth + 1)) (inside scene) (statements rs) in
@@ -85,7 +85,7 @@ pub scripts_rebuild : LoadsSound → StatementsRun → PlansRebuild → ScriptsR
 scripts_rebuild sound run plans s things can =
     let out = script_rebuilt sound run plans s things can in
     let agrees : Agrees s (with_heap pristine out.after) =
-    rebuilt_agrees scene s things out.after out.sites can.still can.walk can.need_none out.rebuilt
+    rebuilt_agrees scene s things out.after out.sites can.still can.walk out.rebuilt
     in
     subst (λ t. (t.lines ≡ []) × Agrees s t) (sym out.loaded) (refl, agrees)
 

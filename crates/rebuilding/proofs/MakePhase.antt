@@ -18,7 +18,7 @@ use Rattle.rebuild_plan.specs.Compact.{compact, maker_at, things_at}
 use Rattle.rebuild_plan.specs.Plan.{defines, fills, makes, plan, prevents}
 use Rattle.rebuild_plan.specs.Stands.{maker_names, standing}
 use Rattle.rebuild_plan.specs.declared.statement.Rebuild.{Rebuild}
-use Rattle.rebuilding.specs.Rebuilt.{NeedNone, Succeeds, needs_none, nth}
+use Rattle.rebuilding.specs.Rebuilt.{Succeeds, nth}
 use Rattle.rebuilding.specs.Running.{CanBeMade, HasMade, IsMade, Stays}
 use Rattle.rebuilding.specs.Scene.{IsRunning, Scene, is_site}
 use Rattle.rebuilding.proofs.Fresh.{AreKept, can_make, made_fresh}
@@ -62,7 +62,7 @@ values_small s things (k ∷ ks) n (suc i) rest h inside =
 record Front (c : Scene) (s : Store) (things : List ℕ) (h : Contents) (sites : List ℕ) : Type 0 where
   running : IsRunning c h sites
   each : (n : ℕ) → n < length sites
-      → IsFresh c h.environments things sites (nth sites n) (object_at s.heap.objects (nth things n)) (object_at h.objects (nth sites n))
+      → IsFresh c h.environments s things sites (nth sites n) (object_at s.heap.objects (nth things n)) (object_at h.objects (nth sites n))
   globals : (object_at h.objects window.0).props ≡ (built_in_at window.0).props
 
 -- what is known of the page that was saved
@@ -71,12 +71,11 @@ record IsSaved (s : Store) (things : List ℕ) : Type 0 where
   walk : IsWalk s things
   stand : (i : ℕ) → i < length things → all_below (built_in_count + i) (maker_names (maker_at s things (nth things i))) ≡ true
   small : (i : ℕ) → i < length things → All IsLiteral (maker_values (maker_at s things (nth things i)))
-  alone : (i : ℕ) → i < length things → needs_none (object_at s.heap.objects (nth things i)).class ≡ true
   few : length things < 4294967295
 
-saved : (s : Store) (things : List ℕ) → Still s → IsWalk s things → NeedNone s things → HaveLiterals (plan (compact s things))
+saved : (s : Store) (things : List ℕ) → Still s → IsWalk s things → HaveLiterals (plan (compact s things))
     → length things < 4294967295 → IsSaved s things
-saved s things still walk none range few =
+saved s things still walk range few =
     let rest : List Rebuild =
     defines false false window (compact s things).globals ++ (fills 0 (compact s things).things ++ prevents 0 (compact s things).things)
     in
@@ -85,7 +84,6 @@ saved s things still walk none range few =
       walk = walk;
       stand = λ i inside. from i (names_stand s things things 0 i rest (plans_stand s things still walk) inside);
       small = λ i inside. values_small s things things 0 i rest range inside;
-      alone = λ i inside. all_at (λ k. needs_none (object_at s.heap.objects k).class) things i none inside;
       few = few;
     }
   where
@@ -133,7 +131,7 @@ module _ (c : Scene) (s : Store) (things : List ℕ) (known : IsSaved s things) 
         next = next;
         index = omega (arith, inside, known.few);
         stands = stands;
-        able = can_make s things h sites (thing n) (thing n).class (was_made n inside) (known.alone n inside) stands
+        able = can_make s things h sites (thing n) (thing n).class (was_made n inside) stands
             (kept h sites n inside front);
         in_range = known.small n inside;
       }
@@ -148,7 +146,7 @@ module _ (c : Scene) (s : Store) (things : List ℕ) (known : IsSaved s things) 
 
     -- at this site, the thing with this number
     abbrev Stands : ℕ → ℕ → Type 0
-    Stands k j = IsFresh c i.environments things after k (thing j) (object_at i.objects k)
+    Stands k j = IsFresh c i.environments s things after k (thing j) (object_at i.objects k)
 
     not_list : (k : ℕ) → nat_eq k c.list ≡ false → is_in k (c.list ∷ []) ≡ false
     not_list k other = rw other refl
@@ -177,13 +175,13 @@ module _ (c : Scene) (s : Store) (things : List ℕ) (known : IsSaved s things) 
         below_more (built_in_count + j) (built_in_count + length sites) (maker_names (maker_at s things (nth things j))) (omega (arith, inside))
         (known.stand j (omega (arith, inside, few)))
         in
-        let f : IsFresh c i.environments things after (nth sites j) (thing j) (object_at h.objects (nth sites j)) =
+        let f : IsFresh c i.environments s things after (nth sites j) (thing j) (object_at h.objects (nth sites j)) =
         fresh_stays c h.environments i.environments stays.more_environments stays.environments s things sites place (nth sites j)
         (thing j) (object_at h.objects (nth sites j)) known.walk
         (was_made j (omega (arith, inside, few))) stands (front.each j inside)
         in
         subst (λ k. Stands k j) (sym (nth_more sites place j inside))
-        (subst (λ o. IsFresh c i.environments things after (nth sites j) (thing j) o) (sym (site_same j inside)) f)
+        (subst (λ o. IsFresh c i.environments s things after (nth sites j) (thing j) o) (sym (site_same j inside)) f)
 
     new : Stands (nth after (length sites)) (length sites)
     new =
@@ -257,14 +255,13 @@ module _ (c : Scene) (s : Store) (things : List ℕ) (known : IsSaved s things) 
 
 -- ---- the whole phase
 
-pub makes_succeed : (c : Scene) (s : Store) (things : List ℕ) (h : Contents) → Still s → IsWalk s things → NeedNone s things
-    → HaveLiterals (plan (compact s things))
+pub makes_succeed : (c : Scene) (s : Store) (things : List ℕ) (h : Contents) → Still s → IsWalk s things → HaveLiterals (plan (compact s things))
     → length things < 4294967295 → IsRunning c h [] → (object_at h.objects window.0).props ≡ (built_in_at window.0).props
     → (End : Contents → List ℕ → Type 0) (rest : List Rebuild)
     → ((i : Contents) (sites : List ℕ) → Made c s things i sites → Succeeds c End i sites rest)
     → Succeeds c End h [] (makes 0 (compact s things).things ++ rest)
-makes_succeed c s things h still walk none range few running globals End rest finish =
-    from c s things (saved s things still walk none range few) End rest finish things 0 h [] refl (omega arith)
+makes_succeed c s things h still walk range few running globals End rest finish =
+    from c s things (saved s things still walk range few) End rest finish things 0 h [] refl (omega arith)
     (λ i inside. ap (nth things) (begin i))
     (record { running = running; each = λ n inside. absurd (omega (arith, inside)); globals = globals })
   where

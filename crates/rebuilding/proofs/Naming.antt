@@ -54,8 +54,8 @@ bases_of os ps (k ∷ ks) (j ∷ js) = base_of (object_at os k).class (object_at
 abbrev pub rebuilt_world : Store → Contents → List ℕ → List ℕ → World
 rebuilt_world s h things sites = record {
   opens = false;
-  opened = λ fs c. c;
-  fits = code_fits any_code;
+  opened = λ n fs c. c;
+  fits = λ n. code_fits any_code;
   before = record { one = s.lines; two = [] };
   objects = same_below built_in_count ++ pairs things sites;
   nodes = [];
@@ -64,7 +64,7 @@ rebuilt_world s h things sites = record {
 }
 
 pub rebuilt_trees : (s : Store) (h : Contents) (things sites : List ℕ) → HasEqualTrees (rebuilt_world s h things sites)
-rebuilt_trees s h things sites = record { asks = any_code; opens = refl; opened = λ fs c. refl; fits = λ fs c. refl }
+rebuilt_trees s h things sites = record { asks = any_code; opens = refl; opened = λ n fs c. refl; fits = λ n fs c. refl }
 
 -- ---- what is in lists
 

@@ -6,7 +6,7 @@ use Rattle.std.proofs.lemmas.Bool.{eq-eqb, eqb-true, leb-true, le-ltb, lt-ltb, l
 use Rattle.std.proofs.lemmas.List.Folds.{list_all-append, list_any_at}
 use Rattle.std.proofs.lemmas.List.Quantifiers.{position-Some}
 use Rattle.std.specs.List.{list_all, position, position_or_len}
-use Rattle.heap_walker.specs.Things.{IsWalk, is_in}
+use Rattle.heap_walker.specs.Things.{IsWalk, is_in, needs_links}
 use Rattle.js_values.specs.declared.ids.ObjId.{ObjId}
 use Rattle.js_values.specs.declared.throw.ErrorKind.{ErrorKind}
 use Rattle.js_values.specs.declared.throw.ErrorKind.TheVariants as kind
@@ -19,7 +19,7 @@ use Rattle.page_meaning.specs.Store.{Store}
 use Rattle.rebuild_plan.specs.Compact.{moved_proto, place_of, placed}
 use Rattle.heap_walker.proofs.Callers.{thing_of}
 use Rattle.rebuilding.specs.Rebuilt.{nth}
-use Rattle.rebuilding.specs.Sites.{site, sited_proto, sited_value, sited_values}
+use Rattle.rebuilding.specs.Sites.{site, sited_needs, sited_proto, sited_value, sited_values}
 use Rattle.rebuilding.proofs.Basics.{both, found_below, left_of, right_of}
 use Rattle.object_shapes.specs.Links.{built_in_count, is_thing, proto_links, value_links, values_links, all_below}
 
@@ -144,6 +144,14 @@ module _ (sites : List ℕ) (place : ℕ) where
       let here = value_stays v (left_of _ _ split) in
       let others = values_stay vs (right_of _ _ split) in
       (λ i. here i ∷ others i)
+
+  pub needs_stay : (ns : List (List ℕ × Value)) → stand (needs_links ns) ≡ true → sited_needs after ns ≡ sited_needs sites ns
+  needs_stay [] h = refl
+  needs_stay (n ∷ ns) h =
+      let split = sym (list_all-append (λ k. nat_lt k (built_in_count + length sites)) (value_links n.1) (needs_links ns)) ∙ h in
+      let here = value_stays n.1 (left_of _ _ split) in
+      let others = needs_stay ns (right_of _ _ split) in
+      (λ i. (n.0, here i) ∷ others i)
 
   pub proto_stays : (proto : Option ObjId) → stand (proto_links proto) ≡ true → sited_proto after proto ≡ sited_proto sites proto
   proto_stays None h = refl

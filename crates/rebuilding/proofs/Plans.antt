@@ -64,7 +64,7 @@ module _ (c : Scene) (s : Store) (things sites : List ℕ) (h : Contents) (still
     running = phase.running;
     count = made.count;
     each =
-        λ n inside. subst (IsRebuiltAs c i.environments things sites (nth sites n) (object_at s.heap.objects (nth things n)))
+        λ n inside. subst (IsRebuiltAs c i.environments s things sites (nth sites n) (object_at s.heap.objects (nth things n)))
         (sym (phase.things n (subst (λ m. n < m) (sym made.count) inside)))
         (finished_rebuilt c s things sites h i n phase.more_environments phase.environments (made.each n inside));
     globals = phase.globals ∙ ap (λ (q : Props). q ++ rebuilt_props sites things (globals_of s)) made.globals;

@@ -1,7 +1,6 @@
 -- Things that get no new properties are prevented from them, and then all are as they were saved.
-use Rattle.std.proofs.Common.{◌≡◌, refl, sym, ap, subst, ◌∙◌, ℕ, ◌<◌, ◌≤◌, Bool, true, false, ◌||◌, List, [], ◌∷◌, ◌++◌, Option, length, arith, if◌then◌else◌}
+use Rattle.std.proofs.Common.{◌≡◌, refl, sym, ap, subst, ℕ, ◌<◌, ◌≤◌, Bool, true, false, ◌||◌, List, [], ◌∷◌, ◌++◌, length, if◌then◌else◌}
 use Rattle.std.proofs.lemmas.Bool.{or_from}
-use Rattle.js_values.specs.declared.ids.EnvId.{EnvId}
 use Rattle.js_values.specs.declared.throw.Throw.TheVariants.{CannotDefine}
 use Rattle.object_heap.specs.Attempt.{done, throws}
 use Rattle.object_heap.specs.Chain.{object_at}
@@ -16,9 +15,10 @@ use Rattle.rebuild_plan.specs.Plan.{prevent, thing_place}
 use Rattle.rebuild_plan.specs.declared.statement.Rebuild.{Rebuild}
 use Rattle.rebuild_plan.specs.declared.statement.Rebuild.TheVariants.{Prevent}
 use Rattle.rebuilding.specs.Rebuilt.{ClassIsRebuilt, IsRebuiltAs, Succeeds, bound, fault, list, nth, page, plain}
-use Rattle.rebuilding.specs.Scene.{IsRoundOf, Scene, bare, named}
+use Rattle.rebuilding.specs.Scene.{Scene}
 use Rattle.rebuilding.proofs.FillSteps.{class_window, filled}
 use Rattle.rebuilding.proofs.Going.{Allowed, Going, going_begins, prevent_next}
+use Rattle.rebuilding.proofs.Lasting.{round_stays}
 use Rattle.rebuilding.proofs.Stages.{IsFresh}
 use Rattle.rebuilding.proofs.Basics.{left}
 use Rattle.rebuilding.proofs.Placed.{site_thing}
@@ -49,7 +49,7 @@ module _ (c : Scene) (End : Contents → List ℕ → Type 0) (sites : List ℕ)
 
 pub prevent_step : (c : Scene) (End : Contents → List ℕ → Type 0) (s : Store) (things sites : List ℕ) (g : Contents)
     → ((n : ℕ) → n < length things
-    → IsFresh c g.environments things sites (nth sites n) (object_at s.heap.objects (nth things n)) (object_at g.objects (nth sites n)))
+    → IsFresh c g.environments s things sites (nth sites n) (object_at s.heap.objects (nth things n)) (object_at g.objects (nth sites n)))
     → StepSucceeds c End s things sites (filled g s things sites) (finished g s things sites) prevent_thing
 prevent_step c End s things sites g fresh n h rs inside running is allowed later =
     let young = fresh n inside in
@@ -61,22 +61,18 @@ prevent_step c End s things sites g fresh n h rs inside running is allowed later
 
 module _ (c : Scene) (es fs : List Environment) (more : length es ≤ length fs)
     (same : (k : ℕ) → k < length es → environment_at fs k ≡ environment_at es k) where
-  round_stays : {k : ℕ} {x : Option (List ℕ)} {round : Option EnvId} → IsRoundOf c es k x round → IsRoundOf c fs k x round
-  round_stays bare = bare
-  round_stays (named e there is) = named e (omega (arith, there, more)) (same e there ∙ is)
-
-  pub class_stays : {things sites : List ℕ} {k : ℕ} {C D : Class} → ClassIsRebuilt c es things sites k C D → ClassIsRebuilt c fs things sites k C D
+  pub class_stays : {s : Store} {things sites : List ℕ} {k : ℕ} {C D : Class} → ClassIsRebuilt c es s things sites k C D → ClassIsRebuilt c fs s things sites k C D
   class_stays plain = plain
   class_stays list = list
   class_stays fault = fault
-  class_stays (page {env = env} round) = page {env = env} (round_stays round)
+  class_stays (page {env = env} round) = page {env = env} (round_stays c es fs more same round)
   class_stays bound = bound
 
 -- a finished thing is the one that was saved
 pub finished_rebuilt : (c : Scene) (s : Store) (things sites : List ℕ) (g h : Contents) (n : ℕ) → length g.environments ≤ length h.environments
     → ((k : ℕ) → k < length g.environments → environment_at h.environments k ≡ environment_at g.environments k)
-    → IsFresh c g.environments things sites (nth sites n) (object_at s.heap.objects (nth things n)) (object_at g.objects (nth sites n))
-    → IsRebuiltAs c h.environments things sites (nth sites n) (object_at s.heap.objects (nth things n)) (finished g s things sites n)
+    → IsFresh c g.environments s things sites (nth sites n) (object_at s.heap.objects (nth things n)) (object_at g.objects (nth sites n))
+    → IsRebuiltAs c h.environments s things sites (nth sites n) (object_at s.heap.objects (nth things n)) (finished g s things sites n)
 finished_rebuilt c s things sites g h n more same fresh = record {
   class = class_stays c g.environments h.environments more same fresh.class;
   proto = fresh.proto;

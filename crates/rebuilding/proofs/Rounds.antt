@@ -1,40 +1,36 @@
--- What a function that was rebuilt finds round it: its own name as it was, and nothing else of the page.
-use Rattle.std.proofs.Common.{◌≡◌, refl, sym, ap, subst, ◌∙◌, ℕ, ◌<◌, Bool, true, false, not, cond, codes, List, [], ◌∷◌, Option, Some, None, length, bytes_eq, filter, map}
-use Rattle.std.proofs.lemmas.Bool.{and_parts}
+-- What a function that was rebuilt finds round it: its own name as it was, what it needs, and nothing else of the page.
+use Rattle.std.proofs.Common.{◌≡◌, refl, sym, ap, subst, ◌∙◌, ℕ, ◌<◌, Bool, true, false, not, List, [], ◌∷◌, Option, Some, None, length, filter, map}
 use Rattle.std.proofs.lemmas.Slice.Eq.{bytes_eq-Decides}
 use Rattle.std.specs.List.{list_all}
 use Rattle.std.specs.Option.{ForSome}
 use Rattle.code_table.specs.Declarations.{name_of}
 use Rattle.js_core.specs.Tree.{Code, func}
 use Rattle.js_values.specs.declared.ids.EnvId.{EnvId}
-use Rattle.js_values.specs.declared.value.Value.{Value}
 use Rattle.js_values.specs.declared.value.Value.TheVariants.{Object as Reference}
-use Rattle.object_heap.specs.Environment.{AreInside, Environment, environment_at, new_environment, value_of}
+use Rattle.object_heap.specs.Environment.{AreInside, Bound, environment_at}
 use Rattle.object_heap.specs.Heap.{Contents, first_bound, look_in, lookup}
 use Rattle.object_heap.proofs.Callers.{lookup_on}
 use Rattle.page_meaning.specs.Places.{at_place}
 use Rattle.page_meaning.specs.Store.{Store}
+use Rattle.scope_analysis.specs.FreeUses.{needed_variables}
 use Rattle.scope_analysis.specs.Identifiers.{is_reserved}
 use Rattle.scope_analysis.specs.Names.{is_among}
 use Rattle.scope_analysis.specs.Uses.{expr_uses}
-use Rattle.heap_relations.specs.Naming.{BaseRel, Named, named, Sealed, sealed, SealedRel, unbound, unused, World}
-use Rattle.heap_relations.specs.Related.{object}
+use Rattle.heap_relations.specs.Naming.{Absent, BaseRel, Named, named, Sealed, sealed, SealedRel, unbound, unused, World}
+use Rattle.heap_relations.specs.Related.{object, ValueRel}
 use Rattle.heap_walker.specs.Still.{has_name, IsFunctionAtRest, other_names, OwnName}
+use Rattle.heap_walker.specs.Things.{bound_value, needs_of}
+use Rattle.rebuild_plan.specs.Compact.{moved_needs, moved_value}
 use Rattle.rebuilding.specs.Frames.{is_own, keeps_round, round_frame}
 use Rattle.rebuilding.specs.Scene.{bare, env_at, IsRoundOf, IsRunning, named as with_name, Scene}
-use Rattle.rebuilding.proofs.Basics.{is_false, nothing, same_name}
+use Rattle.rebuilding.specs.Sites.{sited_needs, sited_value}
+use Rattle.rebuilding.proofs.Basics.{is_false, nothing}
+use Rattle.rebuilding.proofs.Closures.{binding_there}
+use Rattle.rebuilding.proofs.Held.{IsFound, needed_found, not_held, own_found, round_unbound, some_found}
 use Rattle.rebuilding.proofs.Naming.{rebuilt_world}
+use Rattle.rebuilding.proofs.Wrapped.{all_names}
 
 -- ---- names
-
--- what holds of all names holds of each
-all_names : (p : List ℕ → Bool) (xs : List (List ℕ)) (x : List ℕ) → list_all p xs ≡ true → is_among x xs ≡ true → p x ≡ true
-all_names p [] x all h = cc h
-all_names p (y ∷ ys) x all h = by (bytes_eq x y) refl (λ more. all_names p ys x (and_parts (p y) (list_all p ys) all).1 more)
-  where
-    by : (b : Bool) → bytes_eq x y ≡ b → (is_among x ys ≡ true → p x ≡ true) → p x ≡ true
-    by true same later = ap p ((bytes_eq-Decides x y).0 same) ∙ (and_parts (p y) (list_all p ys) all).0
-    by false other later = later (rw other at h)
 
 -- names that were kept pass the test
 kept_names : (p : List ℕ → Bool) (xs : List (List ℕ)) → list_all p (filter p xs) ≡ true
@@ -51,97 +47,92 @@ other_free c x h =
     let names : List (List ℕ) = map (λ u. u.name) (expr_uses (func c)) in
     is_false (is_reserved x) (all_names (λ y. not (is_reserved y)) (other_names c) x (kept_names (λ y. not (is_reserved y)) names) h)
 
--- ---- in the page that was rebuilt
-
-module _ (fs : List Environment) (ages : AreInside fs) where
-  -- what an environment that binds one name shows
-  found_at : (k : ℕ) (outer : Option EnvId) (y : List ℕ) (v : Value) → environment_at fs k ≡ new_environment outer ((y, v) ∷ []) → (x : List ℕ)
-      → lookup fs k x ≡ first_bound k (cond (bytes_eq x y) (Some v) None) outer (λ q. lookup fs q x)
-  found_at k outer y v is x = lookup_on fs k x ages ∙ ap (λ (e : Environment). first_bound k (value_of e.names x) e.outer (λ q. lookup fs q x)) is
-
-  own_found : (k : ℕ) (outer : Option EnvId) (y : List ℕ) (v : Value) → environment_at fs k ≡ new_environment outer ((y, v) ∷ [])
-      → lookup fs k y ≡ Some (env_at k, v)
-  own_found k outer y v is = found_at k outer y v is y ∙ ap (λ b. first_bound k (cond b (Some v) None) outer (λ q. lookup fs q y)) (same_name y)
-
-  module _ (c : Scene) (scope : environment_at fs c.env ≡ new_environment None ((codes "$$", Reference (at_place c.list)) ∷ [])) where
-    scope_unbound : (x : List ℕ) → is_reserved x ≡ false → lookup fs c.env x ≡ None
-    scope_unbound x free = by (bytes_eq x (codes "$$")) refl
-      where
-        by : (b : Bool) → bytes_eq x (codes "$$") ≡ b → lookup fs c.env x ≡ None
-        by true same = absurd (cc (free, ap is_reserved ((bytes_eq-Decides x (codes "$$")).0 same)))
-        by false other =
-            found_at c.env None (codes "$$") (Reference (at_place c.list)) scope x
-            ∙ ap (λ b. first_bound c.env (cond b (Some (Reference (at_place c.list))) None) None (λ q. lookup fs q x)) other
-
-    round_unbound : (k : ℕ) (name : Option (List ℕ)) (round : Option EnvId) → IsRoundOf c fs k name round → (x : List ℕ) → is_own name x ≡ false
-        → is_reserved x ≡ false → look_in fs round x ≡ None
-    round_unbound k name round bare x own free = scope_unbound x free
-    round_unbound k name round (with_name {x = y} e inside is) x own free =
-        found_at e (Some (env_at c.env)) y (Reference (at_place k)) is x
-        ∙ ap (λ b. first_bound e (cond b (Some (Reference (at_place k))) None) (Some (env_at c.env)) (λ q. lookup fs q x)) own
-        ∙ scope_unbound x free
-
--- ---- both
+-- ---- environments
 
 some_holds : {A : Type 0} (P : A → Type 0) (a : A) → P a → ForSome (Some a) P
 some_holds P a p x e = let same : a ≡ x = cc e in subst P same p
 
-round_inside : (c : Scene) (h : Contents) (sites : List ℕ) → IsRunning c h sites → (k : ℕ) (name : Option (List ℕ)) (round : Option EnvId)
-    → IsRoundOf c h.environments k name round
+round_inside : (c : Scene) (h : Contents) (sites : List ℕ) → IsRunning c h sites → (k : ℕ) (needs : Bound) (name : Option (List ℕ))
+    (round : Option EnvId) → IsRoundOf c h.environments k needs name round
     → ForSome round (λ e. e.0 < length h.environments)
-round_inside c h sites running k name round bare = some_holds (λ (e : EnvId). e.0 < length h.environments) (env_at c.env) running.scope_there
-round_inside c h sites running k name round (with_name e inside is) = some_holds (λ (d : EnvId). d.0 < length h.environments) (env_at e) inside
+round_inside c h sites running k needs name round (bare {b = b} binds) =
+    some_holds (λ (e : EnvId). e.0 < length h.environments) (env_at b) (binding_there c h sites needs b running binds)
+round_inside c h sites running k needs name round (with_name e binds inside is) =
+    some_holds (λ (d : EnvId). d.0 < length h.environments) (env_at e) inside
+
+-- ---- both
 
 module _ (c : Scene) (s : Store) (h : Contents) (things sites others : List ℕ) (ages : AreInside s.heap.environments)
-    (running : IsRunning c h others) where
+    (running : IsRunning c h others) (k j : ℕ) (pair : Named (rebuilt_world s h things sites) k j) (source : Code) (env round : Option EnvId)
+    (rest : IsFunctionAtRest s k source env)
+    (is : IsRoundOf c h.environments j (sited_needs sites (moved_needs things (needs_of s env source))) (name_of source) round)
+    (values : (x : List ℕ) → is_among x (needed_variables source) ≡ true
+    → ValueRel (named (rebuilt_world s h things sites)) (bound_value s env x) (sited_value sites (moved_value things (bound_value s env x)))) where
   abbrev W : World
   W = rebuilt_world s h things sites
 
-  sealed_name : (k j : ℕ) → Named W k j → (name : Option (List ℕ)) (env round : Option EnvId) → OwnName s k env name
-      → IsRoundOf c h.environments j name round
-      → (x : List ℕ) → is_own name x ≡ true → SealedRel (named W) Sealed (look_in s.heap.environments env x) (look_in h.environments round x)
-  sealed_name k j pair name env round own bare x h = absurd (cc h)
-  sealed_name k j pair name None round own (with_name e inside is) x g = absurd (cc own)
-  sealed_name k j pair name (Some d) round own (with_name {x = y} e inside is) x g =
+  abbrev t : Store
+  t = record { heap = h; lines = [] }
+
+  own_sealed : (name : Option (List ℕ)) (needs : Bound) (from to : Option EnvId) → OwnName s k from name → IsRoundOf c h.environments j needs name to
+      → (x : List ℕ) → is_own name x ≡ true → SealedRel (named W) Sealed (look_in s.heap.environments from x) (look_in h.environments to x)
+  own_sealed name needs from to own (bare binds) x g = absurd (cc g)
+  own_sealed name needs None to own (with_name e binds inside at) x g = absurd (cc own)
+  own_sealed name needs (Some d) to own (with_name {x = y} {b = b} e binds inside at) x g =
       let same : y ≡ x = sym ((bytes_eq-Decides x y).0 g) in
       let left : lookup s.heap.environments d.0 y ≡ Some (env_at d.0, Reference (at_place k)) =
       lookup_on s.heap.environments d.0 y ages
       ∙ ap (λ o. first_bound d.0 o (environment_at s.heap.environments d.0).outer (λ q. lookup s.heap.environments q y)) own
       in
       let right : lookup h.environments e y ≡ Some (env_at e, Reference (at_place j)) =
-      own_found h.environments running.sound.environments e (Some (env_at c.env)) y (Reference (at_place j)) is
+      own_found h.environments running.sound.environments e (Some (env_at b)) y (Reference (at_place j)) at
       in
       subst (λ z. SealedRel (named W) Sealed (lookup s.heap.environments d.0 z) (lookup h.environments e z)) same
       (rw (left, right) (sealed (object pair)))
 
-  names_round : (k j : ℕ) → Named W k j → (source : Code) (env round : Option EnvId) → IsFunctionAtRest s k source env
-      → IsRoundOf c h.environments j (name_of source) round
-      → (x : List ℕ) → SealedRel (named W) (keeps_round source x) (look_in s.heap.environments env x) (look_in h.environments round x)
-  names_round k j pair source env round rest is x = by (is_own (name_of source) x) refl (is_among x (other_names source)) refl
+  -- what it needs is bound on both sides, and the right holds the counterpart
+  needed_sealed : (x : List ℕ) → is_among x (needed_variables source) ≡ true
+      → SealedRel (named W) Sealed (look_in s.heap.environments env x) (look_in h.environments round x)
+  needed_sealed x among =
+      let was : IsFound (bound_value s env x) (look_in s.heap.environments env x) =
+      some_found (look_in s.heap.environments env x) (all_names (has_name s env) (needed_variables source) x rest.bound among)
+      in
+      let found = needed_found c s t things sites running.sound.environments j source env round is x among in
+      rw (was.is, found.is) (sealed (values x among))
+
+  other_absent : (x : List ℕ) → is_own (name_of source) x ≡ false → is_among x (needed_variables source) ≡ false
+      → is_among x (other_names source) ≡ true
+      → SealedRel (named W) Absent (look_in s.heap.environments env x) (look_in h.environments round x)
+  other_absent x own none among =
+      let left : look_in s.heap.environments env x ≡ None =
+      nothing (look_in s.heap.environments env x)
+      (is_false (has_name s env x) (all_names (λ y. not (has_name s env y)) (other_names source) x rest.alone among))
+      in
+      let right : look_in h.environments round x ≡ None =
+      round_unbound h.environments running.sound.environments c running.scope (sited_needs sites (moved_needs things (needs_of s env source))) j
+      (name_of source) round is x own (other_free source x among) (not_held s things sites env (needed_variables source) x none)
+      in
+      rw (left, right) unbound
+
+  names_round : (x : List ℕ) → SealedRel (named W) (keeps_round source x) (look_in s.heap.environments env x) (look_in h.environments round x)
+  names_round x = by (is_own (name_of source) x) refl (is_among x (needed_variables source)) refl (is_among x (other_names source)) refl
     where
-      by : (b : Bool) → is_own (name_of source) x ≡ b → (d : Bool) → is_among x (other_names source) ≡ d
+      by : (a : Bool) → is_own (name_of source) x ≡ a → (b : Bool) → is_among x (needed_variables source) ≡ b
+          → (d : Bool) → is_among x (other_names source) ≡ d
           → SealedRel (named W) (keeps_round source x) (look_in s.heap.environments env x) (look_in h.environments round x)
-      by true own d among = rw own (sealed_name k j pair (name_of source) env round rest.own_name is x own)
-      by false own true among =
-          let free : is_reserved x ≡ false = other_free source x among in
-          let left : look_in s.heap.environments env x ≡ None =
-          nothing (look_in s.heap.environments env x)
-          (is_false (has_name s env x) (all_names (λ y. not (has_name s env y)) (other_names source) x rest.alone among))
-          in
-          let right : look_in h.environments round x ≡ None =
-          round_unbound h.environments running.sound.environments c running.scope j (name_of source) round is x own free
-          in
-          rw (own, among, left, right) unbound
-      by false own false among = rw (own, among) unused
+      by true own b need d among =
+          rw own (own_sealed (name_of source) (sited_needs sites (moved_needs things (needs_of s env source))) env round rest.own_name is x own)
+      by false own true need d among = rw (own, need) (needed_sealed x need)
+      by false own false need true among = rw (own, need, among) (other_absent x own need among)
+      by false own false need false among = rw (own, need, among) unused
 
   -- no environment is that of a slot
-  pub base_rel : (k j : ℕ) → Named (rebuilt_world s h things sites) k j → (source : Code) (env round : Option EnvId)
-      → IsFunctionAtRest s k source env → IsRoundOf c h.environments j (name_of source) round
-      → BaseRel (rebuilt_world s h things sites) (record { one = env; two = round; frame = round_frame source }) s.heap.environments h.environments
-  base_rel k j pair source env round rest is = record {
-    names = λ x free. names_round k j pair source env round rest is x;
+  pub base_rel : BaseRel (rebuilt_world s h things sites) (record { one = env; two = round; frame = round_frame source }) s.heap.environments
+      h.environments
+  base_rel = record {
+    names = λ x free. names_round x;
     one_inside = rest.there;
-    two_inside = round_inside c h others running j (name_of source) round is;
-    one_apart = λ t i o. elim i [ ];
-    two_apart = λ t i o. elim i [ ];
+    two_inside = round_inside c h others running j (sited_needs sites (moved_needs things (needs_of s env source))) (name_of source) round is;
+    one_apart = λ u i o. elim i [ ];
+    two_apart = λ u i o. elim i [ ];
   }

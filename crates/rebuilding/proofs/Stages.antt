@@ -41,8 +41,8 @@ MadeProps (class.Bound target this args) thing made = BeginsAsBound thing made
 MadeProps c thing made = ⊥
 
 -- the thing is as its maker left it
-pub record IsFresh (c : Scene) (es : List Environment) (things sites : List ℕ) (k : ℕ) (thing o : Object) : Type 0 where
-  pub class : ClassIsRebuilt c es things sites k thing.class o.class
+pub record IsFresh (c : Scene) (es : List Environment) (s : Store) (things sites : List ℕ) (k : ℕ) (thing o : Object) : Type 0 where
+  pub class : ClassIsRebuilt c es s things sites k thing.class o.class
   pub proto : o.proto ≡ sited_proto sites (moved_proto things thing.proto)
   pub extensible : o.extensible ≡ true
   pub closed : o.closed ≡ false
@@ -53,5 +53,5 @@ pub record Made (c : Scene) (s : Store) (things : List ℕ) (h : Contents) (site
   pub running : IsRunning c h sites
   pub count : length sites ≡ length things
   pub each : (n : ℕ) → n < length things
-      → IsFresh c h.environments things sites (nth sites n) (object_at s.heap.objects (nth things n)) (object_at h.objects (nth sites n))
+      → IsFresh c h.environments s things sites (nth sites n) (object_at s.heap.objects (nth things n)) (object_at h.objects (nth sites n))
   pub globals : (object_at h.objects window.0).props ≡ (built_in_at window.0).props

@@ -32,7 +32,7 @@ use Rattle.page_meaning.specs.Store.{Store, with_heap}
 use Rattle.page_meaning.specs.declared.signal.Signal.{Signal}
 use Rattle.page_meaning.specs.declared.signal.Signal.TheVariants.{Value as Val}
 use Rattle.page_writer.specs.Literals.{IsLiteral, maker_values}
-use Rattle.page_writer.specs.Statements.{define_expr, function_expr, maker_expr, short_descriptor, statement, whole_descriptor}
+use Rattle.page_writer.specs.Statements.{define_expr, maker_expr, short_descriptor, statement, whole_descriptor}
 use Rattle.rebuild_plan.specs.Stands.{maker_names}
 use Rattle.rebuild_plan.specs.declared.statement.Maker.{Maker}
 use Rattle.rebuild_plan.specs.declared.statement.Maker.TheVariants.{Plain, List as Array, Fault, Func, Bind}
@@ -40,13 +40,13 @@ use Rattle.rebuild_plan.specs.declared.statement.Rebuild.{Rebuild}
 use Rattle.rebuild_plan.specs.declared.statement.Rebuild.TheVariants.{Make, Define, DefinePrototype, DefineLength, Prevent}
 use Rattle.rebuilding.specs.Running.{CanBeMade, CanDefine, CanMake, CanPrevent, CanRun, HasChanged, IsMade, Runs, StatementsRun, short_change, whole_change}
 use Rattle.rebuilding.specs.Scene.{IsRoundOf, IsRunning, Scene, inside, is_site, list_of}
-use Rattle.rebuilding.specs.Sites.{site, sited, sited_prop, sited_value}
+use Rattle.rebuilding.specs.Sites.{site, sited, sited_needs, sited_prop, sited_value}
 use Rattle.rebuilding.proofs.Calling.{also_on}
 use Rattle.rebuilding.proofs.Changing.{IsChanged, defined_at, prevented_at}
-use Rattle.rebuilding.proofs.Closures.{function_made}
 use Rattle.rebuilding.proofs.List.{list_grown, with_thing}
 use Rattle.rebuilding.proofs.Literals.{literal_object, literal_running, short_asks, short_fields, short_names, short_read, whole_asks, whole_names, whole_read, with_literal}
 use Rattle.rebuilding.proofs.Making.{Makes, array_made, bound_made, error_made, plain_made}
+use Rattle.rebuilding.proofs.Needs.{function_made, needy_function_made}
 use Rattle.rebuilding.proofs.Reading.{thing_assigned, thing_put_and_given}
 use Rattle.rebuilding.proofs.Rows.{define_ran, length_defined, other_defined, prevent_ran}
 use Rattle.rebuilding.proofs.Staying.{all_through, site_stands, site_there, stands_site, stays_changed, stays_made, stays_on}
@@ -74,7 +74,7 @@ made_still c h i j sites p o (Func k needs) same f = record {
   round = f.round;
   prototype = f.prototype;
   object = f.object;
-  is_round = subst (λ es. IsRoundOf c es p (name_of k) f.round) same f.is_round;
+  is_round = subst (λ es. IsRoundOf c es p (sited_needs sites needs) (name_of k) f.round) same f.is_round;
 }
 made_still c h i j sites k o (Bind target this args) same f = f
 
@@ -86,9 +86,8 @@ module _ (c : Scene) (s : Store) (sites : List ℕ) (r : IsRunning c s.heap site
   makes_so (Plain proto) stands able range = plain_made c s sites r lead each d n proto stands
   makes_so Array stands able range = array_made c s sites r (suc d) (suc n)
   makes_so (Fault kind) stands able range = error_made c s sites r d n kind
-  makes_so (Func k needs) stands able range =
-      subst (λ ns. Makes c s sites (Func k ns) (suc n) ((eval (calls_at (suc d)) (inside c) (function_expr k ns)).run s (suc n))) (sym able)
-      (function_made c s sites r (calls_at (suc d)) (suc n) k)
+  makes_so (Func k []) stands able range = function_made c s sites r k (calls_at (suc d)) (suc n)
+  makes_so (Func k (x ∷ xs)) stands able range = needy_function_made c s sites r k (x ∷ xs) d n lead each stands range
   makes_so (Bind target this args) stands able range = bound_made c s sites r lead each d n target this args stands range able
 
   make_runs : (number : ℕ) (m : Maker) → CanBeMade s.heap sites number m

@@ -89,7 +89,7 @@ own_of_made s o class.Window made is was begins = cc is
 own_of_made s o (class.Node m) made is was begins = cc is
 own_of_made s o (class.Event parts) made is was begins = cc is
 
-function_again : {c : Scene} {es : List Environment} {things sites : List ℕ} {k : ℕ} {a d : Class} → ClassIsRebuilt c es things sites k a d
+function_again : {c : Scene} {es : List Environment} {s : Store} {things sites : List ℕ} {k : ℕ} {a d : Class} → ClassIsRebuilt c es s things sites k a d
     → is_function (Some a) ≡ true → is_function (Some d) ≡ true
 function_again plain is = is
 function_again list is = is
@@ -101,7 +101,7 @@ function_again bound is = refl
 
 module _ (c : Scene) (s : Store) (things : List ℕ) (h : Contents) (sites : List ℕ) (still : Still s) (walk : IsWalk s things)
     (running : IsRunning c h sites)
-    (fresh : (n : ℕ) → n < length sites → IsFresh c h.environments things sites (nth sites n) (object_at s.heap.objects (nth things n))
+    (fresh : (n : ℕ) → n < length sites → IsFresh c h.environments s things sites (nth sites n) (object_at s.heap.objects (nth things n))
     (object_at h.objects (nth sites n))) where
   prototype_same : object_at h.objects function_prototype.0 ≡ built_in_at function_prototype.0
   prototype_same = running.built_ins function_prototype.0 (omega arith) function_low
@@ -139,8 +139,8 @@ module _ (c : Scene) (s : Store) (things : List ℕ) (h : Contents) (sites : Lis
           let below : i < length sites = omega (arith, place, ltb-true (place_of things target.0) (built_in_count + length sites) stands) in
           let o : Object = object_at s.heap.objects target.0 in
           let made : Object = object_at h.objects (nth sites i) in
-          let f : IsFresh c h.environments things sites (nth sites i) o made =
-          subst (λ k. IsFresh c h.environments things sites (nth sites i) (object_at s.heap.objects k) made) same (fresh i below)
+          let f : IsFresh c h.environments s things sites (nth sites i) o made =
+          subst (λ k. IsFresh c h.environments s things sites (nth sites i) (object_at s.heap.objects k) made) same (fresh i below)
           in
           let was : HasShape s o o.class = still.shaped.made target.0 (thing_of s target.0 (walk.sound target.0 found)) in
           let own : (p : Prop) × (own_length o ≡ Some p) × (own_length made ≡ Some p) = own_of_made s o o.class made is was f.props in

@@ -1,5 +1,5 @@
 -- Uses of names that are reached from inside a function or a catch clause, where those that it leaves are reached from round it.
-use Rattle.std.proofs.Common.{◌≡◌, refl, sym, ap, ◌∙◌, ℕ, Bool, true, false, true≢false, ◌||◌, List, [], ◌∷◌, ◌++◌, Option, Some, None, bytes_eq, length, if◌then◌else◌}
+use Rattle.std.proofs.Common.{◌≡◌, refl, sym, ap, ◌∙◌, ℕ, Bool, true, false, true≢false, ◌||◌, List, [], ◌∷◌, ◌++◌, Option, Some, None, bytes_eq, if◌then◌else◌}
 use Rattle.std.specs.List.{list_all}
 use Rattle.std.proofs.lemmas.Bool.{and_from, and_parts, or_left, or_parts}
 use Rattle.std.proofs.lemmas.List.Folds.{list_all-append, list_any-append}
@@ -62,12 +62,12 @@ kept_reached assigns false k p h = h
 
 own_bound : (x : Option (List ℕ)) (fs : List Frame) (y : List ℕ) → is_among y (maybe_name x) ≡ true → resolve (own_frames x fs) y ≡ Itself
 own_bound None fs y h = absurd (true≢false (sym h))
-own_bound (Some x) fs y h = kept_bound (is_among y (x ∷ [])) (length fs) (resolve fs y) h
+own_bound (Some x) fs y h = kept_bound (is_among y (x ∷ [])) 0 (resolve fs y) h
 
 own_reached : (x : Option (List ℕ)) (fs : List Frame) (assigns : Bool) (y : List ℕ) → is_reached assigns (resolve fs y) ≡ true
     → is_reached assigns (resolve (own_frames x fs) y) ≡ true
 own_reached None fs assigns y h = h
-own_reached (Some x) fs assigns y h = kept_reached assigns (is_among y (x ∷ [])) (length fs) (resolve fs y) h
+own_reached (Some x) fs assigns y h = kept_reached assigns (is_among y (x ∷ [])) 0 (resolve fs y) h
 
 -- ---- functions and catch clauses inside
 
@@ -95,10 +95,10 @@ through_clause x fs (u ∷ us) h = by_case (bytes_eq u.name x) refl h (through_c
         → are_reached (frame_of (x ∷ []) ∷ fs) (u ∷ us) ≡ true
     by_case true e k r =
         let bound : is_among u.name (x ∷ []) ≡ true = or_left _ _ e in
-        and_from _ _ (ap (is_reached u.assigns) (kept_bound (is_among u.name (x ∷ [])) (length fs) (resolve fs u.name) bound)) (r k)
+        and_from _ _ (ap (is_reached u.assigns) (kept_bound (is_among u.name (x ∷ [])) 0 (resolve fs u.name) bound)) (r k)
     by_case false e k r =
         let p = and_parts _ _ k in
-        and_from _ _ (kept_reached u.assigns (is_among u.name (x ∷ [])) (length fs) (resolve fs u.name) p.0) (r p.1)
+        and_from _ _ (kept_reached u.assigns (is_among u.name (x ∷ [])) 0 (resolve fs u.name) p.0) (r p.1)
 
 pub left_of_or : (a b : Bool) → (a || b) ≡ true → b ≡ false → a ≡ true
 left_of_or true b h e = refl
@@ -112,11 +112,11 @@ function_binds x formals body fs none y h = by_case (is_among y (bound_names (co
   where
     by_case : (b : Bool) → is_among y (bound_names (code x formals body)) ≡ b → resolve (entry_frame formals body ∷ own_frames x fs) y ≡ Itself
     by_case true e =
-        kept_bound (binds formals body y) (length (own_frames x fs)) (resolve (own_frames x fs) y) (entry_binds formals body y none e)
+        kept_bound (binds formals body y) 0 (resolve (own_frames x fs) y) (entry_binds formals body y none e)
     by_case false e =
         let parts = list_any-append (bytes_eq y) (maybe_name x) (bound_names (code x formals body)) in
         let own : is_among y (maybe_name x) ≡ true = left_of_or _ _ (sym parts ∙ h) e in
-        kept_itself (binds formals body y) (length (own_frames x fs)) (resolve (own_frames x fs) y) (own_bound x fs y own)
+        kept_itself (binds formals body y) 0 (resolve (own_frames x fs) y) (own_bound x fs y own)
 
 pub inside_function : {fs : List Frame} (x : Option (List ℕ)) (formals : List (List ℕ)) (body : tree.Stmts)
     → Apt fs (leaving_function (maybe_name x ++ bound_names (code x formals body)) (stmts_uses body)) (stmts_any is_declaration body)
@@ -131,7 +131,7 @@ inside_function {fs = fs} x formals body h = record {
     keeps : (assigns : Bool) (y : List ℕ) → is_reached assigns (resolve fs y) ≡ true
         → is_reached assigns (resolve (entry_frame formals body ∷ own_frames x fs) y) ≡ true
     keeps assigns y k =
-        kept_reached assigns (binds formals body y) (length (own_frames x fs)) (resolve (own_frames x fs) y) (own_reached x fs assigns y k)
+        kept_reached assigns (binds formals body y) 0 (resolve (own_frames x fs) y) (own_reached x fs assigns y k)
 
 pub inside_clause : {fs : List Frame} {declares : Bool} (x : List ℕ) (ss : tree.Stmts) → Apt fs (leaving_clause x (stmts_uses ss)) declares
     → Apt (frame_of (x ∷ []) ∷ fs) (stmts_uses ss) declares

@@ -1,59 +1,50 @@
 -- The sites are what can be reached in the page that was rebuilt.
-use Rattle.std.proofs.Common.{◌≡◌, inl, inr, refl, sym, ap, subst, ◌∙◌, ℕ, ◌<◌, ◌≤◌, true, nat_le, nat_lt, drop, map, List, [], ◌∷◌, ◌++◌, Option, length, arith}
+use Rattle.std.proofs.Common.{◌≡◌, inl, inr, refl, sym, ap, subst, ◌∙◌, ℕ, ◌<◌, ◌≤◌, true, nat_le, nat_lt, drop, map, List, [], ◌∷◌, ◌++◌, length, arith}
 use Rattle.std.proofs.Math.Seq.{drop-append_seam}
 use Rattle.std.proofs.lemmas.Bool.{and_parts, le-leb, leb-true, lt-ltb}
 use Rattle.std.proofs.lemmas.List.{map-append}
-use Rattle.js_core.specs.Tree.{Code}
-use Rattle.js_values.specs.declared.ids.EnvId.{EnvId}
 use Rattle.object_heap.specs.Chain.{object_at}
-use Rattle.object_heap.specs.Environment.{Environment}
+use Rattle.object_heap.specs.Environment.{AreInside}
 use Rattle.object_heap.specs.Heap.{Contents}
 use Rattle.object_heap.specs.Object.{Object}
 use Rattle.object_heap.specs.Property.{Props}
 use Rattle.object_heap.specs.declared.object.Class.{Class}
-use Rattle.object_heap.specs.declared.object.Class.TheVariants as class
 use Rattle.object_shapes.specs.Links.{built_in_count, is_thing, props_links, proto_links, value_links, values_links}
 use Rattle.object_shapes.specs.Shapes.{built_in_at, built_in_globals}
 use Rattle.page_meaning.specs.Places.{window}
 use Rattle.page_meaning.specs.Store.{Store}
-use Rattle.scope_analysis.specs.FreeUses.{needed_variables}
 use Rattle.heap_walker.specs.Still.{Still}
-use Rattle.heap_walker.specs.Things.{IsWalk, Reach, bound_values, class_links, globals_of, is_in, link, links, needs_links, root, roots}
+use Rattle.heap_walker.specs.Things.{IsWalk, Reach, class_links, globals_of, is_in, link, links, needs_links, needs_of, root, roots}
 use Rattle.heap_walker.proofs.Callers.{links_in_walk, roots_in_walk}
 use Rattle.rebuild_plan.specs.Compact.{moved_props}
 use Rattle.rebuilding.specs.Rebuilt as rebuilt
-use Rattle.rebuilding.specs.Rebuilt.{ClassIsRebuilt, IsRebuilt, IsRebuiltAs, NeedNone, nth}
+use Rattle.rebuilding.specs.Rebuilt.{ClassIsRebuilt, IsRebuilt, IsRebuiltAs, nth}
 use Rattle.rebuilding.specs.Scene.{Scene}
 use Rattle.rebuilding.specs.Sites.{site, sited_props}
 use Rattle.rebuilding.proofs.Agreeing.{site_parts}
 use Rattle.rebuilding.proofs.Basics.{both}
-use Rattle.rebuilding.proofs.Carried.{AreYoung, IsMadeOf, carried, carried_at, from_mapped, in_mapped, props_carried, proto_carried, value_carried, values_carried}
-use Rattle.rebuilding.proofs.Counterparts.{IsKnown, simple_at, young_at}
+use Rattle.rebuilding.proofs.Carried.{AreYoung, IsMadeOf, carried, carried_at, from_mapped, in_mapped, needs_carried, props_carried, proto_carried, value_carried, values_carried}
+use Rattle.rebuilding.proofs.Counterparts.{IsKnown, young_at}
 use Rattle.rebuilding.proofs.Globals.{counted}
+use Rattle.rebuilding.proofs.Held.{needs_same}
 use Rattle.rebuilding.proofs.Naming.{site_of_built_in}
 use Rattle.rebuilding.proofs.Placed.{number_at, place_in, site_thing}
 
--- a function that needs no variables refers to none
-no_needs : (s : Store) (env : Option EnvId) (xs : List (List ℕ)) → xs ≡ [] → needs_links (bound_values s env xs) ≡ []
-no_needs s env xs none = ap (λ ys. needs_links (bound_values s env ys)) none
-
-class_carried : (c : Scene) (es : List Environment) (s t : Store) (things sites : List ℕ) (k : ℕ) (a b : Class)
-    → ((source : Code) (env : Option EnvId) → a ≡ class.Page source env → needed_variables source ≡ [])
-    → ClassIsRebuilt c es things sites k a b → class_links t b ≡ map (carried things sites) (class_links s a)
-class_carried c es s t things sites k a b none rebuilt.plain = refl
-class_carried c es s t things sites k a b none rebuilt.list = refl
-class_carried c es s t things sites k a b none rebuilt.fault = refl
-class_carried c es s t things sites k a b none (rebuilt.page {code = source} {env = env} {round = round} r) =
-    let needs : needed_variables source ≡ [] = none source env refl in
-    no_needs t round (needed_variables source) needs ∙ ap (map (carried things sites)) (sym (no_needs s env (needed_variables source) needs))
-class_carried c es s t things sites k a b none (rebuilt.bound {target = target} {this = this} {args = args}) =
+class_carried : (c : Scene) (s t : Store) (things sites : List ℕ) → AreInside t.heap.environments → (k : ℕ) (a b : Class)
+    → ClassIsRebuilt c t.heap.environments s things sites k a b → class_links t b ≡ map (carried things sites) (class_links s a)
+class_carried c s t things sites ages k a b rebuilt.plain = refl
+class_carried c s t things sites ages k a b rebuilt.list = refl
+class_carried c s t things sites ages k a b rebuilt.fault = refl
+class_carried c s t things sites ages k a b (rebuilt.page {code = source} {env = env} {round = round} r) =
+    ap needs_links (needs_same c s t things sites ages k source env round r) ∙ needs_carried things sites (needs_of s env source)
+class_carried c s t things sites ages k a b (rebuilt.bound {target = target} {this = this} {args = args}) =
     let one = value_carried things sites this in
     let others = values_carried things sites args in
     ap (λ ks. carried things sites target.0 ∷ ks)
     ((λ i. one i ++ others i) ∙ sym (map-append (carried things sites) (value_links this) (values_links args)))
 
 module _ (c : Scene) (s : Store) (things : List ℕ) (h : Contents) (sites : List ℕ) (still : Still s) (walk : IsWalk s things)
-    (need_none : NeedNone s things) (is : IsRebuilt c s things h sites) where
+    (is : IsRebuilt c s things h sites) where
   abbrev t : Store
   t = record { heap = h; lines = [] }
 
@@ -83,11 +74,10 @@ module _ (c : Scene) (s : Store) (things : List ℕ) (h : Contents) (sites : Lis
   links_same n below =
       let o : Object = object_at s.heap.objects (nth things n) in
       let p : Object = object_at h.objects (nth sites n) in
-      let made_as : IsRebuiltAs c h.environments things sites (nth sites n) o p = is.each n below in
+      let made_as : IsRebuiltAs c h.environments s things sites (nth sites n) o p = is.each n below in
       let above : proto_links p.proto ≡ map to (proto_links o.proto) = ap proto_links made_as.proto ∙ proto_carried things sites o.proto in
       let parts : class_links t p.class ≡ map to (class_links s o.class) =
-      class_carried c h.environments s t things sites (nth sites n) o.class p.class
-      (λ source env e. (simple_at s things still walk need_none n below source env e).none) made_as.class
+      class_carried c s t things sites is.running.sound.environments (nth sites n) o.class p.class made_as.class
       in
       let held : props_links p.props ≡ map to (props_links o.props) = ap props_links made_as.props ∙ props_carried things sites o.props in
       (λ i. above i ++ (parts i ++ held i))

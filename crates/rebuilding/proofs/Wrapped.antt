@@ -1,23 +1,29 @@
 -- What a function at rest is known for, as part of the script that it is wrapped in: no function is declared in it, it does not assign to its
--- own name, and where it needs no variables, all that it leaves are its other names.
+-- own name or to what it needs, and all else that it leaves are its other names.
 use Rattle.std.proofs.Common.{◌≡◌, refl, sym, ap, subst, ◌∙◌, ℕ, Bool, true, false, true≢false, cond, not, ◌&&◌, ◌||◌, List, [], ◌∷◌, ◌++◌, Option, Some, None, IsTrue, bytes_eq, filter, map, if◌then◌else◌}
-use Rattle.std.specs.List.{find, list_any}
+use Rattle.std.specs.List.{find, list_all}
+use Rattle.std.proofs.Math.Bool.{or-false, or_assoc}
 use Rattle.std.proofs.lemmas.Bool.{and_parts, or_left, or_parts, or_right}
+use Rattle.std.proofs.lemmas.List.{append-nil}
+use Rattle.std.proofs.lemmas.List.Folds.{list_any-append}
 use Rattle.std.proofs.lemmas.Slice.Eq.{bytes_eq-Decides}
-use Rattle.indexmap.specs.IndexSet.{insert_all}
+use Rattle.code_table.specs.Declarations.{name_of}
+use Rattle.indexmap.specs.IndexSet.{insert_all, insert_key}
 use Rattle.js_core.specs.Tree as tree
 use Rattle.js_core.specs.Tree.{code, func}
+use Rattle.page_writer.specs.Statements.{giving}
 use Rattle.heap_walker.specs.Still.{other_names, wrapped}
 use Rattle.scope_analysis.specs.EarlyRules.{assigns_maybe, assigns_own, breaks, early_rule, early_rules}
-use Rattle.scope_analysis.specs.Form.{has_inner_declaration, has_open_reserved, in_form, is_declaration, scope_out_of_form}
+use Rattle.scope_analysis.specs.Form.{has_inner_declaration, has_open_reserved, in_form, is_constant, is_declaration, is_opened, may_be_captured, scope_out_of_form}
 use Rattle.scope_analysis.specs.FreeUses.{needed_variables}
 use Rattle.scope_analysis.specs.Identifiers.{is_reserved}
-use Rattle.scope_analysis.specs.Names.{bound_names, is_among}
+use Rattle.scope_analysis.specs.Names.{bound_names, is_among, maybe_name}
 use Rattle.scope_analysis.specs.Nodes.{code_any, stmts_any}
 use Rattle.scope_analysis.specs.Scopes.{once_each}
-use Rattle.scope_analysis.specs.Uses.{expr_uses, is_assigned, stmts_uses}
+use Rattle.scope_analysis.specs.Uses.{crossing, expr_uses, is_assigned, is_captured, leaving_function, stmts_uses}
 use Rattle.scope_analysis.specs.declared.early_rule.EarlyRule.{EarlyRule}
 use Rattle.scope_analysis.specs.declared.early_rule.EarlyRule.TheVariants as rule
+use Rattle.scope_analysis.specs.declared.name_use.Use.{Use}
 use Rattle.rebuilding.specs.Frames.{is_own}
 
 -- ---- no function is declared in it
@@ -25,6 +31,10 @@ use Rattle.rebuilding.specs.Frames.{is_own}
 not_false : (b : Bool) → not b ≡ true → b ≡ false
 not_false true h = sym h
 not_false false h = refl
+
+not_true : (b : Bool) → not b ≡ false → b ≡ true
+not_true true h = refl
+not_true false h = sym h
 
 -- the wrapping function is called, and returns it
 wrapped_declares : (c : tree.Code) → has_inner_declaration (wrapped c) ≡ false → code_any is_declaration c ≡ false
@@ -110,29 +120,152 @@ among_passed p (x ∷ xs) y h e = by_case (bytes_eq y x) refl h (among_passed p 
     by_case true f k r = found (p x) (ap p (sym ((bytes_eq-Decides y x).0 f)) ∙ e) f
     by_case false f k r = more (p x) (r k e)
 
-some_stay : (x : List ℕ) (ks xs : List (List ℕ)) → insert_all bytes_eq (x ∷ ks) xs ≡ [] → ⊥
-some_stay x ks [] h = cc h
-some_stay x ks (y ∷ ys) h = by_case (list_any (bytes_eq y) (x ∷ ks)) h (λ ls. some_stay x ls ys)
+-- a name stands among names once each where it stands among the names
+once_more : (ks : List (List ℕ)) (y x : List ℕ) → is_among x (insert_key bytes_eq ks y) ≡ (is_among x ks || bytes_eq x y)
+once_more ks y x = by_case (is_among y ks) refl
   where
-    by_case : (b : Bool) → insert_all bytes_eq (if b then x ∷ ks else ((x ∷ ks) ++ y ∷ [])) ys ≡ []
-        → ((ls : List (List ℕ)) → insert_all bytes_eq (x ∷ ls) ys ≡ [] → ⊥) → ⊥
-    by_case true k r = r ks k
-    by_case false k r = r (ks ++ y ∷ []) k
+    there : (b : Bool) → bytes_eq x y ≡ b → is_among y ks ≡ true → is_among x ks ≡ (is_among x ks || b)
+    there true same old = let known = ap (λ z. is_among z ks) ((bytes_eq-Decides x y).0 same) ∙ old in rw known refl
+    there false other old = sym (or-false (is_among x ks))
 
-none_once : (xs : List (List ℕ)) → once_each xs ≡ [] → xs ≡ []
-none_once [] h = refl
-none_once (x ∷ xs) h = absurd (some_stay x [] xs h)
+    by_case : (b : Bool) → is_among y ks ≡ b → is_among x (insert_key bytes_eq ks y) ≡ (is_among x ks || bytes_eq x y)
+    by_case true old = rw old (there (bytes_eq x y) refl old)
+    by_case false new = rw new (list_any-append (bytes_eq x) ks (y ∷ []) ∙ ap (λ b. is_among x ks || b) (or-false (bytes_eq x y)))
+
+among_all : (ks xs : List (List ℕ)) (x : List ℕ) → is_among x (insert_all bytes_eq ks xs) ≡ (is_among x ks || is_among x xs)
+among_all ks [] x = sym (or-false (is_among x ks))
+among_all ks (y ∷ ys) x =
+    among_all (insert_key bytes_eq ks y) ys x ∙ ap (λ b. b || is_among x ys) (once_more ks y x)
+    ∙ or_assoc (is_among x ks) (bytes_eq x y) (is_among x ys)
+
+among_once : (xs : List (List ℕ)) (x : List ℕ) → is_among x (once_each xs) ≡ is_among x xs
+among_once xs x = among_all [] xs x
 
 abbrev pub names_left : tree.Code → List (List ℕ)
 names_left c = map (λ u. u.name) (expr_uses (func c))
 
-pub left_are_others : (c : tree.Code) → needed_variables c ≡ [] → (y : List ℕ) → is_among y (names_left c) ≡ true
+-- where it does not need the name
+pub left_are_others : (c : tree.Code) (y : List ℕ) → is_among y (names_left c) ≡ true → is_among y (needed_variables c) ≡ false
     → is_among y (other_names c) ≡ true
-left_are_others c none y h = by_case (is_reserved y) refl
+left_are_others c y h none = by_case (is_reserved y) refl
   where
     by_case : (b : Bool) → is_reserved y ≡ b → is_among y (other_names c) ≡ true
     by_case true e =
-        let there = among_passed is_reserved (names_left c) y h e in
-        let gone = ap (is_among y) (none_once (filter is_reserved (names_left c)) none) in
-        absurd (true≢false (sym there ∙ gone))
+        let needed = among_once (filter is_reserved (names_left c)) y ∙ among_passed is_reserved (names_left c) y h e in
+        absurd (true≢false (sym needed ∙ none))
     by_case false e = among_passed (λ x. not (is_reserved x)) (names_left c) y h (ap not e)
+
+-- ---- what it needs is not assigned, nor its own name
+
+among_kept : (p : List ℕ → Bool) (xs : List (List ℕ)) (y : List ℕ) → is_among y (filter p xs) ≡ true → is_among y xs ≡ true
+among_kept p [] y h = h
+among_kept p (x ∷ xs) y h = by_case (p x) h (among_kept p xs y)
+  where
+    by_case : (b : Bool) → is_among y (cond b (x ∷ filter p xs) (filter p xs)) ≡ true → (is_among y (filter p xs) ≡ true → is_among y xs ≡ true)
+        → is_among y (x ∷ xs) ≡ true
+    by_case true k r = inside (bytes_eq y x) k r
+      where
+        inside : (b : Bool) → (b || is_among y (filter p xs)) ≡ true → (is_among y (filter p xs) ≡ true → is_among y xs ≡ true)
+            → (b || is_among y xs) ≡ true
+        inside true k r = refl
+        inside false k r = r k
+    by_case false k r = or_right _ _ (r k)
+
+-- it leaves what it needs
+pub needed_left : (c : tree.Code) (y : List ℕ) → is_among y (needed_variables c) ≡ true → is_among y (names_left c) ≡ true
+needed_left c y h = among_kept is_reserved (names_left c) y (sym (among_once (filter is_reserved (names_left c)) y) ∙ h)
+
+-- what is left is not bound
+left_free : (bound : List (List ℕ)) (us : List Use) (y : List ℕ) → is_among y (map (λ u. u.name) (leaving_function bound us)) ≡ true
+    → is_among y bound ≡ false
+left_free bound [] y h = cc h
+left_free bound (u ∷ us) y h = by_case (is_among u.name bound) refl h (left_free bound us y)
+  where
+    at_head : (b : Bool) → bytes_eq y u.name ≡ b → is_among u.name bound ≡ false
+        → (b || is_among y (map (λ u. u.name) (leaving_function bound us))) ≡ true
+        → (is_among y (map (λ u. u.name) (leaving_function bound us)) ≡ true → is_among y bound ≡ false) → is_among y bound ≡ false
+    at_head true same e k r = ap (λ z. is_among z bound) ((bytes_eq-Decides y u.name).0 same) ∙ e
+    at_head false other e k r = r k
+
+    by_case : (b : Bool) → is_among u.name bound ≡ b
+        → is_among y (map (λ u. u.name) (if b then leaving_function bound us else (crossing u ∷ leaving_function bound us))) ≡ true
+        → (is_among y (map (λ u. u.name) (leaving_function bound us)) ≡ true → is_among y bound ≡ false) → is_among y bound ≡ false
+    by_case true e k r = r k
+    by_case false e k r = at_head (bytes_eq y u.name) refl e k r
+
+pub needed_not_own : (c : tree.Code) (y : List ℕ) → is_among y (needed_variables c) ≡ true → is_own (name_of c) y ≡ false
+needed_not_own (code None formals body) y h = refl
+needed_not_own (code (Some x) formals body) y h =
+    (or_parts _ _ (left_free (x ∷ bound_names (code (Some x) formals body)) (stmts_uses body) y (needed_left (code (Some x) formals body) y h))).0
+
+-- a function inside the wrapping one uses what is left
+left_captured : (bound : List (List ℕ)) (us : List Use) (y : List ℕ) → is_among y (map (λ u. u.name) (leaving_function bound us)) ≡ true
+    → is_captured y (leaving_function bound us) ≡ true
+left_captured bound [] y h = h
+left_captured bound (u ∷ us) y h = by_case (is_among u.name bound) h (left_captured bound us y)
+  where
+    at_head : (b : Bool) → bytes_eq y u.name ≡ b → (b || is_among y (map (λ u. u.name) (leaving_function bound us))) ≡ true
+        → (is_among y (map (λ u. u.name) (leaving_function bound us)) ≡ true → is_captured y (leaving_function bound us) ≡ true)
+        → is_captured y (crossing u ∷ leaving_function bound us) ≡ true
+    at_head true same k r =
+        or_left (bytes_eq u.name y) (is_captured y (leaving_function bound us))
+        ((bytes_eq-Decides u.name y).1 (sym ((bytes_eq-Decides y u.name).0 same)))
+    at_head false other k r = or_right (bytes_eq u.name y) (is_captured y (leaving_function bound us)) (r k)
+
+    by_case : (b : Bool)
+        → is_among y (map (λ u. u.name) (if b then leaving_function bound us else (crossing u ∷ leaving_function bound us))) ≡ true
+        → (is_among y (map (λ u. u.name) (leaving_function bound us)) ≡ true → is_captured y (leaving_function bound us) ≡ true)
+        → is_captured y (if b then leaving_function bound us else (crossing u ∷ leaving_function bound us)) ≡ true
+    by_case true k r = r k
+    by_case false k r = at_head (bytes_eq y u.name) refl k r
+
+names_captured : (c : tree.Code) (y : List ℕ) → is_among y (names_left c) ≡ true → is_captured y (expr_uses (func c)) ≡ true
+names_captured (code x formals body) y h = left_captured (maybe_name x ++ bound_names (code x formals body)) (stmts_uses body) y h
+
+-- what holds of all names holds of each
+pub all_names : (p : List ℕ → Bool) (xs : List (List ℕ)) (x : List ℕ) → list_all p xs ≡ true → is_among x xs ≡ true → p x ≡ true
+all_names p [] x all h = cc h
+all_names p (y ∷ ys) x all h = by (bytes_eq x y) refl (λ more. all_names p ys x (and_parts (p y) (list_all p ys) all).1 more)
+  where
+    by : (b : Bool) → bytes_eq x y ≡ b → (is_among x ys ≡ true → p x ≡ true) → p x ≡ true
+    by true same later = ap p ((bytes_eq-Decides x y).0 same) ∙ (and_parts (p y) (list_all p ys) all).0
+    by false other later = later (rw other at h)
+
+-- the function of the needed variables, which stands round it
+abbrev round : tree.Code → tree.Code
+round c = code None (needed_variables c) (giving c)
+
+abbrev fits_round : tree.Code → List Use → List ℕ → Bool
+fits_round c uses y = may_be_captured (needed_variables c) [] (giving c) uses y
+
+round_in_form : (c : tree.Code) → stmts_any scope_out_of_form (wrapped c) ≡ false
+    → list_all (fits_round c (expr_uses (func c) ++ [])) (needed_variables c ++ []) ≡ true
+round_in_form c h =
+    let p = or_parts _ _ h in
+    let q = or_parts _ _ p.0 in
+    let r = or_parts _ _ q.0 in
+    (and_parts _ _ (not_true _ r.0)).0
+
+constant : (c : tree.Code) (uses : List Use) (y : List ℕ) → fits_round c uses y ≡ true → is_captured y uses ≡ true
+    → is_among y (needed_variables c) ≡ true → is_assigned y uses ≡ false
+constant c uses y fits captured needed =
+    by_case (is_captured y uses) (is_among y (needed_variables c)) captured needed fits
+  where
+    by_case : (a b : Bool) → a ≡ true → b ≡ true
+        → (not a || (is_reserved y && (if b then is_constant [] uses y else is_opened [] (giving c) uses y))) ≡ true
+        → is_assigned y uses ≡ false
+    by_case false b e f k = absurd (true≢false (sym e))
+    by_case true false e f k = absurd (true≢false (sym f))
+    by_case true true e f k = not_false (is_assigned y uses) (and_parts _ _ (and_parts (is_reserved y) (is_constant [] uses y) k).1).0
+
+-- it assigns nothing that it needs
+pub needed_unassigned : (c : tree.Code) → IsTrue (in_form (wrapped c)) → (y : List ℕ) → is_among y (needed_variables c) ≡ true
+    → is_assigned y (expr_uses (func c)) ≡ false
+needed_unassigned c h y needed =
+    let script = wrapped c in
+    let front = and_parts (not (has_open_reserved script) && not (has_inner_declaration script)) (not (stmts_any scope_out_of_form script)) h in
+    let all = round_in_form c (not_false (stmts_any scope_out_of_form script) front.1) in
+    let all_same = subst (λ us. list_all (fits_round c us) (needed_variables c ++ []) ≡ true) (append-nil (expr_uses (func c))) all in
+    let all_needed = subst (λ xs. list_all (fits_round c (expr_uses (func c))) xs ≡ true) (append-nil (needed_variables c)) all_same in
+    constant c (expr_uses (func c)) y (all_names (fits_round c (expr_uses (func c))) (needed_variables c) y all_needed needed)
+    (names_captured c y (needed_left c y needed)) needed

@@ -1,24 +1,23 @@
 -- A saved page goes on as the page that was saved.
 use Rattle.std.specs.Prelude.{◌≡◌, ℕ, ◌<◌, List, [], ◌∷◌, drop, length, ◌+◌, ◌≤◌}
+use Rattle.agreement.specs.Acts.{StoreRel}
+use Rattle.agreement.specs.Trees.{HasEqualTrees}
+use Rattle.heap_relations.specs.Naming.{World}
 use Rattle.heap_walker.specs.Still.{Still}
 use Rattle.heap_walker.specs.Things.{IsWalk}
+use Rattle.js_core.specs.Tree.{Stmts}
 use Rattle.js_values.specs.declared.event.Event.{Event}
-use Rattle.page_meaning.specs.Pages.{load_of, run_all}
-use Rattle.page_meaning.specs.Store.{Store}
 use Rattle.page_meaning.specs.Act.{Ended}
 use Rattle.page_meaning.specs.Calls.{calls_at}
+use Rattle.page_meaning.specs.Pages.{load_of, run_all}
 use Rattle.page_meaning.specs.Pristine.{pristine}
+use Rattle.page_meaning.specs.Store.{Store}
 use Rattle.page_meaning.specs.Tasks.{Script, depth_limit, step_limit, task_of}
 use Rattle.page_meaning.specs.declared.signal.Signal.{Signal}
-use Rattle.js_core.specs.Tree.{Stmts}
 use Rattle.page_writer.specs.Literals.{HaveLiterals}
 use Rattle.page_writer.specs.Script.{saved_script}
 use Rattle.rebuild_plan.specs.Compact.{compact}
 use Rattle.rebuild_plan.specs.Plan.{plan}
-use Rattle.agreement.specs.Acts.{StoreRel}
-use Rattle.agreement.specs.Trees.{HasEqualTrees}
-use Rattle.heap_relations.specs.Naming.{World}
-use Rattle.rebuilding.specs.Rebuilt.{NeedNone}
 
 -- a page that was saved and the one that was rebuilt from it agree
 pub record Agrees (s t : Store) : Type 0 where
@@ -26,11 +25,10 @@ pub record Agrees (s t : Store) : Type 0 where
   pub trees : HasEqualTrees world
   pub stores : StoreRel world s t
 
--- a page at rest whose functions need no variables, whose plan has fewer statements than a script has steps
+-- a page at rest, whose plan has fewer statements than a script has steps
 pub record CanBeRebuilt (s : Store) (things : List ℕ) : Type 0 where
   pub still : Still s
   pub walk : IsWalk s things
-  pub need_none : NeedNone s things
   pub in_range : HaveLiterals (plan (compact s things))
   pub few : length (plan (compact s things)) < step_limit
 

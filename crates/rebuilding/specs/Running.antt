@@ -11,7 +11,7 @@ use Rattle.js_values.specs.declared.value.Value.{Value}
 use Rattle.js_values.specs.declared.value.Value.TheVariants.{Object as Reference}
 use Rattle.object_heap.specs.Chain.{get, object_at}
 use Rattle.object_heap.specs.Define.{define_own, length_name, number, prevented}
-use Rattle.object_heap.specs.Environment.{environment_at}
+use Rattle.object_heap.specs.Environment.{Bound, environment_at}
 use Rattle.object_heap.specs.Function.{prototype_name}
 use Rattle.object_heap.specs.Heap.{Contents, new_object}
 use Rattle.object_heap.specs.Object.{Object, is_list, whole_object}
@@ -38,7 +38,7 @@ use Rattle.rebuild_plan.specs.declared.statement.Maker.TheVariants.{Plain, List 
 use Rattle.rebuild_plan.specs.declared.statement.Rebuild.{Rebuild}
 use Rattle.rebuild_plan.specs.declared.statement.Rebuild.TheVariants.{Make, Define, DefinePrototype, DefineLength, Prevent}
 use Rattle.rebuilding.specs.Scene.{IsRoundOf, IsRunning, Scene, inside}
-use Rattle.rebuilding.specs.Sites.{site, sited, sited_proto, sited_value, sited_values}
+use Rattle.rebuilding.specs.Sites.{site, sited, sited_needs, sited_proto, sited_value, sited_values}
 use Rattle.object_shapes.specs.Shapes.{built_in_at}
 use Rattle.object_shapes.specs.Links.{built_in_count, value_links, all_below}
 
@@ -56,9 +56,8 @@ short_change sites v writable = record { value = Some (sited_value sites v); wri
 abbrev pub Stand : List ℕ → List ℕ → Type 0
 Stand sites ks = IsTrue (all_below (built_in_count + length sites) ks)
 
--- a function needs no variables, and what is bound is a function, which has `bind`
+-- what is bound is a function, which has `bind`
 abbrev pub CanMake : Contents → List ℕ → Maker → Type 0
-CanMake h sites (Func body needs) = needs ≡ []
 CanMake h sites (Bind target this args) =
     IsTrue (is_function (Some (object_at h.objects (site sites target.0)).class))
     × (get h.objects (site sites target.0) (codes "bind") ≡ Some (Reference (function_at FunctionPrototypeBind)))
@@ -107,19 +106,19 @@ pub record Stays (h i : Contents) (but : List ℕ) : Type 0 where
   pub more_environments : length h.environments ≤ length i.environments
   pub environments : (k : ℕ) → k < length h.environments → environment_at i.environments k ≡ environment_at h.environments k
 
--- a function of a page at the place, in one of its environments; it has a `prototype` of its own
-pub record IsFunction (c : Scene) (i : Contents) (k : ℕ) (code : Code) (o : Object) : Type 0 where
+-- a function of a page at the place, in the environments that bind what it needs and its name; it has a `prototype` of its own
+pub record IsFunction (c : Scene) (i : Contents) (k : ℕ) (code : Code) (needs : Bound) (o : Object) : Type 0 where
   pub round : Option EnvId
   pub prototype : ℕ
   pub object : o ≡ function_object code round prototype
-  pub is_round : IsRoundOf c i.environments k (name_of code) round
+  pub is_round : IsRoundOf c i.environments k needs (name_of code) round
 
 -- the object is what a maker makes of the page, at the place
 abbrev pub IsMade : Scene → Contents → Contents → List ℕ → ℕ → Maker → Object → Type 0
 IsMade c h i sites k (Plain proto) o = o ≡ new_object class.Plain (sited_proto sites proto)
 IsMade c h i sites k Array o = o ≡ new_object class.List (Some array_prototype)
 IsMade c h i sites k (Fault kind) o = o ≡ whole_object class.Fault (Some (error_prototype kind)) []
-IsMade c h i sites k (Func body needs) o = IsFunction c i k body o
+IsMade c h i sites k (Func body needs) o = IsFunction c i k body (sited_needs sites needs) o
 IsMade c h i sites k (Bind target this args) o =
     o ≡ bound_object (sited sites target) (sited_value sites this) (sited_values sites args) (length_of (sited sites target) (with_heap pristine h))
 

@@ -7,7 +7,7 @@ use Rattle.js_values.specs.declared.ids.EnvId.{EnvId}
 use Rattle.js_values.specs.declared.value.Value.TheVariants.{Object as Reference}
 use Rattle.object_heap.specs.Chain.{object_at}
 use Rattle.object_heap.specs.Define.{length_name, number}
-use Rattle.object_heap.specs.Environment.{Environment, environment_at, new_environment}
+use Rattle.object_heap.specs.Environment.{Bound, Environment, environment_at, new_environment}
 use Rattle.object_heap.specs.Heap.{Contents, IsSound}
 use Rattle.object_heap.specs.Object.{Object, whole_object}
 use Rattle.object_heap.specs.Property.{Props}
@@ -45,11 +45,17 @@ list_of sites = whole_object class.List (Some array_prototype) ((length_name, li
 
 -- ---- the environments of a function
 
--- a function at this place stands in that of the catch clause; where it has a name, one between binds the name to it
-pub data IsRoundOf (c : Scene) (es : List Environment) (k : ℕ) : Option (List ℕ) → Option EnvId → Type 0 where
-  bare : IsRoundOf c es k None (Some (env_at c.env))
-  named : {x : List ℕ} (e : ℕ) → e < length es → environment_at es e ≡ new_environment (Some (env_at c.env)) ((x, Reference (at_place k)) ∷ [])
-      → IsRoundOf c es k (Some x) (Some (env_at e))
+-- the environment that binds these names to these values: one in that of the catch clause, or where there are none, that itself
+pub data IsBinding (c : Scene) (es : List Environment) : Bound → ℕ → Type 0 where
+  none_needed : IsBinding c es [] c.env
+  needed : {names : Bound} (e : ℕ) → e < length es → environment_at es e ≡ new_environment (Some (env_at c.env)) names → IsBinding c es names e
+
+-- a function at this place stands in the environment that binds what it needs; where it has a name, one between binds the name to it
+pub data IsRoundOf (c : Scene) (es : List Environment) (k : ℕ) (needs : Bound) : Option (List ℕ) → Option EnvId → Type 0 where
+  bare : {b : ℕ} → IsBinding c es needs b → IsRoundOf c es k needs None (Some (env_at b))
+  named : {x : List ℕ} {b : ℕ} (e : ℕ) → IsBinding c es needs b → e < length es
+      → environment_at es e ≡ new_environment (Some (env_at b)) ((x, Reference (at_place k)) ∷ [])
+      → IsRoundOf c es k needs (Some x) (Some (env_at e))
 
 -- ---- the page
 

@@ -5,6 +5,7 @@ use Rattle.js_values.specs.declared.ids.ObjId.{ObjId}
 use Rattle.js_values.specs.declared.value.Value.{Value}
 use Rattle.js_values.specs.declared.value.Value.TheVariants.{Object as Reference}
 use Rattle.object_heap.specs.Define.{with_value}
+use Rattle.object_heap.specs.Environment.{Bound}
 use Rattle.object_heap.specs.Property.{Props}
 use Rattle.object_heap.specs.declared.property.Prop.{Prop}
 use Rattle.object_shapes.specs.Links.{built_in_count}
@@ -23,6 +24,11 @@ sited_value sites v = v
 abbrev pub sited_values : List ℕ → List Value → List Value
 sited_values sites [] = []
 sited_values sites (v ∷ vs) = sited_value sites v ∷ sited_values sites vs
+
+-- names with what they hold
+abbrev pub sited_needs : List ℕ → List (List ℕ × Value) → Bound
+sited_needs sites [] = []
+sited_needs sites (n ∷ ns) = (n.0, sited_value sites n.1) ∷ sited_needs sites ns
 
 abbrev pub sited_proto : List ℕ → Option ObjId → Option ObjId
 sited_proto sites None = None

@@ -16,7 +16,7 @@ pub fn law_statements_run()
     law_paths_lead();
 }
 
-/// The statements of the plan of a page at rest whose functions need no variables can run one after another, and leave that page.
+/// The statements of the plan of a page at rest can run one after another, and leave that page.
 pub fn law_plans_rebuild()
     ensures { PlansRebuild }
 {}

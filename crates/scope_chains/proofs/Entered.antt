@@ -24,16 +24,16 @@ use Rattle.scope_chains.proofs.Stay.{step_levels, step_own}
 
 -- ---- the names that a body declares, in two parts
 
-same_declarators : (ds : tree.Declarators) → names.declarator_names ds ≡ held.declarator_names ds
+pub same_declarators : (ds : tree.Declarators) → names.declarator_names ds ≡ held.declarator_names ds
 same_declarators no_declarators = refl
 same_declarators (then_declarator x e ds) = ap (λ xs. x ∷ xs) (same_declarators ds)
 
-same_init : (i : tree.ForInit) → names.init_names i ≡ held.init_names i
+pub same_init : (i : tree.ForInit) → names.init_names i ≡ held.init_names i
 same_init no_init = refl
 same_init (init_var ds) = same_declarators ds
 same_init (init_expr e) = refl
 
-same_target : (declared : Bool) (t : tree.Expr) → names.target_names declared t ≡ held.target_names declared t
+pub same_target : (declared : Bool) (t : tree.Expr) → names.target_names declared t ≡ held.target_names declared t
 same_target true (name x) = refl
 same_target true t = refl
 same_target false t = refl
@@ -108,7 +108,7 @@ declared_parts x (then_stmt (switch e cs) ss) h = plain x (switch e cs) ss (no_f
 
 -- ---- what an environment binds at entry
 
-arguments_bound : (xs : List (List ℕ)) (vs : List Value) (x : List ℕ) → is_some (value_of (with_arguments xs vs) x) ≡ is_among x xs
+pub arguments_bound : (xs : List (List ℕ)) (vs : List Value) (x : List ℕ) → is_some (value_of (with_arguments xs vs) x) ≡ is_among x xs
 arguments_bound [] vs x = refl
 arguments_bound (y ∷ ys) [] x = by_case (bytes_eq x y) refl (arguments_bound ys [] x)
   where
@@ -133,7 +133,7 @@ last_bound (p ∷ ps) y x = by_case (bytes_eq x p.0) refl (last_bound ps y x)
     by_case true e r = rw (e) refl
     by_case false e r = rw (e) r
 
-names_bound : (b : Bound) (xs : List (List ℕ)) (x : List ℕ) → is_some (value_of (with_names b xs) x) ≡ (is_some (value_of b x) || is_among x xs)
+pub names_bound : (b : Bound) (xs : List (List ℕ)) (x : List ℕ) → is_some (value_of (with_names b xs) x) ≡ (is_some (value_of b x) || is_among x xs)
 names_bound b [] x = or_none (is_some (value_of b x))
 names_bound b (y ∷ ys) x = by_case (is_some (value_of b y)) refl (names_bound b ys x) (names_bound (b ++ (y, Undefined) ∷ []) ys x)
   where

@@ -1,4 +1,5 @@
 pub mod Among
+pub mod Callers
 pub mod Entered
 pub mod Found
 pub mod Stay
