@@ -1,9 +1,9 @@
--- What every function in a script of a form page is, alone in a call, and that pages in form are at rest.
+-- What every function in a script of a form page is, in a call that binds its needed variables, and that pages in form are at rest.
 pub mod AskedTrees
+pub mod Assigning
 pub mod Formed
 pub mod FormParts
-pub mod KeptRules
-pub mod NoNeeds
+pub mod NeededNames
 pub mod Pieces
 pub mod Reached
 pub mod Resting

@@ -1,44 +1,36 @@
--- A page in form is at rest between two events, where its functions stand alone.
-use Rattle.std.proofs.Common.{◌≡◌, refl, subst, sym, ℕ, ◌<◌, ◌≤◌, true, not, ◌&&◌, ◌||◌, List, [], ◌∷◌, Option, Some, None, length, All, arith}
-use Rattle.std.specs.List.{list_all}
+-- A page in form is at rest between two events, where its functions can be made again.
+use Rattle.std.proofs.Common.{◌≡◌, refl, subst, ℕ, ◌<◌, true, List, [], ◌∷◌, Option, Some, None, length, All}
 use Rattle.std.specs.Option.{ForSome}
 use Rattle.std.proofs.lemmas.Bool.{and_from, and_parts}
-use Rattle.std.proofs.lemmas.Bool.Decides.{nat_tests}
 use Rattle.std.proofs.lemmas.List.Elements.{All-head, All-tail}
 use Rattle.agreement.proofs.Callers.{asked_scripts_fit, function_read}
 use Rattle.agreement.specs.Acts.{StoreRel}
 use Rattle.agreement.specs.Laws.{FittingPagesAgree}
-use Rattle.agreement.specs.Trees.{HasEqualTrees, is_low, scripts_fit, stmts_fit}
+use Rattle.agreement.specs.Trees.{HasEqualTrees, scripts_fit, stmts_fit}
 use Rattle.heap_relations.specs.Naming.{Named, World}
-use Rattle.heap_walker.specs.Still.{IsFunctionAtRest, has_name, wrapped}
-use Rattle.heap_walker.specs.Things.{Reach, bound_values, needs_links}
-use Rattle.js_core.specs.Height.{stmts_height}
+use Rattle.heap_walker.specs.Remade.{CanBeRemade}
+use Rattle.heap_walker.specs.Still.{IsFunctionAtRest, wrapped}
+use Rattle.heap_walker.specs.Things.{Reach}
 use Rattle.js_core.specs.Tree as tree
 use Rattle.js_core.specs.Tree.{func}
 use Rattle.js_values.specs.declared.ids.EnvId.{EnvId}
 use Rattle.object_heap.specs.Chain.{object_at}
 use Rattle.object_heap.specs.declared.object.Class.TheVariants as class
-use Rattle.object_shapes.specs.Links.{all_below}
 use Rattle.page_meaning.specs.Pages.{run_of}
 use Rattle.page_meaning.specs.Store.{Store}
 use Rattle.scope_analysis.specs.EarlyRules.{early_rule}
 use Rattle.scope_analysis.specs.Form.{in_form}
-use Rattle.scope_analysis.specs.FreeUses.{needed_variables}
 use Rattle.page_rest.proofs.AskedTrees.{functions_are_asked}
 use Rattle.page_rest.proofs.Reached.{reached_named}
 use Rattle.page_rest.proofs.Trees.{code_is}
-use Rattle.heap_walker.specs.Alone.{StandsAlone}
-use Rattle.page_rest.specs.Asks.{IsFormScript, is_asked, is_formed, is_no, is_none}
+use Rattle.page_rest.specs.Asks.{is_asked, is_formed, is_no}
 use Rattle.page_rest.specs.Laws.{IsInForm, PagesRest}
 use Rattle.page_rest.specs.Trees.{keeps_code}
 
 -- ---- scripts
 
-form_is_low : (script : tree.Stmts) → IsFormScript script → is_low script ≡ true
-form_is_low script is = let low : stmts_height script ≤ 420 = is.low in grind (arith, nat_tests)
-
 script_is_asked : (script : tree.Stmts) → IsInForm script → stmts_fit is_asked [] script ≡ true
-script_is_asked script h = asked_scripts_fit is_asked script (functions_are_asked script h.0 h.1) (form_is_low script h.0)
+script_is_asked script h = asked_scripts_fit is_asked script (functions_are_asked script h.0 h.1)
 
 scripts_are_asked : (scripts : List tree.Stmts) → All IsInForm scripts → scripts_fit is_asked scripts ≡ true
 scripts_are_asked [] h = refl
@@ -52,21 +44,15 @@ no_rule : {A : Type 0} (o : Option A) → is_no o ≡ true → o ≡ None
 no_rule None e = refl
 no_rule (Some x) e = absurd (cc e)
 
--- a function that needs no variables has form, and breaks no rule
-formed_alone : (c : tree.Code) → is_formed c ≡ true → needed_variables c ≡ [] → (in_form (wrapped c) && is_no (early_rule (wrapped c))) ≡ true
-formed_alone c e none = subst (λ xs. (not (is_none xs) || (in_form (wrapped c) && is_no (early_rule (wrapped c)))) ≡ true) none e
-
 function_at_rest : (s : Store) (k : ℕ) (c : tree.Code) (env : Option EnvId) → is_asked c ≡ true
-    → ForSome env (λ e. e.0 < length s.heap.environments) → StandsAlone s k c env → IsFunctionAtRest s k c env
+    → ForSome env (λ e. e.0 < length s.heap.environments) → CanBeRemade s k c env → IsFunctionAtRest s k c env
 function_at_rest s k c env asked there h =
-    let whole : (in_form (wrapped c) && is_no (early_rule (wrapped c))) ≡ true =
-    formed_alone c (and_parts (keeps_code c) (is_formed c) asked).1 h.none_needed in
-    let parts = and_parts (in_form (wrapped c)) (is_no (early_rule (wrapped c))) whole in
+    let parts = and_parts (in_form (wrapped c)) (is_no (early_rule (wrapped c))) (and_parts (keeps_code c) (is_formed c) asked).1 in
     record {
       there = there;
-      bound = subst (λ xs. list_all (has_name s env) xs ≡ true) (sym h.none_needed) refl;
-      older = subst (λ xs. all_below k (needs_links (bound_values s env xs)) ≡ true) (sym h.none_needed) refl;
-      alone = h.alone;
+      bound = h.bound;
+      older = h.older;
+      alone = h.unbound;
       own_name = h.own_name;
       formed = parts.0;
       orderly = no_rule (early_rule (wrapped c)) parts.1;
@@ -84,17 +70,16 @@ function_asked {c = c} g trees asked n e =
 -- ---- pages
 
 pub pages_rest : FittingPagesAgree → PagesRest
-pages_rest agree scripts es things all walk alone =
+pages_rest agree scripts es things all walk remade =
     let s : Store = run_of scripts es in
     let h = agree is_asked scripts es (scripts_are_asked scripts all) in
-    let names : (k : ℕ) → Reach s k → Named h.world k k =
-    reached_named h.stores (λ k r c env e. (alone k c env (walk.complete k r) e).none_needed) in (
+    let names : (k : ℕ) → Reach s k → Named h.world k k = reached_named h.stores h.trees h.none_rebuilt in (
       record {
         sound = h.stores.heap.left;
         shaped = h.stores.shaped;
         functions = λ k c env r e.
             let read = function_asked h.stores h.trees h.asked (names k r) e in
-            function_at_rest s k c env read.0 read.1 (alone k c env (walk.complete k r) e);
+            function_at_rest s k c env read.0 read.1 (remade k c env (walk.complete k r) e);
       },
       λ k c env r e.
           let read = function_asked h.stores h.trees h.asked (names k r) e in

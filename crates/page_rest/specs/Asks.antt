@@ -1,5 +1,6 @@
--- What holds of each function in a script of a form page, wherever it stands: alone in a call, it is a script of a form page, too.
-use Rattle.std.specs.Prelude.{◌≡◌, ◌≤◌, Bool, true, false, not, ◌&&◌, ◌||◌, List, [], ◌∷◌, Option, Some, None}
+-- What holds of each function in a script of a form page, wherever it stands: alone in a call that binds its needed variables, it is a script of
+-- a form page, too.
+use Rattle.std.specs.Prelude.{◌≡◌, ◌≤◌, Bool, true, false, not, ◌&&◌, Option, Some, None}
 use Rattle.heap_walker.specs.Still.{wrapped}
 use Rattle.js_core.specs.Height.{stmts_height}
 use Rattle.js_core.specs.Tree as tree
@@ -8,20 +9,14 @@ use Rattle.js_grammar.specs.Syntax.{IsSyntax}
 use Rattle.page_rest.specs.Trees.{keeps_code}
 use Rattle.scope_analysis.specs.EarlyRules.{early_rule}
 use Rattle.scope_analysis.specs.Form.{in_form}
-use Rattle.scope_analysis.specs.FreeUses.{needed_variables}
 use Rattle.scope_analysis.specs.Nodes.{Node, expression, statement, stmts_any}
-
-abbrev pub is_none : {A : Type 0} → List A → Bool
-is_none [] = true
-is_none (x ∷ xs) = false
 
 abbrev pub is_no : {A : Type 0} → Option A → Bool
 is_no None = true
 is_no (Some x) = false
 
--- of a function that needs no variables of the scopes round it
 abbrev pub is_formed : tree.Code → Bool
-is_formed c = not (is_none (needed_variables c)) || (in_form (wrapped c) && is_no (early_rule (wrapped c)))
+is_formed c = in_form (wrapped c) && is_no (early_rule (wrapped c))
 
 -- it keeps the rules on trees, too
 abbrev pub is_asked : tree.Code → Bool

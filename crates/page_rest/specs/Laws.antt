@@ -13,7 +13,7 @@ use Rattle.object_heap.specs.declared.object.Class.TheVariants as class
 use Rattle.heap_walker.specs.Things.{Reach}
 use Rattle.page_meaning.specs.Pages.{run_of}
 use Rattle.page_meaning.specs.Store.{Store}
-use Rattle.heap_walker.specs.Alone.{StandAlone}
+use Rattle.heap_walker.specs.Remade.{AllCanBeRemade}
 use Rattle.page_rest.specs.Asks.{IsFormScript}
 
 -- a script of a form page, as tokens have it
@@ -25,8 +25,8 @@ abbrev pub HasSyntax : Store → Type 0
 HasSyntax s =
     (k : ℕ) (c : tree.Code) (env : Option EnvId) → Reach s k → (object_at s.heap.objects k).class ≡ class.Page c env → IsExpr (func c)
 
--- after its scripts and any events a page in form is at rest, where its functions stand alone, and their codes have tokens
+-- after its scripts and any events a page in form is at rest, where its functions can be made again, and their codes have tokens
 abbrev pub PagesRest : Type 0
 PagesRest =
     (scripts : List tree.Stmts) (es : List Event) (things : List ℕ) → All IsInForm scripts → IsWalk (run_of scripts es) things
-    → StandAlone (run_of scripts es) things → Still (run_of scripts es) × HasSyntax (run_of scripts es)
+    → AllCanBeRemade (run_of scripts es) things → Still (run_of scripts es) × HasSyntax (run_of scripts es)

@@ -5,12 +5,12 @@ ghost use Rattle.page_rest.specs.Laws.{PagesRest};
 
 use agreement::law_fitting_pages_agree;
 
-/// Each function in a script of a form page is, alone, a script of one.
+/// Each function in a script of a form page is a script of one, in a call that binds its needed variables.
 pub fn law_functions_are_asked()
     ensures { FunctionsAreAsked }
 {}
 
-/// A page in form is at rest between two events, where its functions stand alone.
+/// A page in form is at rest between two events, where its functions can be made again.
 pub fn law_pages_rest()
     ensures { PagesRest }
 {
