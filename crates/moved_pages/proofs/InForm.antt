@@ -1,120 +1,30 @@
 -- An accepted script that is in form is one of a form page.
-use Rattle.std.proofs.Common.{◌≡◌, refl, sym, ap, subst, ◌∙◌, ℕ, ◌-◌, ◌<◌, ◌≤◌, ◌/◌, ◌%◌, ◌+◌, Bool, true, false, ◌&&◌, cond, nat_le, nat_lt, List, [], ◌∷◌, ◌++◌, arith}
-use Rattle.std.specs.Prelude.{◌==◌, codes, if◌then◌else◌}
-use Rattle.std.specs.Char.Escape.{encode_utf16}
-use Rattle.std.specs.List.{All, flat_map, list_all}
-use Rattle.std.specs.Prelude.{IsUtf8}
-use Rattle.std.specs.Str.{all_scalars}
-use Rattle.std.proofs.lemmas.Bool.{and_from, and_parts, lt-ltb, ltb-false, ltb-true, or_parts}
+use Rattle.std.proofs.Common.{◌≡◌, sym, subst, ℕ, ◌≤◌, Bool, true, false, nat_lt, List, [], ◌∷◌, arith}
+use Rattle.std.specs.List.{All, list_all}
+use Rattle.std.proofs.lemmas.Bool.{and_parts, ltb-false, or_parts}
 use Rattle.std.proofs.lemmas.List.Elements.{All-cons, All-nil}
-use Rattle.std.proofs.lemmas.List.Folds.{list_all-append}
-use Rattle.std.proofs.lemmas.Str.{chars-encodes}
 use Rattle.js_core.specs.Height.{stmts_height}
-use Rattle.js_core.specs.Text.{AllUnits, utf16_of}
 use Rattle.js_core.specs.Tree as tree
 use Rattle.js_grammar.specs.Scripts.{TokensHaveSyntax}
-use Rattle.js_lexer.specs.Written.{is_unit}
 use Rattle.js_print.specs.Written.{TokensCanBeWritten}
-use Rattle.page_check.specs.Accept.{is_too_deep, text_of}
-use Rattle.page_check.specs.Frame.{IsFramePage, begins_with_line_feed, body_text, opening_text, with_line_feeds}
+use Rattle.page_check.specs.Accept.{is_too_deep}
 use Rattle.page_check.specs.declared.page.Kind.{Kind}
 use Rattle.page_check.specs.declared.page.Kind.TheVariants.{Plain, Form}
 use Rattle.page_rest.specs.Laws.{IsInForm}
+use Rattle.printed_pages.proofs.Callers.{accepted_scripts_have_syntax}
 use Rattle.scope_analysis.specs.Form.{has_high_function, in_form}
 use Rattle.moved_pages.specs.Moved.{AcceptedScriptsAreInForm}
-
--- ---- heights
 
 low_of : (kind : Kind) (script : tree.Stmts) → is_too_deep kind script ≡ false → stmts_height script ≤ 420
 low_of Plain script h = omega (arith, ltb-false 200 (stmts_height script) h)
 low_of Form script h = ltb-false 420 (stmts_height script) (or_parts (nat_lt 420 (stmts_height script)) (has_high_function script) h).0
 
--- ---- 16-bit units
-
-scalar_low : (c : ℕ) → all_scalars (c ∷ []) ≡ true → c < 1114112
-scalar_low c h = by (nat_lt c 55296) refl (nat_le 57344 c) h
-  where
-    by : (a : Bool) → nat_lt c 55296 ≡ a → (b : Bool) → (cond a true (b && nat_lt c 1114112) && true) ≡ true → c < 1114112
-    by true e b g = omega (arith, ltb-true c 55296 e)
-    by false e b g = ltb-true c 1114112 (and_parts b (nat_lt c 1114112) (and_parts (b && nat_lt c 1114112) true g).0).1
-
-low_unit : (u : ℕ) → u < 65536 → is_unit u ≡ true
-low_unit u h = lt-ltb u 65536 h
-
-high_unit : (c : ℕ) → c < 1114112 → is_unit (0xD800 + (c - 0x1_0000) / 0x400) ≡ true
-high_unit c h = low_unit (0xD800 + (c - 0x1_0000) / 0x400) (omega arith)
-
-last_unit : (c : ℕ) → is_unit (0xDC00 + (c - 0x1_0000) % 0x400) ≡ true
-last_unit c = low_unit (0xDC00 + (c - 0x1_0000) % 0x400) (omega arith)
-
-units_of_one : (c : ℕ) → c < 1114112 → list_all is_unit (encode_utf16 c) ≡ true
-units_of_one c h = by (nat_lt c 0x1_0000) refl
-  where
-    by : (b : Bool) → nat_lt c 0x1_0000 ≡ b → list_all is_unit (encode_utf16 c) ≡ true
-    by true e = rw e (and_from (is_unit c) true (low_unit c (ltb-true c 0x1_0000 e)) refl)
-    by false e = rw e (and_from _ _ (high_unit c h) (and_from _ true (last_unit c) refl))
-
-units_of : (cs : List ℕ) → all_scalars cs ≡ true → list_all is_unit (flat_map encode_utf16 cs) ≡ true
-units_of [] h = refl
-units_of (c ∷ cs) h =
-    let parts = and_parts (cond (nat_lt c 55296) true (nat_le 57344 c && nat_lt c 1114112)) (all_scalars cs) h in
-    list_all-append is_unit (encode_utf16 c) (flat_map encode_utf16 cs)
-    ∙ and_from (list_all is_unit (encode_utf16 c)) (list_all is_unit (flat_map encode_utf16 cs))
-    (units_of_one c (scalar_low c (and_from _ true parts.0 refl))) (units_of cs parts.1)
-
-text_units : (bytes : List ℕ) → IsUtf8 bytes → list_all is_unit (utf16_of bytes) ≡ true
-text_units bytes h =
-    subst (λ bs. list_all is_unit (utf16_of bs) ≡ true) h.1.1
-    (ap (λ cs. list_all is_unit (flat_map encode_utf16 cs)) (chars-encodes h.0 h.1.0) ∙ units_of h.0 h.1.0)
-
-line_feed_units : (us : List ℕ) → list_all is_unit us ≡ true → list_all is_unit (with_line_feeds us) ≡ true
-line_feed_units [] h = refl
-line_feed_units (u ∷ us) h =
-    let parts = and_parts (is_unit u) (list_all is_unit us) h in
-    by (u == 13) (begins_with_line_feed us) parts.0 (line_feed_units us parts.1)
-  where
-    by : (a b : Bool) → is_unit u ≡ true → list_all is_unit (with_line_feeds us) ≡ true
-        → list_all is_unit (if a then (if b then with_line_feeds us else 10 ∷ with_line_feeds us) else u ∷ with_line_feeds us) ≡ true
-    by true true here more = more
-    by true false here more = more
-    by false b here more = and_from (is_unit u) (list_all is_unit (with_line_feeds us)) here more
-
-right_units : (xs ys : List ℕ) → list_all is_unit (xs ++ ys) ≡ true → list_all is_unit ys ≡ true
-right_units xs ys h = (and_parts (list_all is_unit xs) (list_all is_unit ys) (sym (list_all-append is_unit xs ys) ∙ h)).1
-
-left_units : (xs ys : List ℕ) → list_all is_unit (xs ++ ys) ≡ true → list_all is_unit xs ≡ true
-left_units xs ys h = (and_parts (list_all is_unit xs) (list_all is_unit ys) (sym (list_all-append is_unit xs ys) ∙ h)).0
-
-inner_units : (text : List ℕ) (kind : Kind) (inner : List ℕ) → IsFramePage text kind inner → list_all is_unit text ≡ true
-    → list_all is_unit inner ≡ true
-inner_units text kind inner is h =
-    let front : List ℕ = ((opening_text is.opening ++ codes "<html>") ++ body_text is.with_body) ++ codes "<script>" in
-    right_units front inner
-    (left_units (front ++ inner) (codes "</script></html>") (subst (λ us. list_all is_unit us ≡ true) is.whole h))
-
-all_units : (us : List ℕ) → list_all is_unit us ≡ true → AllUnits us
-all_units [] h = All-nil (λ u. u < 65536)
-all_units (u ∷ us) h =
-    let parts = and_parts (is_unit u) (list_all is_unit us) h in
-    All-cons (λ x. x < 65536) u us (ltb-true u 65536 parts.0) (all_units us parts.1)
-
--- ---- the law
-
 pub accepted_scripts_in_form : TokensCanBeWritten → TokensHaveSyntax → AcceptedScriptsAreInForm
 accepted_scripts_in_form written syntax bytes kind scripts is formed =
-    let script : tree.Stmts = is.script in
     let low = is.read.low in
-    let strict = low.orderly.strict in
-    let units : AllUnits is.inner =
-    all_units is.inner (inner_units (text_of bytes) kind is.inner is.framed (line_feed_units (utf16_of bytes) (text_units bytes is.utf8)))
-    in
     let own = subst (λ l. list_all in_form l ≡ true) is.only formed in
-    let whole : IsInForm script = (
-      record {
-        formed = (and_parts (in_form script) true own).0;
-        orderly = low.orderly.orderly;
-        low = low_of kind script low.low;
-      },
-      syntax strict.tokens script (written is.inner strict.tokens units strict.read.lexed) strict.read.parsed.0,
+    let whole : IsInForm is.script = (
+      record { formed = (and_parts (in_form is.script) true own).0; orderly = low.orderly.orderly; low = low_of kind is.script low.low },
+      accepted_scripts_have_syntax written syntax bytes kind scripts is,
     ) in
-    subst (All IsInForm) (sym is.only) (All-cons IsInForm script [] whole (All-nil IsInForm))
+    subst (All IsInForm) (sym is.only) (All-cons IsInForm is.script [] whole (All-nil IsInForm))

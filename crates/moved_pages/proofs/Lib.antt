@@ -1,7 +1,7 @@
 pub mod Accepted
-pub mod Frames
 pub mod InForm
 pub mod Joining
 pub mod LinedPage
 pub mod Moved
+pub mod UsedNames
 pub mod Written

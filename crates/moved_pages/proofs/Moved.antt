@@ -1,17 +1,10 @@
 -- A moved page behaves as if it had never moved.
-use Rattle.std.proofs.Common.{◌≡◌, refl, sym, ap, subst, ◌∙◌, ℕ, ◌+◌, ◌*◌, ◌<◌, ◌≤◌, true, nat_eq, List, [], ◌∷◌, Option, drop, length, arith}
-use Rattle.std.specs.List.{list_all}
-use Rattle.std.proofs.lemmas.Bool.{and_from, eq-eqb, or_left, or_right}
-use Rattle.heap_walker.specs.Things.{is_in}
+use Rattle.std.proofs.Common.{◌≡◌, ap, ◌∙◌, ℕ, ◌+◌, ◌*◌, ◌<◌, ◌≤◌, List, [], ◌∷◌, drop, length, arith}
 use Rattle.heap_walker.specs.Weight as weight
 use Rattle.js_core.specs.Tree as tree
 use Rattle.js_print.specs.Lined.{LinedScriptsAreReadAgain}
 use Rattle.js_values.specs.declared.event.Event.{Event}
-use Rattle.js_values.specs.declared.ids.EnvId.{EnvId}
 use Rattle.js_values.specs.declared.line.Line.{Line}
-use Rattle.object_heap.specs.Chain.{object_at}
-use Rattle.object_heap.specs.declared.object.Class.{Class}
-use Rattle.object_heap.specs.declared.object.Class.TheVariants as class
 use Rattle.page_meaning.specs.Pages.{load_of, run_all, run_of}
 use Rattle.page_meaning.specs.Store.{Store}
 use Rattle.page_meaning.specs.Tasks.{step_limit}
@@ -28,27 +21,11 @@ use Rattle.rebuild_plan.specs.Stands.{PlansStand}
 use Rattle.rebuild_plan.specs.declared.statement.Rebuild.{Rebuild}
 use Rattle.rebuilding.specs.Again.{SavedAgain}
 use Rattle.rebuilding.specs.Laws.{LoadsWithin, ScriptsTakeFewSteps, CanBeRebuilt, RebuiltPagesGoOn, ScriptsRebuild}
-use Rattle.rebuilding.specs.Rebuilt.{NeedNone, is_none, needs_none}
-use Rattle.scope_analysis.specs.FreeUses.{needed_variables}
 use Rattle.moved_pages.specs.Moved.{CanBeMoved, MovedPagesGoOn, longest_page}
 use Rattle.moved_pages.proofs.Accepted.{saved_pages_are_accepted}
 use Rattle.moved_pages.proofs.Written.{are_written}
 
 -- ---- what a saved page is rebuilt from
-
-class_needs_none : (d : Class) → ((c : tree.Code) (env : Option EnvId) → d ≡ class.Page c env → needed_variables c ≡ []) → needs_none d ≡ true
-class_needs_none (class.Page c env) h = subst (λ xs. is_none xs ≡ true) (sym (h c env refl)) refl
-class_needs_none d h = refl
-
-all_need_none : (s : Store) (ks : List ℕ)
-    → ((k : ℕ) (c : tree.Code) (env : Option EnvId) → is_in k ks ≡ true → (object_at s.heap.objects k).class ≡ class.Page c env
-    → needed_variables c ≡ [])
-    → NeedNone s ks
-all_need_none s [] h = refl
-all_need_none s (k ∷ ks) h =
-    and_from (needs_none (object_at s.heap.objects k).class) (list_all (λ j. needs_none (object_at s.heap.objects j).class) ks)
-    (class_needs_none (object_at s.heap.objects k).class (λ c env e. h k c env (or_left (nat_eq k k) (is_in k ks) (eq-eqb k k refl)) e))
-    (all_need_none s ks (λ j c env i e. h j c env (or_right (nat_eq j k) (is_in j ks) i) e))
 
 -- a script has more steps
 few_steps : (n load : ℕ) → n ≤ 2 * load → load ≤ 75000 → n < step_limit
@@ -68,9 +45,8 @@ can_be_rebuilt : PlansAreFew → PagesRest → (scripts : List tree.Stmts) (earl
 can_be_rebuilt few rest scripts earlier things can =
     let s : Store = run_of scripts earlier in
     record {
-      still = (rest scripts earlier things can.in_form can.walked can.alone).0;
+      still = (rest scripts earlier things can.in_form can.walked can.remade).0;
       walk = can.walked;
-      need_none = all_need_none s things (λ k c env i e. (can.alone k c env i e).none_needed);
       in_range = can.literals;
       few = few_steps (length (plan (compact s things))) (weight.load_of s things).things (few s things) can.few;
     }
@@ -81,11 +57,11 @@ pub moved_pages_go_on : PagesAreShort → SavedScriptsAreForm → LinedScriptsAr
     → MovedPagesGoOn
 moved_pages_go_on bound form lined stand few rest rebuild go_on saved_again steps scripts earlier things can =
     let s : Store = run_of scripts earlier in
-    let at_rest = rest scripts earlier things can.in_form can.walked can.alone in
+    let at_rest = rest scripts earlier things can.in_form can.walked can.remade in
     let rs : List Rebuild = plan (compact s things) in
     let t : Store = load_of (saved_script rs ∷ []) in
     let ready = can_be_rebuilt few rest scripts earlier things can in
-    let written = are_written stand s things at_rest.0 can.walked at_rest.1 can.alone can.literals can.few in
+    let written = are_written stand s things at_rest.0 can.walked at_rest.1 can.remade can.literals can.few in
     let silent : t.lines ≡ [] = (rebuild s things ready).0 in (
       record {
         script = saved_script rs;

@@ -1,5 +1,5 @@
--- The statements that rebuild a page at rest can be written, where its functions stand alone and it is no larger than a saved page may be.
-use Rattle.std.proofs.Common.{◌≡◌, refl, sym, ap, subst, ◌∙◌, ℕ, suc, ◌+◌, ◌-◌, ◌<◌, ◌≤◌, ℤ, pos, negsuc, Bool, true, false, ◌&&◌, nat_eq, nat_le, nat_lt, List, [], ◌∷◌, ◌++◌, Option, Some, None, length, bytes_eq, if◌then◌else◌, arith}
+-- The statements that rebuild a page at rest can be written, where its functions can be made again and it is no larger than a saved page may be.
+use Rattle.std.proofs.Common.{◌≡◌, refl, sym, ap, ◌∙◌, ℕ, suc, ◌+◌, ◌-◌, ◌<◌, ◌≤◌, ℤ, pos, negsuc, Bool, true, false, ◌&&◌, nat_eq, nat_le, nat_lt, List, [], ◌∷◌, ◌++◌, Option, Some, None, length, bytes_eq, if◌then◌else◌, arith}
 use Rattle.std.specs.Prelude.{⊤}
 use Rattle.std.specs.List.{All, list_all}
 use Rattle.std.specs.Option.{ForSome}
@@ -7,15 +7,15 @@ use Rattle.std.proofs.lemmas.Bool.{and_from, and_parts, eq-eqb, le-leb, lt-ltb, 
 use Rattle.std.proofs.lemmas.Int.{ints}
 use Rattle.std.proofs.lemmas.List.Elements.{All-cons, All-head, All-nil, All-tail}
 use Rattle.std.proofs.lemmas.List.Folds.{list_all-append}
-use Rattle.heap_walker.specs.Alone.{StandAlone}
+use Rattle.heap_walker.specs.Remade.{AllCanBeRemade}
 use Rattle.heap_walker.specs.Still.{Still}
-use Rattle.heap_walker.specs.Things.{IsWalk, bound_values, globals_of, is_in}
+use Rattle.heap_walker.specs.Things.{IsWalk, bound_values, globals_of, is_in, needs_links}
 use Rattle.heap_walker.specs.Weight.{load_of, things_load}
 use Rattle.js_core.specs.Height.{code_height}
 use Rattle.js_core.specs.Text.{AllUnits}
 use Rattle.js_core.specs.Tree.{Code, func}
 use Rattle.js_core.specs.Whole.{InRange, largest}
-use Rattle.js_grammar.specs.Syntax.{IsExpr}
+use Rattle.js_grammar.specs.Syntax.{IsExpr, is_identifier}
 use Rattle.js_lexer.specs.Written.{is_unit}
 use Rattle.js_values.specs.declared.ids.EnvId.{EnvId}
 use Rattle.js_values.specs.declared.ids.ObjId.{ObjId}
@@ -33,8 +33,9 @@ use Rattle.page_meaning.specs.Places.{window}
 use Rattle.page_meaning.specs.Store.{Store}
 use Rattle.page_rest.specs.Laws.{HasSyntax}
 use Rattle.page_writer.specs.FormScripts.{AreWritten}
-use Rattle.page_writer.specs.Literals.{HasLiterals, HaveLiterals, IsLiteral, maker_values}
+use Rattle.page_writer.specs.Literals.{HasLiterals, HaveLiterals, IsLiteral, maker_values, need_values}
 use Rattle.page_writer.specs.Sizes.{things_limit}
+use Rattle.page_writer.specs.Statements.{need_names}
 use Rattle.page_writer.specs.Writable.{IsWritable, IsWritableMaker, is_need, is_number, is_place, is_prototype, is_thing_number, is_writable_value}
 use Rattle.rebuild_plan.specs.Compact.{Thing, compact, maker_as, maker_at, moved_needs, moved_props, things_at}
 use Rattle.rebuild_plan.specs.Plan.{define, define_length, defines, fill, fills, has_length, has_prototype, makes, plan, prevent, prevents, thing_place}
@@ -44,6 +45,7 @@ use Rattle.rebuild_plan.specs.declared.statement.Maker.TheVariants as made
 use Rattle.rebuild_plan.specs.declared.statement.Rebuild.{Rebuild}
 use Rattle.rebuild_plan.specs.declared.statement.Rebuild.TheVariants.{Make, Define, DefinePrototype, DefineLength, Prevent}
 use Rattle.scope_analysis.specs.FreeUses.{needed_variables}
+use Rattle.moved_pages.proofs.UsedNames.{needed_named}
 
 -- ---- places and values
 
@@ -98,29 +100,47 @@ module _ (n : ℕ) (few : n ≤ 75093) where
 
 -- ---- makers
 
--- its code is low, and a tree that some tokens have, and it needs no variables
-abbrev pub IsSimpleFunction : Code → Type 0
-IsSimpleFunction c = IsExpr (func c) × (code_height c + 1 ≤ 400) × (needed_variables c ≡ [])
+-- the code is low, and a tree that some tokens have
+abbrev pub IsLowSyntax : Code → Type 0
+IsLowSyntax c = IsExpr (func c) × (code_height c + 1 ≤ 400)
 
-abbrev IsSimple : Maker → Type 0
-IsSimple (made.Func c needs) = IsExpr (func c) × (code_height c + 1 ≤ 400) × (needs ≡ [])
-IsSimple m = ⊤
+-- so it is of a function, and what it needs has names
+abbrev IsNamed : Maker → Type 0
+IsNamed (made.Func c needs) = IsLowSyntax c × (list_all is_identifier (need_names needs) ≡ true)
+IsNamed m = ⊤
 
-simple_as : (s : Store) (things : List ℕ) (proto : Option ObjId) (d : Class)
-    → ((c : Code) (env : Option EnvId) → d ≡ class.Page c env → IsSimpleFunction c) → IsSimple (maker_as s things proto d)
-simple_as s things proto (class.Page c env) h =
+-- its needs are named as its needed variables are
+names_same : (s : Store) (things : List ℕ) (env : Option EnvId) (xs : List (List ℕ)) → need_names (moved_needs things (bound_values s env xs)) ≡ xs
+names_same s things env [] = refl
+names_same s things env (x ∷ xs) = ap (λ ys. x ∷ ys) (names_same s things env xs)
+
+named_as : (s : Store) (things : List ℕ) (proto : Option ObjId) (d : Class)
+    → ((c : Code) (env : Option EnvId) → d ≡ class.Page c env → IsLowSyntax c) → IsNamed (maker_as s things proto d)
+named_as s things proto (class.Page c env) h =
     let is = h c env refl in
-    (is.0, is.1, ap (λ xs. moved_needs things (bound_values s env xs)) is.2)
-simple_as s things proto d h = tt
+    (is, ap (list_all is_identifier) (names_same s things env (needed_variables c)) ∙ needed_named c is.0)
+named_as s things proto d h = tt
 
-maker_written : (n : ℕ) → n ≤ 75093 → (m : Maker) → all_below n (maker_names m) ≡ true → All IsLiteral (maker_values m) → IsSimple m
+needs_written : (n : ℕ) → n ≤ 75093 → (needs : List (List ℕ × Value)) → all_below n (needs_links needs) ≡ true → All IsLiteral (need_values needs)
+    → list_all is_identifier (need_names needs) ≡ true → list_all is_need needs ≡ true
+needs_written n few [] h is named = refl
+needs_written n few (x ∷ xs) h is named =
+    let parts = and_parts (all_below n (value_links x.1)) (all_below n (needs_links xs))
+    (sym (list_all-append (λ k. nat_lt k n) (value_links x.1) (needs_links xs)) ∙ h) in
+    let names = and_parts (is_identifier x.0) (list_all is_identifier (need_names xs)) named in
+    and_from (is_need x) (list_all is_need xs)
+    (and_from (is_identifier x.0) (is_writable_value x.1) names.0
+    (value_written n few x.1 parts.0 (All-head IsLiteral x.1 (need_values xs) is)))
+    (needs_written n few xs parts.1 (All-tail IsLiteral x.1 (need_values xs) is) names.1)
+
+maker_written : (n : ℕ) → n ≤ 75093 → (m : Maker) → all_below n (maker_names m) ≡ true → All IsLiteral (maker_values m) → IsNamed m
     → IsWritableMaker m
-maker_written n few (made.Plain proto) h is simple = proto_written n few proto h
-maker_written n few made.List h is simple = tt
-maker_written n few (made.Fault kind) h is simple = tt
-maker_written n few (made.Func c needs) h is simple =
-    (simple.0, simple.1, subst (λ ns. list_all is_need ns ≡ true) (sym simple.2) refl)
-maker_written n few (made.Bind target this args) h is simple =
+maker_written n few (made.Plain proto) h is named = proto_written n few proto h
+maker_written n few made.List h is named = tt
+maker_written n few (made.Fault kind) h is named = tt
+maker_written n few (made.Func c needs) h is named =
+    (named.0.0, named.0.1, needs_written n few needs h is named.1)
+maker_written n few (made.Bind target this args) h is named =
     let rest = and_parts (nat_lt target.0 n) (all_below n (value_links this ++ values_links args)) h in
     let parts = and_parts (all_below n (value_links this)) (all_below n (values_links args))
     (sym (list_all-append (λ k. nat_lt k n) (value_links this) (values_links args)) ∙ rest.1) in (
@@ -210,11 +230,11 @@ quiet_written n (Prevent at ∷ rs) few stands quiet is =
 
 -- the things at these places are made
 makes_written : (s : Store) (things ks : List ℕ) (n : ℕ) (rest : List Rebuild) → n + length ks ≤ 75000
-    → ((k : ℕ) → is_in k ks ≡ true → IsSimple (maker_at s things k)) → standing n (makes n (things_at s things ks) ++ rest) ≡ true
+    → ((k : ℕ) → is_in k ks ≡ true → IsNamed (maker_at s things k)) → standing n (makes n (things_at s things ks) ++ rest) ≡ true
     → list_all is_quiet rest ≡ true → HaveLiterals (makes n (things_at s things ks) ++ rest)
     → All IsWritable (makes n (things_at s things ks) ++ rest)
-makes_written s things [] n rest few simple stands quiet is = quiet_written n rest (omega (arith, few)) stands quiet is
-makes_written s things (k ∷ ks) n rest few simple stands quiet is =
+makes_written s things [] n rest few named stands quiet is = quiet_written n rest (omega (arith, few)) stands quiet is
+makes_written s things (k ∷ ks) n rest few named stands quiet is =
     let m : Maker = maker_at s things k in
     let others : List Rebuild = makes (suc n) (things_at s things ks) ++ rest in
     let here : n ≤ 75000 = omega (arith, few) in
@@ -223,10 +243,10 @@ makes_written s things (k ∷ ks) n rest few simple stands quiet is =
     let own = and_parts (nat_eq n n) names parts.0 in
     let written =
     maker_written (built_in_count + n) (low n here) m own.1 (All-head HasLiterals (Make n m) others is)
-    (simple k (or_left (nat_eq k k) (is_in k ks) (eq-eqb k k refl)))
+    (named k (or_left (nat_eq k k) (is_in k ks) (eq-eqb k k refl)))
     in
     All-cons IsWritable (Make n m) others (number_written n here, written)
-    (makes_written s things ks (suc n) rest (omega (arith, few)) (λ j i. simple j (or_right (nat_eq j k) (is_in j ks) i)) parts.1 quiet
+    (makes_written s things ks (suc n) rest (omega (arith, few)) (λ j i. named j (or_right (nat_eq j k) (is_in j ks) i)) parts.1 quiet
     (All-tail HasLiterals (Make n m) others is))
 
 -- ---- the whole plan
@@ -236,9 +256,9 @@ few_things : (s : Store) (ks : List ℕ) → length ks ≤ (things_load s ks).th
 few_things s [] = omega arith
 few_things s (k ∷ ks) = omega (arith, few_things s ks)
 
-pub are_written : PlansStand → (s : Store) (things : List ℕ) → Still s → IsWalk s things → HasSyntax s → StandAlone s things
+pub are_written : PlansStand → (s : Store) (things : List ℕ) → Still s → IsWalk s things → HasSyntax s → AllCanBeRemade s things
     → HaveLiterals (plan (compact s things)) → (load_of s things).things ≤ things_limit → AreWritten s things
-are_written stand s things still walk syntax alone literals few =
+are_written stand s things still walk syntax remade literals few =
     let ts : List Thing = things_at s things things in
     let globals : Props = moved_props things (globals_of s) in
     let rest : List Rebuild = defines false false window globals ++ (fills 0 ts ++ prevents 0 ts) in
@@ -246,9 +266,9 @@ are_written stand s things still walk syntax alone literals few =
     joined (defines false false window globals) (fills 0 ts ++ prevents 0 ts) (defines_quiet false false window globals)
     (joined (fills 0 ts) (prevents 0 ts) (fills_quiet 0 ts) (prevents_quiet 0 ts))
     in
-    makes_written s things things 0 rest (omega (arith, few, few_things s things)) simple (stand s things still walk) quiet literals
+    makes_written s things things 0 rest (omega (arith, few, few_things s things)) named (stand s things still walk) quiet literals
   where
-    simple : (k : ℕ) → is_in k things ≡ true → IsSimple (maker_at s things k)
-    simple k h =
-        simple_as s things (object_at s.heap.objects k).proto (object_at s.heap.objects k).class
-        (λ c env e. (syntax k c env (walk.sound k h) e, (alone k c env h e).low, (alone k c env h e).none_needed))
+    named : (k : ℕ) → is_in k things ≡ true → IsNamed (maker_at s things k)
+    named k h =
+        named_as s things (object_at s.heap.objects k).proto (object_at s.heap.objects k).class
+        (λ c env e. (syntax k c env (walk.sound k h) e, (remade k c env h e).low))
