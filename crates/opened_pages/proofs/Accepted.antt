@@ -1,0 +1,112 @@
+-- That the text of a page with opened scopes is accepted as a form page.
+use Rattle.std.proofs.Common.{◌≡◌, ◌∙◌, refl, sym, ap, subst, ℕ, ◌+◌, ◌≤◌, Bool, true, false, List, [], ◌∷◌, arith}
+use Rattle.std.specs.Prelude.{◌||◌, ◌&&◌, not, bytes_eq, codes, nat_lt}
+use Rattle.std.specs.List.{list_all}
+use Rattle.std.proofs.lemmas.Bool.Decides.{nat_tests}
+use Rattle.js_core.specs.Height.{stmts_height}
+use Rattle.js_core.specs.Text.{utf16_of}
+use Rattle.js_core.specs.Tree as tree
+use Rattle.js_core.specs.Tree.{no_stmts, then_stmt}
+use Rattle.instrumenter.specs.Around.{top}
+use Rattle.instrumenter.specs.Opened.{IsFormScript, IsPlainScript, OpenedScriptsAreForm}
+use Rattle.instrumenter.specs.Opening.{open_script, open_scripts, open_tops}
+use Rattle.js_grammar.specs.Syntax.{IsSyntax}
+use Rattle.js_print.specs.Laws.{is_free}
+use Rattle.js_print.specs.Lined.{LinedAgain, is_lined}
+use Rattle.js_print.specs.Printing.{script_text}
+use Rattle.js_print.specs.ReadAgain.{ReadAgain, ScriptsAreReadAgain, begins_strict}
+use Rattle.page_check.specs.Accept.{IsAcceptedAs}
+use Rattle.page_check.specs.declared.page.Kind.TheVariants.{Plain, Form}
+use Rattle.printed_pages.specs.Printed.{AcceptedScriptsBeginStrict, AcceptedScriptsHaveSyntax, FramedScriptsAreAccepted, IsFormScript as IsPrintedForm}
+use Rattle.scope_analysis.specs.Form.{has_high_function, has_reserved_name}
+use Rattle.opened_pages.specs.Opened.{OpenedPagesAreAccepted, opened_text}
+
+-- ---- directives stay where they are
+
+begins_opened : (n : ℕ) (script : tree.Stmts) → begins_strict script ≡ true → begins_strict (open_tops (top true) n script) ≡ true
+begins_opened n (then_stmt (tree.expr (tree.text t)) ss) h = by (bytes_eq t (codes "use strict")) h (λ more. begins_opened (n + 0) ss more)
+  where
+    by : (b : Bool) → (b || begins_strict ss) ≡ true → (begins_strict ss ≡ true → begins_strict (open_tops (top true) (n + 0) ss) ≡ true)
+        → (b || begins_strict (open_tops (top true) (n + 0) ss)) ≡ true
+    by true h later = refl
+    by false h later = later h
+begins_opened n ss h = cc h
+
+-- ---- a printed text has no control character, so none but LF
+
+free_is_lined : (b c : Bool) → b ≡ true → (b || c) ≡ true
+free_is_lined b c h = ap (λ (d : Bool). d || c) h
+
+and_left : (a b : Bool) → (a && b) ≡ true → a ≡ true
+and_left true b e = refl
+and_left false b e = e
+
+and_right : (a b : Bool) → (a && b) ≡ true → b ≡ true
+and_right true b e = e
+and_right false b e = absurd (cc)
+
+all_lined : (us : List ℕ) → list_all is_free us ≡ true → list_all is_lined us ≡ true
+all_lined [] h = refl
+all_lined (u ∷ us) h =
+    ap (λ (d : Bool). d && list_all is_lined us) (free_is_lined (is_free u) _ (and_left (is_free u) _ h)) ∙ all_lined us (and_right (is_free u) _ h)
+
+lined_again : (script : tree.Stmts) (text : List ℕ) → ReadAgain script text → LinedAgain script text
+lined_again script text again = record {
+  utf8 = again.utf8;
+  no_tag_in_units = again.no_tag_in_units;
+  no_control = all_lined (utf16_of text) again.no_control;
+  tokens = again.tokens;
+  read = again.read;
+  derived = again.derived;
+  strict = again.strict;
+}
+
+-- ---- the law
+
+low_plain : (h : ℕ) → nat_lt 200 h ≡ false → h ≤ 200
+low_plain h e = grind (arith, nat_tests)
+
+low_form : (h : ℕ) → h ≤ 420 → nat_lt 420 h ≡ false
+low_form h e = grind (arith, nat_tests)
+
+both_false : (a b : Bool) → a ≡ false → b ≡ false → (a || b) ≡ false
+both_false a b e f = ap (λ (c : Bool). c || b) e ∙ f
+
+not_true : (b : Bool) → not b ≡ true → b ≡ false
+not_true true h = absurd (cc h)
+not_true false h = refl
+
+-- the script of an accepted plain page can be opened
+pub plain_script : (bytes : List ℕ) (scripts : List tree.Stmts) (page : IsAcceptedAs bytes Plain scripts) → IsSyntax page.script → IsPlainScript page.script
+plain_script bytes scripts page syntax = record {
+  syntax = syntax;
+  orderly = page.read.low.orderly.orderly;
+  low = low_plain (stmts_height page.script) page.read.low.low;
+  plain = not_true (has_reserved_name page.script) page.read.formed;
+}
+
+-- the words of the two crates on scripts of form pages say the same
+printed_form : (script : tree.Stmts) → IsFormScript script → IsPrintedForm script
+printed_form script form = record {
+  orderly = form.orderly;
+  low = both_false (nat_lt 420 (stmts_height script)) (has_high_function script) (low_form (stmts_height script) form.low) form.functions;
+  formed = form.formed;
+}
+
+module _ (formed : OpenedScriptsAreForm) (printed : ScriptsAreReadAgain) (framing : FramedScriptsAreAccepted)
+    (syntax : AcceptedScriptsHaveSyntax) (strict : AcceptedScriptsBeginStrict) where
+  opened_is_accepted : (bytes : List ℕ) (scripts : List tree.Stmts) (page : IsAcceptedAs bytes Plain scripts) (with_body : Bool)
+      → IsAcceptedAs (opened_text with_body page.script) Form (open_script 1 page.script ∷ [])
+  opened_is_accepted bytes scripts page with_body =
+      let script = page.script in
+      let opened = open_script 1 script in
+      let is = formed 1 script (plain_script bytes scripts page (syntax bytes Plain scripts page)) in
+      framing with_body opened (script_text opened) (printed_form opened is) (begins_opened 1 script (strict bytes Plain scripts page))
+      (lined_again opened (script_text opened) (printed opened is.syntax))
+
+  pub opened_pages_are_accepted : OpenedPagesAreAccepted
+  opened_pages_are_accepted Form bytes scripts text is opens = subst (λ (t : List ℕ). IsAcceptedAs t Form scripts) (sym opens) is
+  opened_pages_are_accepted Plain bytes scripts text is opens =
+      subst (λ (t : List ℕ). IsAcceptedAs t Form (open_scripts scripts)) (sym opens.1)
+      (subst (λ (ss : List tree.Stmts). IsAcceptedAs (opened_text opens.0.framed.with_body opens.0.script) Form (open_scripts ss)) (sym opens.0.only)
+      (opened_is_accepted bytes scripts opens.0 opens.0.framed.with_body))

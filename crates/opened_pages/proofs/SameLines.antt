@@ -1,0 +1,52 @@
+-- An opened page puts out the lines of the page.
+use Rattle.std.proofs.Common.{◌≡◌, ◌∙◌, refl, sym, ap, subst, ℕ, ◌+◌, ◌<◌, ◌^◌, List, [], ◌∷◌, ◌++◌, drop, length}
+use Rattle.std.specs.List.{All}
+use Rattle.std.proofs.lemmas.List.Elements.{All-cons, All-nil}
+use Rattle.js_core.specs.Tree as tree
+use Rattle.js_values.specs.declared.event.Event.{Event}
+use Rattle.js_values.specs.declared.line.Line.{Line}
+use Rattle.agreement.specs.Laws.{PlainPagesAgree}
+use Rattle.instrumenter.specs.Counting.{scripts_scopes}
+use Rattle.instrumenter.specs.Opened.{IsPlainScript}
+use Rattle.instrumenter.specs.Opening.{open_scripts}
+use Rattle.page_check.specs.Accept.{IsAcceptedAs}
+use Rattle.page_check.specs.declared.page.Kind.{Kind}
+use Rattle.page_check.specs.declared.page.Kind.TheVariants.{Plain, Form}
+use Rattle.page_meaning.specs.Pages.{do_event, lines_after, lines_of_run, load_of, run_all, run_of}
+use Rattle.page_meaning.specs.Store.{Store}
+use Rattle.printed_pages.specs.Printed.{AcceptedScriptsHaveSyntax}
+use Rattle.opened_pages.proofs.Accepted.{plain_script}
+use Rattle.opened_pages.specs.Opened.{HaveNumbers, OpenedPagesPutOutTheSame, PutOutTheSame}
+
+-- ---- later events
+
+run_append : (s : Store) (es fs : List Event) → run_all s (es ++ fs) ≡ run_all (run_all s es) fs
+run_append s [] fs = refl
+run_append s (e ∷ es) fs = run_append (do_event e s) es fs
+
+after_is : (scripts : List tree.Stmts) (earlier later : List Event)
+    → lines_after scripts earlier later ≡ drop (length (lines_of_run scripts earlier)) (lines_of_run scripts (earlier ++ later))
+after_is scripts earlier later =
+    ap (λ (s : Store). drop (length (lines_of_run scripts earlier)) s.lines) (sym (run_append (load_of scripts) earlier later))
+
+same_after : (scripts others : List tree.Stmts) → ((es : List Event) → lines_of_run scripts es ≡ lines_of_run others es)
+    → (earlier later : List Event) → lines_after scripts earlier later ≡ lines_after others earlier later
+same_after scripts others same earlier later =
+    after_is scripts earlier later
+    ∙ ap (λ (ls : List Line). drop (length ls) (lines_of_run scripts (earlier ++ later))) (same earlier)
+    ∙ ap (λ (ls : List Line). drop (length (lines_of_run others earlier)) ls) (same (earlier ++ later))
+    ∙ sym (after_is others earlier later)
+
+-- ---- the law
+
+all_plain : AcceptedScriptsHaveSyntax → (bytes : List ℕ) (scripts : List tree.Stmts) → IsAcceptedAs bytes Plain scripts → All IsPlainScript scripts
+all_plain syntax bytes scripts page =
+    subst (All IsPlainScript) (sym page.only)
+    (All-cons IsPlainScript page.script [] (plain_script bytes scripts page (syntax bytes Plain scripts page)) (All-nil IsPlainScript))
+
+pub opened_pages_put_out_the_same : PlainPagesAgree → AcceptedScriptsHaveSyntax → OpenedPagesPutOutTheSame
+opened_pages_put_out_the_same agree syntax Form bytes scripts is numbered = record { all = λ es. refl; after = λ earlier later. refl }
+opened_pages_put_out_the_same agree syntax Plain bytes scripts is numbered =
+    let same : (es : List Event) → lines_of_run (open_scripts scripts) es ≡ lines_of_run scripts es =
+    λ es. agree scripts es (all_plain syntax bytes scripts is) numbered in
+    record { all = same; after = same_after (open_scripts scripts) scripts same }

@@ -1,0 +1,86 @@
+//! The text of a page with opened scopes.
+
+ghost use Rattle.std.specs.Prelude.{◌≡◌, ◌++◌, ℕ, IfOk, OnOk, List};
+ghost use Rattle.page_check.specs.Accept.{IsAccepted, IsAcceptedAs};
+ghost use Rattle.page_check.specs.declared.page.Kind.TheVariants.{Plain};
+ghost use Rattle.printed_pages.specs.Printed.{framed, page_front};
+ghost use Rattle.opened_pages.specs.Opened.{HaveNumbers, Opens, opened_scripts, script_texts};
+
+use instrumenter::open_scopes;
+use js_core::memory::OutOfMemory;
+use js_core::syntax::Script;
+use js_print::print::print;
+use page_check::{Accepted, Kind, page_has_body};
+use std::alloc::Global;
+
+/// The text of an accepted page with opened scopes. Of a plain page it is the mark of a form page and the page, without a byte
+/// order mark, in which its script is the opened one, as it is printed; all else stays byte for byte. A form page stays as it is.
+pub fn open_page(alloc: Global, bytes: &[u8], page: &Accepted) -> Result<Vec<u8>, OutOfMemory>
+    requires { IsAccepted bytes.now page.now }
+    ensures text { IfOk result (λ text.
+        Opens page.now.kind bytes.now page.now.scripts.items text.items) }
+    ensures numbered { OnOk result (HaveNumbers page.now.kind page.now.scripts.items) }
+{
+    match page.kind {
+        Kind::Form => Ok(Vec::from_slice(alloc, bytes)?),
+        Kind::Plain => open_plain(alloc, bytes, page.scripts.as_slice()),
+    }
+}
+
+/// The scripts of an accepted page with opened scopes, as those of a form page. Those of a form page stay as they are.
+pub fn open_accepted(alloc: Global, page: Accepted) -> Result<Accepted, OutOfMemory>
+    requires { (bytes : List ℕ) × IsAccepted bytes page }
+    ensures opened { IfOk result (λ opened.
+        opened.scripts.items ≡ opened_scripts page.kind page.scripts.items) }
+    ensures numbered { OnOk result (HaveNumbers page.kind page.scripts.items) }
+{
+    match page.kind {
+        Kind::Form => Ok(page),
+        Kind::Plain => Ok(Accepted {
+            kind: Kind::Form,
+            scripts: open_scopes(alloc, page.scripts.as_slice())?,
+        }),
+    }
+}
+
+// The text of an accepted plain page with these scripts.
+fn open_plain(alloc: Global, bytes: &[u8], scripts: &[Script]) -> Result<Vec<u8>, OutOfMemory>
+    requires { IsAcceptedAs bytes.now Plain scripts.now }
+    ensures text { IfOk result (λ text. Opens Plain bytes.now scripts.now text.items) }
+    ensures numbered { OnOk result (HaveNumbers Plain scripts.now) }
+{
+    let with_body = page_has_body(alloc, bytes)?;
+    let opened = open_scopes(alloc, scripts)?;
+    page_of(alloc, with_body, opened.as_slice())
+}
+
+// The text of a form page with these scripts in its script element.
+fn page_of(alloc: Global, with_body: bool, scripts: &[Script]) -> Result<Vec<u8>, OutOfMemory>
+    ensures { IfOk result (λ text. text.items ≡ framed with_body (script_texts scripts.now)) }
+{
+    let mut text = Vec::from_slice(alloc, front(with_body))?;
+    push_scripts(alloc, scripts, &mut text)?;
+    text.extend_from_slice(b"</script></html>")?;
+    Ok(text)
+}
+
+// Appends the texts of the scripts.
+fn push_scripts(alloc: Global, scripts: &[Script], to: &mut Vec<u8>) -> Result<(), OutOfMemory>
+    ensures { OnOk result (to.new.items ≡ to.old.items ++ script_texts scripts.now) }
+{
+    for script in scripts {
+        print(alloc, script, to)?;
+    }
+    Ok(())
+}
+
+// What stands before the script.
+fn front(with_body: bool) -> &'static [u8]
+    ensures { result.now ≡ page_front with_body }
+{
+    if with_body {
+        b"<!--imagen 1--><html><body></body><script>"
+    } else {
+        b"<!--imagen 1--><html><script>"
+    }
+}
