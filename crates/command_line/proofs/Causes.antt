@@ -1,9 +1,7 @@
 -- The causes of a command's end exclude each other, and there is always one.
 use Rattle.std.proofs.Common.{◌≡◌, ℕ, ◌<◌, ◌≤◌, List, [], ◌∷◌, length, Option, Some, None, Result, Ok, Err, refl, sym, ap, ◌∙◌, subst, inl, inr, arith}
 use Rattle.std.specs.Prelude.{◌⊎◌, All}
-use Rattle.std.specs.List.{list_all}
 use Rattle.page_io.specs.Content.{Told}
-use Rattle.scope_analysis.specs.Form.{in_form}
 use Rattle.heap_walker.specs.declared.weight.Weight.{Weight}
 use Rattle.page_check.specs.Accept.{IsAcceptedAs, IsRefused}
 use Rattle.page_check.specs.declared.page.Kind.{Kind}
@@ -15,14 +13,14 @@ use Rattle.event_file.specs.Events.{calls_of}
 use Rattle.command_line.specs.declared.status.Status.{Status}
 use Rattle.command_line.specs.declared.status.Status.TheVariants as status
 use Rattle.command_line.specs.declared.command.Work.TheVariants.{Replay, Save}
-use Rattle.command_line.specs.Command.{Command, check, session}
-use Rattle.command_line.specs.Page.{page_limit, event_file_limit, Page, Accepts, IsBuilt, IsNotBuilt, IsPage}
+use Rattle.command_line.specs.Command.{Command, check, instrument, session}
+use Rattle.command_line.specs.Page.{page_limit, event_file_limit, Page, Accepts, IsPage}
 use Rattle.command_line.specs.Replay.{IsEventFile}
-use Rattle.command_line.specs.Saving.{NeedsScopes, IsTooLarge, IsMovable}
-use Rattle.command_line.specs.Stages.{Seen, Of, Held, IsNoEventFile, Stage, words, page_file, acceptance, building, event_file, moving, writing, Stops, Passes, EndsAt, IsQuiet, CausesExclude, IsReadOrFailed, names_of, work_of, work_behind, stages_of, SomeCause}
+use Rattle.command_line.specs.Saving.{CannotBeRemade, IsTooLarge, IsMovable}
+use Rattle.command_line.specs.Stages.{Seen, Of, Held, IsNoEventFile, Stage, words, page_file, acceptance, event_file, moving, writing, Stops, Passes, EndsAt, IsQuiet, CausesExclude, IsReadOrFailed, names_of, work_of, work_behind, stages_of, SomeCause}
 use Rattle.command_line.proofs.Moves.{OneAcceptance}
 use Rattle.command_line.proofs.Numbers.{at_most_or_more}
-use Rattle.command_line.proofs.Outcomes.{scopes_or_alone, one_weight, large_or_little, some_outcome}
+use Rattle.command_line.proofs.Outcomes.{remade_or_not, one_weight, large_or_little, some_outcome}
 use Rattle.command_line.proofs.Stopping.{of_both, of_nested, StopsAs, stops_as}
 
 -- bytes are refused for one cause
@@ -36,10 +34,6 @@ NotBoth = (bytes : List ℕ) (kind : Kind) (scripts : List tree.Stmts) (cause : 
 -- ---- one status at most stops at a stage
 
 module _ (seen : Seen) (quiet : IsQuiet seen) (one_page : OneAcceptance) (one_cause : OneCause) (not_both : NotBoth) where
-  not_built_only : (bytes : List ℕ) (r : Refusal) → IsNotBuilt bytes r → r ≡ NotBuilt 1
-  not_built_only bytes (NotBuilt k) h = ap NotBuilt h.0
-  not_built_only bytes r h = absurd h
-
   one_number : (file : List ℕ) (i j : ℕ) → IsNoEventFile file i → IsNoEventFile file j → i ≡ j
   one_number file i j (inl h) (inl g) = h.1 ∙ sym g.1
   one_number file i j (inl h) (inr g) = absurd (omega (arith, h.0, g.0))
@@ -55,15 +49,15 @@ module _ (seen : Seen) (quiet : IsQuiet seen) (one_page : OneAcceptance) (one_ca
   of_names p e P Q R x y h =
       of_nested (seen.files_before.content p) (seen.files_before.content e) P Q R (quiet.told p) (quiet.told e) x y h
 
-  scopes_or_large : (b f : List ℕ) (w : Weight) → NeedsScopes b f → IsTooLarge b f w → ⊥
-  scopes_or_large b f w n l = scopes_or_alone one_page b f l.state l.things n l.after l.alone
+  scopes_or_large : (b f : List ℕ) (w : Weight) → CannotBeRemade b f → IsTooLarge b f w → ⊥
+  scopes_or_large b f w n l = remade_or_not one_page b f l.state l.things n l.after l.remade
 
   one_moving : (p e : List ℕ) (s t : Status) → StopsAs (moving p e) seen s → StopsAs (moving p e) seen t → s ≡ t
   one_moving p e s t (inl h) (inl k) = h.0 ∙ sym k.0
   one_moving p e s t (inl h) (inr k) =
-      absurd (of_names p e NeedsScopes (λ b f. IsTooLarge b f k.0) ⊥ h.1 k.2 (λ b f x y. scopes_or_large b f k.0 x y))
+      absurd (of_names p e CannotBeRemade (λ b f. IsTooLarge b f k.0) ⊥ h.1 k.2 (λ b f x y. scopes_or_large b f k.0 x y))
   one_moving p e s t (inr h) (inl k) =
-      absurd (of_names p e NeedsScopes (λ b f. IsTooLarge b f h.0) ⊥ k.1 h.2 (λ b f x y. scopes_or_large b f h.0 x y))
+      absurd (of_names p e CannotBeRemade (λ b f. IsTooLarge b f h.0) ⊥ k.1 h.2 (λ b f x y. scopes_or_large b f h.0 x y))
   one_moving p e s t (inr h) (inr k) =
       let one = λ (b : List ℕ) (f : List ℕ). one_weight one_page b f h.0 k.0 in
       let same = of_names p e (λ b f. IsTooLarge b f h.0) (λ b f. IsTooLarge b f k.0) (h.0 ≡ k.0) h.2 k.2 one in
@@ -76,21 +70,11 @@ module _ (seen : Seen) (quiet : IsQuiet seen) (one_page : OneAcceptance) (one_ca
   one_stop (acceptance p) s t h k =
       let same = of_name p (λ b. IsRefused b h.0) (λ b. IsRefused b k.0) (h.0 ≡ k.0) h.2 k.2 (λ b x y. one_cause b h.0 k.0 x y) in
       h.1 ∙ ap (λ (r : Refusal). status.PageRefused (Some r)) same ∙ sym k.1
-  one_stop (building p) s t h k =
-      let one : (b : List ℕ) → IsNotBuilt b h.0 → IsNotBuilt b k.0 → h.0 ≡ k.0 = λ b x y. not_built_only b h.0 x ∙ sym (not_built_only b k.0 y) in
-      let same = of_name p (λ b. IsNotBuilt b h.0) (λ b. IsNotBuilt b k.0) (h.0 ≡ k.0) h.2 k.2 one in
-      h.1 ∙ ap (λ (r : Refusal). status.PageRefused (Some r)) same ∙ sym k.1
   one_stop (event_file e) s t h k =
       let same = of_name e (λ f. IsNoEventFile f h.0) (λ f. IsNoEventFile f k.0) (h.0 ≡ k.0) h.2 k.2 (λ f x y. one_number f h.0 k.0 x y) in
       h.1 ∙ ap status.EventsRefused same ∙ sym k.1
   one_stop (moving p e) s t h k = one_moving p e s t h k
   one_stop writing s t h k = h ∙ sym k
-
-  built_or_not : (bytes : List ℕ) (r : Refusal) → IsNotBuilt bytes r → ((page : Page) × Accepts bytes page × IsBuilt page) → ⊥
-  built_or_not bytes (NotBuilt k) h g =
-      let same = one_page bytes h.1.0.kind g.0.kind h.1.0.scripts g.0.scripts h.1.1 g.1 in
-      h.1.2 (ap (list_all in_form) same.1 ∙ g.2)
-  built_or_not bytes r h g = absurd h
 
   file_or_none : (file : List ℕ) (i : ℕ) → IsNoEventFile file i → ((events : List Event) × IsEventFile file events) → ⊥
   file_or_none file i (inl h) g = omega (arith, h.0, g.1.fits)
@@ -98,7 +82,7 @@ module _ (seen : Seen) (quiet : IsQuiet seen) (one_page : OneAcceptance) (one_ca
 
   moving_or_not : (p e : List ℕ) (s : Status) → StopsAs (moving p e) seen s → Passes (moving p e) seen → ⊥
   moving_or_not p e s (inl k) h =
-      of_names p e NeedsScopes IsMovable ⊥ k.1 h (λ b f x y. scopes_or_alone one_page b f y.state y.things x y.after y.alone)
+      of_names p e CannotBeRemade IsMovable ⊥ k.1 h (λ b f x y. remade_or_not one_page b f y.state y.things x y.after y.remade)
   moving_or_not p e s (inr k) h = of_names p e (λ b f. IsTooLarge b f k.0) IsMovable ⊥ k.2 h (λ b f x y. large_or_little one_page b f k.0 x y)
 
   -- a stage is not both passed and where the command stops
@@ -108,8 +92,6 @@ module _ (seen : Seen) (quiet : IsQuiet seen) (one_page : OneAcceptance) (one_ca
   stop_or_pass (page_file n) s h k p = of_name n (λ b. page_limit < length b) (λ b. length b ≤ page_limit) ⊥ k.1 p (λ b x y. omega (arith, x, y))
   stop_or_pass (acceptance n) s h k p =
       of_name n (λ b. IsRefused b k.0) (λ b. (page : Page) × Accepts b page) ⊥ k.2 p (λ b x y. not_both b y.0.kind y.0.scripts k.0 y.1 x)
-  stop_or_pass (building n) s h k p =
-      of_name n (λ b. IsNotBuilt b k.0) (λ b. (page : Page) × Accepts b page × IsBuilt page) ⊥ k.2 p (λ b x y. built_or_not b k.0 x y)
   stop_or_pass (event_file n) s h k p =
       of_name n (λ f. IsNoEventFile f k.0) (λ f. (events : List Event) × IsEventFile f events) ⊥ k.2 p (λ f x y. file_or_none f k.0 x y)
   stop_or_pass (moving m n) s h k p = moving_or_not m n s k p
@@ -168,14 +150,6 @@ module _ (seen : Seen) (none_neither : NoneNeither) where
       k page a (next (acceptance p) gs never (of_held _ bytes (λ b. (page : Page) × Accepts b page) held (page, a))))
       (λ cause h. never (status.PageRefused (Some cause)) (λ e. cc) (inl (of_held _ bytes (λ b. IsRefused b cause) held h)))
 
-  behind_building : (p bytes : List ℕ) (gs : List Stage) (page : Page) → IsHeld p bytes → Accepts bytes page → No (building p ∷ gs) → (No gs → ⊥) → ⊥
-  behind_building p bytes gs page held a never k =
-      let stops = of_held _ bytes (λ b. IsNotBuilt b (NotBuilt 1)) held (refl, (page, a, passes)) in
-      never (status.PageRefused (Some (NotBuilt 1))) (λ e. cc) (inl stops)
-    where
-      passes : ¬ IsBuilt page
-      passes built = k (next (building p) gs never (of_held _ bytes (λ b. (page : Page) × Accepts b page × IsBuilt page) held (page, a, built)))
-
   behind_event_file : (n : List ℕ) (gs : List Stage) → IsReadOrFailed seen n → No (event_file n ∷ gs)
       → ((file : List ℕ) (events : List Event) → IsHeld n file → IsEventFile file events → No gs → ⊥) → ⊥
   behind_event_file n gs (inr failed) never k = never status.ReadFault (λ e. cc) (inl failed)
@@ -199,7 +173,7 @@ module _ (seen : Seen) (none_neither : NoneNeither) where
       → IsHeld p bytes → IsHeld n file → IsPage bytes page → IsEventFile file events
       → No (moving p n ∷ gs) → (No gs → ⊥) → ⊥
   behind_moving p n bytes file gs page events held holds of_page of_file never k = some_outcome bytes file page events of_page of_file
-      (λ scopes. never (status.PageRefused (Some (NotBuilt 1))) (λ e. cc) (inl (refl, both NeedsScopes scopes)))
+      (λ scopes. never (status.PageRefused (Some (NotBuilt 1))) (λ e. cc) (inl (refl, both CannotBeRemade scopes)))
       (λ w large. never (status.TooLarge w) (λ e. cc) (inl (both (λ b f. IsTooLarge b f w) large)))
       (λ movable. k (next (moving p n) gs never (both IsMovable movable)))
     where
@@ -216,6 +190,11 @@ module _ (seen : Seen) (none_neither : NoneNeither) where
       behind_page_file p (acceptance p ∷ writing ∷ []) (reads 0 [] (omega arith)) no0 λ bytes held fits no1.
       behind_acceptance p bytes (writing ∷ []) held no1 λ page a no2.
       at_writing no2
+  some_end (Some (instrument p)) reads never =
+      let no0 = behind_words (instrument p) never in
+      behind_page_file p (acceptance p ∷ writing ∷ []) (reads 0 [] (omega arith)) no0 λ bytes held fits no1.
+      behind_acceptance p bytes (writing ∷ []) held no1 λ page a no2.
+      at_writing no2
   some_end (Some (session Replay p n)) reads never =
       let no0 = behind_words (session Replay p n) never in
       behind_page_file p (acceptance p ∷ event_file n ∷ writing ∷ []) (reads 0 [] (omega arith)) no0 λ bytes held fits no1.
@@ -224,12 +203,11 @@ module _ (seen : Seen) (none_neither : NoneNeither) where
       at_writing no3
   some_end (Some (session Save p n)) reads never =
       let no0 = behind_words (session Save p n) never in
-      behind_page_file p (acceptance p ∷ building p ∷ event_file n ∷ moving p n ∷ writing ∷ []) (reads 0 [] (omega arith)) no0 λ bytes held fits no1.
-      behind_acceptance p bytes (building p ∷ event_file n ∷ moving p n ∷ writing ∷ []) held no1 λ page a no2.
-      behind_building p bytes (event_file n ∷ moving p n ∷ writing ∷ []) page held a no2 λ no3.
-      behind_event_file n (moving p n ∷ writing ∷ []) (reads 1 [] (omega arith)) no3 λ file events holds of_file no4.
+      behind_page_file p (acceptance p ∷ event_file n ∷ moving p n ∷ writing ∷ []) (reads 0 [] (omega arith)) no0 λ bytes held fits no1.
+      behind_acceptance p bytes (event_file n ∷ moving p n ∷ writing ∷ []) held no1 λ page a no2.
+      behind_event_file n (moving p n ∷ writing ∷ []) (reads 1 [] (omega arith)) no2 λ file events holds of_file no3.
       let of_page : IsPage bytes page = record { fits = fits; accepted = a } in
-      behind_moving p n bytes file (writing ∷ []) page events held holds of_page of_file no4 at_writing
+      behind_moving p n bytes file (writing ∷ []) page events held holds of_page of_file no3 at_writing
 
 pub some_cause : NoneNeither → SomeCause
 some_cause none_neither command seen reads never = some_end seen none_neither command reads never

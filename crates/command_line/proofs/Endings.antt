@@ -11,16 +11,17 @@ use Rattle.js_values.specs.declared.event.Event.{Event}
 use Rattle.command_line.specs.declared.status.Status.{Status}
 use Rattle.command_line.specs.declared.status.Status.TheVariants.{Ok, PageRefused, Usage, EventsRefused, ReadFault, WriteFault, TooLarge, OutOfMemory}
 use Rattle.command_line.specs.declared.command.Work.TheVariants.{Replay, Save}
-use Rattle.command_line.specs.Command.{Command, check, session}
+use Rattle.command_line.specs.Command.{Command, check, instrument, session}
 use Rattle.command_line.specs.Moving.{IsAnswer}
-use Rattle.command_line.specs.Page.{page_limit, Page, Accepts, IsPage, IsBuilt, IsNotBuilt, IsNotTaken}
+use Rattle.command_line.specs.Opening.{OpensTo}
+use Rattle.command_line.specs.Page.{page_limit, Page, Accepts, IsPage, opened}
 use Rattle.command_line.specs.Reading.{StopsAtPage, StopsAtEvents}
 use Rattle.command_line.specs.Replay.{IsEventFile}
 use Rattle.command_line.specs.Stages.{Seen, Of, Held, ReadFailed, Stops, Stage, page_file, acceptance, event_file, moving, writing, EndsAt, work_of, Ends}
 use Rattle.command_line.specs.Texts.{PutsNothing, PutsText, Puts}
-use Rattle.command_line.proofs.Moves.{OneAcceptance}
+use Rattle.command_line.proofs.Moves.{SavingLaws}
 use Rattle.command_line.proofs.Works.{Both, told_begins, told_large, told_movable, told_needs, told_saves}
-use Rattle.moved_pages.specs.Moved.{AcceptedScriptsAreInForm, MovedPagesGoOn}
+use Rattle.opened_pages.specs.Opened.{HaveNumbers}
 use Rattle.page_writer.specs.Page.{saved_page}
 
 -- ---- what is told of the bytes of a name
@@ -37,26 +38,12 @@ told_accepted None page h = (tt, tt)
 told_accepted (Some None) page h = absurd h
 told_accepted (Some (Some bytes)) page h = (h.fits, (page, h.accepted))
 
--- a page that is not built in is accepted
-told_only_unbuilt : (told : Told) (k : ℕ) → Of told (λ b. IsNotBuilt b (NotBuilt k)) → Of told (λ b. (page : Page) × Accepts b page)
-told_only_unbuilt None k h = tt
-told_only_unbuilt (Some None) k h = absurd h
-told_only_unbuilt (Some (Some bytes)) k h = (h.1.0, h.1.1)
-
--- a page that is taken passes the stages of the page
-pub record PassesPage (told : Told) : Type 0 where
-  pub fits : Of told (λ b. length b ≤ page_limit)
-  pub accepted : Of told (λ b. (page : Page) × Accepts b page)
-  pub built : Of told (λ b. (page : Page) × Accepts b page × IsBuilt page)
-
-pub told_taken : (told : Told) (page : Page) → Of told (λ b. IsPage b page) → IsBuilt page → PassesPage told
-told_taken None page h built = record { fits = tt; accepted = tt; built = tt }
-told_taken (Some None) page h built = absurd h
-told_taken (Some (Some bytes)) page h built = record {
-  fits = h.fits;
-  accepted = (page, h.accepted);
-  built = (page, h.accepted, built);
-}
+-- a page that is opened was accepted
+told_opened : (told : Told) (text : List ℕ) → Of told (λ b. OpensTo b text)
+    → Of told (λ b. length b ≤ page_limit) × Of told (λ b. (page : Page) × Accepts b page)
+told_opened None text h = (tt, tt)
+told_opened (Some None) text h = absurd h
+told_opened (Some (Some bytes)) text h = (h.of_page.fits, (h.page, h.of_page.accepted))
 
 told_events : (told : Told) (events : List Event) → Of told (λ f. IsEventFile f events) → Of told (λ f. (events : List Event) × IsEventFile f events)
 told_events None events h = tt
@@ -94,6 +81,19 @@ pub check_writes : (p : List ℕ) (status : Status) (seen : Seen) (page : Page) 
     → EndsAt (work_of (check p)) status seen
 check_writes p status seen page h s = behind_acceptance p (writing ∷ []) status seen page h (inl s)
 
+-- ---- instrument
+
+-- reading the page ends it
+pub instrument_stops : (p : List ℕ) (status : Status) (seen : Seen) → StopsAtPage IsRefused status (seen.files_before.content p)
+    → (status ≡ ReadFault → ReadFailed p seen) → EndsAt (work_of (instrument p)) status seen
+instrument_stops p status seen h f = stops_at_page p (writing ∷ []) status seen h f
+
+-- or writing does
+pub instrument_writes : (p : List ℕ) (text : List ℕ) (status : Status) (seen : Seen) → Held seen p (λ b. OpensTo b text) → Stops writing status seen
+    → EndsAt (work_of (instrument p)) status seen
+instrument_writes p text status seen h s =
+    let both = told_opened (seen.files_before.content p) text h in inr (both.0, inr (both.1, inl s))
+
 -- ---- the events
 
 stops_at_events : (e : List ℕ) (gs : List Stage) (status : Status) (seen : Seen) → StopsAtEvents status (seen.files_before.content e)
@@ -129,41 +129,21 @@ replay_writes p e status seen page events h g s =
 
 -- ---- save
 
--- a page that is not taken is refused, or is not built in
-save_refused : (p e : List ℕ) (r : Refusal) (seen : Seen) → Held seen p (λ b. (length b ≤ page_limit) × IsNotTaken b r)
-    → EndsAt (work_of (session Save p e)) (PageRefused (Some r)) seen
-save_refused p e (NotBuilt k) seen h =
-    let both = told_fits (seen.files_before.content p) (λ b. IsNotBuilt b (NotBuilt k)) h in
-    inr (both.0, inr (told_only_unbuilt (seen.files_before.content p) k both.1, inl both.1))
-save_refused p e r seen h = let both = told_fits (seen.files_before.content p) (λ b. IsRefused b r) h in inr (both.0, inl both.1)
-
 -- reading the page ends the session
-pub save_stops : (p e : List ℕ) (status : Status) (seen : Seen) → StopsAtPage IsNotTaken status (seen.files_before.content p)
+pub save_stops : (p e : List ℕ) (status : Status) (seen : Seen) → StopsAtPage IsRefused status (seen.files_before.content p)
     → (status ≡ ReadFault → ReadFailed p seen) → EndsAt (work_of (session Save p e)) status seen
-save_stops p e Ok seen h f = absurd h
-save_stops p e (PageRefused None) seen h f = inl h
-save_stops p e (PageRefused (Some r)) seen h f = save_refused p e r seen h
-save_stops p e Usage seen h f = absurd h
-save_stops p e (EventsRefused i) seen h f = absurd h
-save_stops p e ReadFault seen h f = inl (f refl)
-save_stops p e WriteFault seen h f = absurd h
-save_stops p e (TooLarge w) seen h f = absurd h
-save_stops p e OutOfMemory seen h f = inl tt
+save_stops p e status seen h f = stops_at_page p (event_file e ∷ moving p e ∷ writing ∷ []) status seen h f
 
--- what stands behind the stages of the page
-behind_page : (p e : List ℕ) (status : Status) (seen : Seen) → PassesPage (seen.files_before.content p)
-    → EndsAt (event_file e ∷ moving p e ∷ writing ∷ []) status seen → EndsAt (work_of (session Save p e)) status seen
-behind_page p e status seen h s = inr (h.fits, inr (h.accepted, inr (h.built, s)))
-
--- reading the events ends the session
-pub save_events : (p e : List ℕ) (status : Status) (seen : Seen) (page : Page) → Held seen p (λ b. IsPage b page) → IsBuilt page
+-- or reading the events does
+pub save_events : (p e : List ℕ) (status : Status) (seen : Seen) (page : Page) → Held seen p (λ b. IsPage b page)
     → StopsAtEvents status (seen.files_before.content e) → (status ≡ ReadFault → ReadFailed e seen)
     → EndsAt (work_of (session Save p e)) status seen
-save_events p e status seen page h built s f = behind_page p e status seen (told_taken (seen.files_before.content p) page h built) (stops_at_events e (moving p e ∷ writing ∷ []) status seen s f)
+save_events p e status seen page h s f =
+    behind_acceptance p (event_file e ∷ moving p e ∷ writing ∷ []) status seen page h (stops_at_events e (moving p e ∷ writing ∷ []) status seen s f)
 
 module _ (p e : List ℕ) (seen : Seen) (page : Page) (events : List Event) (both : Both (seen.files_before.content p) (seen.files_before.content e) page events) where
   -- what was answered of the page as it is ends it
-  moving_ends : (status : Status) → IsAnswer (run_of page.scripts events) seen.out_before seen.out_now status
+  moving_ends : (status : Status) → IsAnswer (run_of (opened page) events) seen.out_before seen.out_now status
       → EndsAt (moving p e ∷ writing ∷ []) status seen
   moving_ends Ok a = inr (told_movable _ _ page events both a.0 a.1, inl tt)
   moving_ends WriteFault a = inr (told_movable _ _ page events both a.0 a.1, inl a.3)
@@ -184,43 +164,44 @@ module _ (p e : List ℕ) (seen : Seen) (page : Page) (events : List Event) (bot
   moving_ends (EventsRefused i) a = absurd a
   moving_ends ReadFault a = absurd a
 
-  pub save_answers : (status : Status) → IsBuilt page → IsAnswer (run_of page.scripts events) seen.out_before seen.out_now status
+  pub save_answers : (status : Status) → IsAnswer (run_of (opened page) events) seen.out_before seen.out_now status
       → EndsAt (work_of (session Save p e)) status seen
-  save_answers status built a =
-      behind_page p e status seen (told_taken (seen.files_before.content p) page both.of_page built)
+  save_answers status a =
+      behind_acceptance p (event_file e ∷ moving p e ∷ writing ∷ []) status seen page both.of_page
       (inr (told_events (seen.files_before.content e) events both.of_file, moving_ends status a))
 
   -- and tells what is put
-  pub save_puts : (one : OneAcceptance) (formed : AcceptedScriptsAreInForm) (law : MovedPagesGoOn) (status : Status) → IsBuilt page
-      → IsAnswer (run_of page.scripts events) seen.out_before seen.out_now status → PutsText (session Save p e) status seen
-  save_puts one formed law Ok built a =
-      (saved_page (run_of page.scripts events) a.0, told_saves _ _ page events both a.0 one formed law built a.1, a.2)
-  save_puts one formed law WriteFault built a =
-      (saved_page (run_of page.scripts events) a.0, told_saves _ _ page events both a.0 one formed law built a.1, a.2)
-  save_puts one formed law (PageRefused None) built a = absurd a
-  save_puts one formed law (PageRefused (Some NotUtf8)) built a = absurd a
-  save_puts one formed law (PageRefused (Some NotPage)) built a = absurd a
-  save_puts one formed law (PageRefused (Some (NotTokens k))) built a = absurd a
-  save_puts one formed law (PageRefused (Some (NotScript k))) built a = absurd a
-  save_puts one formed law (PageRefused (Some (NotStrict k))) built a = absurd a
-  save_puts one formed law (PageRefused (Some (Early k rule))) built a = absurd a
-  save_puts one formed law (PageRefused (Some (TooDeep k))) built a = absurd a
-  save_puts one formed law (PageRefused (Some (ReservedName k))) built a = absurd a
-  save_puts one formed law (PageRefused (Some (NotForm k))) built a = absurd a
-  save_puts one formed law (PageRefused (Some (NotBuilt k))) built a = ap (λ s. s.taken) a.1
-  save_puts one formed law (TooLarge w) built a = ap (λ s. s.taken) a.0
-  save_puts one formed law OutOfMemory built (inl a) = inl (ap (λ s. s.taken) a)
-  save_puts one formed law OutOfMemory built (inr a) =
-      inr (saved_page (run_of page.scripts events) a.0, told_begins _ _ page events both a.0 a.1, a.2)
-  save_puts one formed law Usage built a = absurd a
-  save_puts one formed law (EventsRefused i) built a = absurd a
-  save_puts one formed law ReadFault built a = absurd a
+  pub save_puts : (laws : SavingLaws) (status : Status) → (¬ (status ≡ OutOfMemory) → HaveNumbers page.kind page.scripts)
+      → IsAnswer (run_of (opened page) events) seen.out_before seen.out_now status → PutsText (session Save p e) status seen
+  save_puts laws Ok numbered a =
+      (saved_page (run_of (opened page) events) a.0, told_saves _ _ page events both a.0 laws (numbered (λ e. cc)) a.1, a.2)
+  save_puts laws WriteFault numbered a =
+      (saved_page (run_of (opened page) events) a.0, told_saves _ _ page events both a.0 laws (numbered (λ e. cc)) a.1, a.2)
+  save_puts laws (PageRefused None) numbered a = absurd a
+  save_puts laws (PageRefused (Some NotUtf8)) numbered a = absurd a
+  save_puts laws (PageRefused (Some NotPage)) numbered a = absurd a
+  save_puts laws (PageRefused (Some (NotTokens k))) numbered a = absurd a
+  save_puts laws (PageRefused (Some (NotScript k))) numbered a = absurd a
+  save_puts laws (PageRefused (Some (NotStrict k))) numbered a = absurd a
+  save_puts laws (PageRefused (Some (Early k rule))) numbered a = absurd a
+  save_puts laws (PageRefused (Some (TooDeep k))) numbered a = absurd a
+  save_puts laws (PageRefused (Some (ReservedName k))) numbered a = absurd a
+  save_puts laws (PageRefused (Some (NotForm k))) numbered a = absurd a
+  save_puts laws (PageRefused (Some (NotBuilt k))) numbered a = ap (λ s. s.taken) a.1
+  save_puts laws (TooLarge w) numbered a = ap (λ s. s.taken) a.0
+  save_puts laws OutOfMemory numbered (inl a) = inl (ap (λ s. s.taken) a)
+  save_puts laws OutOfMemory numbered (inr a) =
+      inr (saved_page (run_of (opened page) events) a.0, told_begins _ _ page events both a.0 a.1, a.2)
+  save_puts laws Usage numbered a = absurd a
+  save_puts laws (EventsRefused i) numbered a = absurd a
+  save_puts laws ReadFault numbered a = absurd a
 
 -- ---- nothing is put where reading ends the command
 
 -- so it is for want of memory, too
 puts_without_memory : (command : Command) (seen : Seen) → PutsNothing seen → PutsText command OutOfMemory seen
 puts_without_memory (check p) seen e = e
+puts_without_memory (instrument p) seen e = e
 puts_without_memory (session Replay p f) seen e = e
 puts_without_memory (session Save p f) seen e = inl e
 
@@ -273,6 +254,7 @@ neither f g (inr b) = g b.1
 -- no command ends as words that are none
 pub no_usage : (command : Command) (seen : Seen) → ¬ EndsAt (work_of command) Usage seen
 no_usage (check p) seen = neither (λ x. x) (neither (λ x. x) (neither (λ x. x) (λ x. x)))
+no_usage (instrument p) seen = neither (λ x. x) (neither (λ x. x) (neither (λ x. x) (λ x. x)))
 no_usage (session Replay p e) seen = neither (λ x. x) (neither (λ x. x) (neither (λ x. x) (neither (λ x. x) (λ x. x))))
 no_usage (session Save p e) seen =
-    neither (λ x. x) (neither (λ x. x) (neither (λ x. x) (neither (λ x. x) (neither (λ x. x) (neither (λ x. x) (λ x. x))))))
+    neither (λ x. x) (neither (λ x. x) (neither (λ x. x) (neither (λ x. x) (neither (λ x. x) (λ x. x)))))

@@ -1,21 +1,25 @@
 -- A saved page is accepted, and goes on as the page that was saved.
-use Rattle.std.proofs.Common.{◌≡◌, ◌⊎◌, inl, inr, ℕ, ◌≤◌, ◌<◌, List, [], ◌∷◌, min, refl, sym, ap, subst, ◌∙◌, arith, ◌+◌, ◌*◌}
+use Rattle.std.proofs.Common.{◌≡◌, ◌⊎◌, inl, inr, ℕ, true, ◌≤◌, ◌<◌, List, [], ◌∷◌, min, refl, sym, ap, subst, ◌∙◌, arith, ◌+◌, ◌*◌}
+use Rattle.std.specs.List.{list_all}
+use Rattle.std.proofs.lemmas.Bool.{and_from}
 use Rattle.heap_walker.specs.Things.{IsWalk}
 use Rattle.heap_walker.specs.Weight.{load_of, told}
 use Rattle.js_core.specs.Tree as tree
 use Rattle.js_values.specs.declared.event.Event.{Event}
 use Rattle.moved_pages.specs.Moved.{AcceptedScriptsAreInForm, CanBeMoved, GoesOnAs, IsShort, MovedPagesGoOn}
 use Rattle.moved_pages.specs.Moved as moved
+use Rattle.opened_pages.specs.Opened.{HaveNumbers, OpenedPagesAreAccepted, OpenedPagesPutOutTheSame, PutOutTheSame, opened_scripts, opened_text}
 use Rattle.page_check.specs.Accept.{IsAcceptedAs}
 use Rattle.page_check.specs.declared.page.Kind.{Kind}
-use Rattle.page_check.specs.declared.page.Kind.TheVariants.{Form}
+use Rattle.page_check.specs.declared.page.Kind.TheVariants.{Plain, Form}
 use Rattle.page_meaning.specs.Pages.{lines_after, lines_of_run, run_of}
 use Rattle.page_meaning.specs.Store.{Store}
 use Rattle.page_writer.specs.Page.{saved_page}
 use Rattle.page_writer.specs.Sizes.{text_limit, things_limit}
 use Rattle.rebuilding.specs.Laws.{LoadsWithin}
+use Rattle.scope_analysis.specs.Form.{in_form}
 use Rattle.command_line.specs.Moving.{CanBeSaved}
-use Rattle.command_line.specs.Page.{Page, Accepts, IsBuilt}
+use Rattle.command_line.specs.Page.{Page, Accepts, opened}
 use Rattle.command_line.specs.Saving.{GoesOn, IsTooMuch, MovesTo}
 use Rattle.command_line.proofs.Numbers.{at_most_or_more}
 
@@ -38,13 +42,24 @@ few_things s things little = few_of (load_of s things).things things_limit _ (om
 little_text : (s : Store) (things : List ℕ) → ¬ IsTooMuch (told (load_of s things)) → (load_of s things).text ≤ text_limit
 little_text s things little = few_of (load_of s things).text text_limit _ (omega arith) (λ more. little (inr more))
 
+-- the laws of the crates below on moved and opened pages
+pub record SavingLaws : Type 0 where
+  pub one : OneAcceptance
+  pub formed : AcceptedScriptsAreInForm
+  pub moved : MovedPagesGoOn
+  pub accepted : OpenedPagesAreAccepted
+  pub same : OpenedPagesPutOutTheSame
+
 -- the script of a moved page goes on as the page, whichever pages they are accepted as
 goes_on_by : (script : tree.Stmts) (earlier : List Event) (text : List ℕ) (page now : Page) → now.kind ≡ Form → now.scripts ≡ script ∷ []
-    → GoesOnAs text page.scripts earlier script → (before : Page) → before.scripts ≡ page.scripts → GoesOn before earlier now
-goes_on_by script earlier text page now form f h before e = record {
+    → GoesOnAs text (opened page) earlier script → PutOutTheSame (opened page) page.scripts → (before : Page) → before.scripts ≡ page.scripts
+    → GoesOn before earlier now
+goes_on_by script earlier text page now form f h alike before e = record {
   form = form;
   silent = ap (λ (ss : List tree.Stmts). lines_of_run ss []) f ∙ h.silent;
-  same = λ later. ap (λ (ss : List tree.Stmts). lines_after ss [] later) f ∙ h.same later ∙ sym (ap (λ (ss : List tree.Stmts). lines_after ss earlier later) e);
+  same = λ later.
+      ap (λ (ss : List tree.Stmts). lines_after ss [] later) f ∙ h.same later ∙ alike.after earlier later
+      ∙ sym (ap (λ (ss : List tree.Stmts). lines_after ss earlier later) e);
 }
 
 -- and it is saved again as the same text
@@ -55,56 +70,69 @@ again_by script text now things f h walk =
     ap (λ (ss : List tree.Stmts). saved_page (run_of ss []) things) f
     ∙ h things (subst (λ (ss : List tree.Stmts). IsWalk (run_of ss []) things) f walk)
 
--- a page whose scripts are in form, that can be saved
-can_be_moved : (formed : AcceptedScriptsAreInForm) (bytes : List ℕ) (page : Page) (earlier : List Event) (things : List ℕ) → Accepts bytes page
-    → IsBuilt page → CanBeSaved (run_of page.scripts earlier) things → CanBeMoved page.scripts earlier things
-can_be_moved formed bytes page earlier things accepted built can = record {
-  in_form = formed bytes page.kind page.scripts accepted built;
-  walked = can.walked;
-  alone = can.alone;
-  literals = can.literals;
-  few = few_things (run_of page.scripts earlier) things can.little;
-  short = little_text (run_of page.scripts earlier) things can.little;
-}
+-- the scripts of a page with opened scopes are those of some form page
+formed_as : (laws : SavingLaws) (kind : Kind) (bytes : List ℕ) (scripts : List tree.Stmts) → IsAcceptedAs bytes kind scripts
+    → (text : List ℕ) × IsAcceptedAs text Form (opened_scripts kind scripts)
+formed_as laws Form bytes scripts is = (bytes, is)
+formed_as laws Plain bytes scripts is =
+    let text : List ℕ = opened_text is.framed.with_body is.script in
+    (text, laws.accepted Plain bytes scripts text is (is, refl))
 
-pub saved_short : (formed : AcceptedScriptsAreInForm) (law : MovedPagesGoOn) (bytes : List ℕ) (page : Page) (earlier : List Event) (things : List ℕ)
-    → Accepts bytes page → IsBuilt page → CanBeSaved (run_of page.scripts earlier) things → IsShort (run_of page.scripts earlier) things
-saved_short formed law bytes page earlier things accepted built can =
-    (law page.scripts earlier things (can_be_moved formed bytes page earlier things accepted built can)).1
+all_formed : (text : List ℕ) (scripts : List tree.Stmts) → IsAcceptedAs text Form scripts → list_all in_form scripts ≡ true
+all_formed text scripts is = subst (λ (ss : List tree.Stmts). list_all in_form ss ≡ true) (sym is.only) (and_from (in_form is.script) true is.read.formed refl)
+
+-- a page that can be saved
+can_be_moved : (laws : SavingLaws) (bytes : List ℕ) (page : Page) (earlier : List Event) (things : List ℕ) → Accepts bytes page
+    → CanBeSaved (run_of (opened page) earlier) things → CanBeMoved (opened page) earlier things
+can_be_moved laws bytes page earlier things accepted can =
+    let as_form = formed_as laws page.kind bytes page.scripts accepted in
+    record {
+      in_form = laws.formed as_form.0 Form (opened page) as_form.1 (all_formed as_form.0 (opened page) as_form.1);
+      walked = can.walked;
+      remade = can.remade;
+      literals = can.literals;
+      few = few_things (run_of (opened page) earlier) things can.little;
+      short = little_text (run_of (opened page) earlier) things can.little;
+    }
+
+pub saved_short : (laws : SavingLaws) (bytes : List ℕ) (page : Page) (earlier : List Event) (things : List ℕ)
+    → Accepts bytes page → CanBeSaved (run_of (opened page) earlier) things → IsShort (run_of (opened page) earlier) things
+saved_short laws bytes page earlier things accepted can =
+    (laws.moved (opened page) earlier things (can_be_moved laws bytes page earlier things accepted can)).1
 
 more_steps : (script : tree.Stmts) (n : ℕ) → LoadsWithin script (2 * n) → LoadsWithin script (4 * n + 4)
 more_steps script n h = record { signal = h.signal; after = h.after; left = h.left; ends = h.ends; few = omega (arith, h.few) }
 
-pub saved_steps : (one : OneAcceptance) (formed : AcceptedScriptsAreInForm) (law : MovedPagesGoOn) (bytes : List ℕ) (page : Page) (earlier : List Event) (things : List ℕ)
-    → Accepts bytes page → IsBuilt page → CanBeSaved (run_of page.scripts earlier) things
-    → (now : Page) (script : tree.Stmts) → Accepts (saved_page (run_of page.scripts earlier) things) now → now.scripts ≡ script ∷ []
-    → LoadsWithin script (4 * (load_of (run_of page.scripts earlier) things).things + 4)
-saved_steps one formed law bytes page earlier things accepted built can now script b only =
-    let text = saved_page (run_of page.scripts earlier) things in
-    let n : ℕ = (load_of (run_of page.scripts earlier) things).things in
-    let found : moved.GoesOn text page.scripts earlier (2 * n) =
-    (law page.scripts earlier things (can_be_moved formed bytes page earlier things accepted built can)).0 in
-    let at_last = one text now.kind Form now.scripts (found.script ∷ []) b found.goes_on.accepted in
+pub saved_steps : (laws : SavingLaws) (bytes : List ℕ) (page : Page) (earlier : List Event) (things : List ℕ)
+    → Accepts bytes page → CanBeSaved (run_of (opened page) earlier) things
+    → (now : Page) (script : tree.Stmts) → Accepts (saved_page (run_of (opened page) earlier) things) now → now.scripts ≡ script ∷ []
+    → LoadsWithin script (4 * (load_of (run_of (opened page) earlier) things).things + 4)
+saved_steps laws bytes page earlier things accepted can now script b only =
+    let text = saved_page (run_of (opened page) earlier) things in
+    let n : ℕ = (load_of (run_of (opened page) earlier) things).things in
+    let found : moved.GoesOn text (opened page) earlier (2 * n) =
+    (laws.moved (opened page) earlier things (can_be_moved laws bytes page earlier things accepted can)).0 in
+    let at_last = laws.one text now.kind Form now.scripts (found.script ∷ []) b found.goes_on.accepted in
     let same : script ∷ [] ≡ found.script ∷ [] = sym only ∙ at_last.1 in
     let one_script : script ≡ found.script = cc same in
     subst (λ (c : tree.Stmts). LoadsWithin c (4 * n + 4)) (sym one_script) (more_steps found.script n found.within)
 
-pub saved_moves : (one : OneAcceptance) (formed : AcceptedScriptsAreInForm) (law : MovedPagesGoOn) (bytes : List ℕ) (page : Page) (earlier : List Event) (things : List ℕ)
-    → Accepts bytes page → IsBuilt page → CanBeSaved (run_of page.scripts earlier) things
-    → MovesTo bytes earlier (saved_page (run_of page.scripts earlier) things)
-saved_moves one formed law bytes page earlier things accepted built can =
-    let text = saved_page (run_of page.scripts earlier) things in
-    let found : moved.GoesOn text page.scripts earlier (2 * (load_of (run_of page.scripts earlier) things).things) =
-    (law page.scripts earlier things (can_be_moved formed bytes page earlier things accepted built can)).0 in
+pub saved_moves : (laws : SavingLaws) (bytes : List ℕ) (page : Page) (earlier : List Event) (things : List ℕ)
+    → Accepts bytes page → HaveNumbers page.kind page.scripts → CanBeSaved (run_of (opened page) earlier) things
+    → MovesTo bytes earlier (saved_page (run_of (opened page) earlier) things)
+saved_moves laws bytes page earlier things accepted numbered can =
+    let text = saved_page (run_of (opened page) earlier) things in
+    let found : moved.GoesOn text (opened page) earlier (2 * (load_of (run_of (opened page) earlier) things).things) =
+    (laws.moved (opened page) earlier things (can_be_moved laws bytes page earlier things accepted can)).0 in
+    let alike = laws.same page.kind bytes page.scripts accepted numbered in
     record {
       moved = record { kind = Form; scripts = found.script ∷ [] };
       page = record { fits = found.goes_on.fits; accepted = found.goes_on.accepted };
       goes_on = λ before now a b.
-          let at_first = one bytes before.kind page.kind before.scripts page.scripts a accepted in
-          let at_last = one text now.kind Form now.scripts (found.script ∷ []) b found.goes_on.accepted in
-          goes_on_by found.script earlier text page now at_last.0 at_last.1 found.goes_on before at_first.1;
-      built = rw found.goes_on.formed refl;
+          let at_first = laws.one bytes before.kind page.kind before.scripts page.scripts a accepted in
+          let at_last = laws.one text now.kind Form now.scripts (found.script ∷ []) b found.goes_on.accepted in
+          goes_on_by found.script earlier text page now at_last.0 at_last.1 found.goes_on alike before at_first.1;
       again = λ now ks b walk.
-          let at_last = one text now.kind Form now.scripts (found.script ∷ []) b found.goes_on.accepted in
+          let at_last = laws.one text now.kind Form now.scripts (found.script ∷ []) b found.goes_on.accepted in
           again_by found.script text now ks at_last.1 found.goes_on.again walk;
     }

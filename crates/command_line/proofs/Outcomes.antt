@@ -1,18 +1,19 @@
--- What is found of a page after the events of a file: one of its functions needs scopes, it is too large, or it can be saved; it is one of
+-- What is found of a page after the events of a file: one of its functions cannot be made again, it is too large, or it can be saved; it is one of
 -- these, in one way.
 use Rattle.std.proofs.Common.{◌≡◌, ℕ, List, Ok, refl, sym, ap, ◌∙◌, subst}
 use Rattle.js_core.specs.Tree as tree
 use Rattle.js_values.specs.declared.event.Event.{Event}
+use Rattle.opened_pages.specs.Opened.{opened_scripts}
 use Rattle.page_meaning.specs.Pages.{run_of}
 use Rattle.page_meaning.specs.Store.{Store}
-use Rattle.heap_walker.specs.Alone.{StandAlone}
+use Rattle.heap_walker.specs.Remade.{AllCanBeRemade}
 use Rattle.heap_walker.specs.Things.{IsWalk}
 use Rattle.heap_walker.specs.Weight.{load_of, told}
 use Rattle.heap_walker.specs.declared.weight.Weight.{Weight}
 use Rattle.heap_walker.proofs.Callers.{walks_are_same}
-use Rattle.command_line.specs.Page.{Page, IsPage}
+use Rattle.command_line.specs.Page.{Page, IsPage, opened}
 use Rattle.command_line.specs.Replay.{IsEventFile}
-use Rattle.command_line.specs.Saving.{IsAfter, NeedsScopes, IsTooMuch, IsTooLarge, IsMovable}
+use Rattle.command_line.specs.Saving.{IsAfter, CannotBeRemade, IsTooMuch, IsTooLarge, IsMovable}
 use Rattle.command_line.proofs.Moves.{OneAcceptance}
 use Rattle.command_line.proofs.Walking.{some_walk}
 
@@ -26,7 +27,8 @@ module _ (one_page : OneAcceptance) (bytes file : List ℕ) where
   same_state s t ks js a b =
       let page = one_page bytes a.page.kind b.page.kind a.page.scripts b.page.scripts a.of_page.accepted b.of_page.accepted in
       let events = same_events file a.events b.events a.of_file b.of_file in
-      a.state ∙ ap (λ (scripts : List tree.Stmts). run_of scripts a.events) page.1 ∙ ap (run_of b.page.scripts) events ∙ sym b.state
+      let opens : opened a.page ≡ opened b.page = ap (λ k. opened_scripts k a.page.scripts) page.0 ∙ ap (opened_scripts b.page.kind) page.1 in
+      a.state ∙ ap (λ (scripts : List tree.Stmts). run_of scripts a.events) opens ∙ ap (run_of (opened b.page)) events ∙ sym b.state
 
   -- so what holds of the one holds of the other
   pub carried : (P : Store → List ℕ → Type 0) (s t : Store) (ks js : List ℕ) → IsAfter bytes file s ks → IsAfter bytes file t js → P s ks → P t js
@@ -37,8 +39,8 @@ module _ (one_page : OneAcceptance) (bytes file : List ℕ) where
 
   -- ---- no two are found, and one in one way
 
-  pub scopes_or_alone : (s : Store) (ks : List ℕ) → NeedsScopes bytes file → IsAfter bytes file s ks → StandAlone s ks → ⊥
-  scopes_or_alone s ks n a h = n.not_alone (carried StandAlone s n.state ks n.things a n.after h)
+  pub remade_or_not : (s : Store) (ks : List ℕ) → CannotBeRemade bytes file → IsAfter bytes file s ks → AllCanBeRemade s ks → ⊥
+  remade_or_not s ks n a h = n.not_remade (carried AllCanBeRemade s n.state ks n.things a n.after h)
 
   pub one_weight : (v w : Weight) → IsTooLarge bytes file v → IsTooLarge bytes file w → v ≡ w
   one_weight v w l m =
@@ -52,12 +54,12 @@ module _ (one_page : OneAcceptance) (bytes file : List ℕ) where
 -- ---- one is found
 
 pub some_outcome : (bytes file : List ℕ) (page : Page) (events : List Event) → IsPage bytes page → IsEventFile file events
-    → (NeedsScopes bytes file → ⊥) → ((w : Weight) → IsTooLarge bytes file w → ⊥) → (IsMovable bytes file → ⊥) → ⊥
+    → (CannotBeRemade bytes file → ⊥) → ((w : Weight) → IsTooLarge bytes file w → ⊥) → (IsMovable bytes file → ⊥) → ⊥
 some_outcome bytes file page events of_page of_file scopes large movable =
     some_walk s (λ things walked. at_walk things (after things walked))
   where
     s : Store
-    s = run_of page.scripts events
+    s = run_of (opened page) events
 
     after : (things : List ℕ) → IsWalk s things → IsAfter bytes file s things
     after things walked = record {
@@ -69,13 +71,13 @@ some_outcome bytes file page events of_page of_file scopes large movable =
       walked = walked;
     }
 
-    little : (things : List ℕ) → IsAfter bytes file s things → StandAlone s things → ¬ IsTooMuch (told (load_of s things))
-    little things a alone much =
-        large (told (load_of s things)) (record { state = s; things = things; after = a; alone = alone; weighed = refl; more = much })
+    little : (things : List ℕ) → IsAfter bytes file s things → AllCanBeRemade s things → ¬ IsTooMuch (told (load_of s things))
+    little things a remade much =
+        large (told (load_of s things)) (record { state = s; things = things; after = a; remade = remade; weighed = refl; more = much })
 
-    not_alone : (things : List ℕ) → IsAfter bytes file s things → ¬ StandAlone s things
-    not_alone things a alone =
-        movable (record { state = s; things = things; after = a; alone = alone; little = little things a alone })
+    not_remade : (things : List ℕ) → IsAfter bytes file s things → ¬ AllCanBeRemade s things
+    not_remade things a remade =
+        movable (record { state = s; things = things; after = a; remade = remade; little = little things a remade })
 
     at_walk : (things : List ℕ) → IsAfter bytes file s things → ⊥
-    at_walk things a = scopes (record { state = s; things = things; after = a; not_alone = not_alone things a })
+    at_walk things a = scopes (record { state = s; things = things; after = a; not_remade = not_remade things a })

@@ -9,9 +9,9 @@ use Rattle.page_check.specs.declared.page.Refusal.TheVariants.{NotBuilt}
 use Rattle.command_line.specs.declared.status.Status.{Status}
 use Rattle.command_line.specs.declared.status.Status.TheVariants as status
 use Rattle.command_line.specs.Command.{Command}
-use Rattle.command_line.specs.Page.{page_limit, IsNotBuilt}
-use Rattle.command_line.specs.Saving.{NeedsScopes, IsTooLarge}
-use Rattle.command_line.specs.Stages.{Seen, Of, Held, IsNoEventFile, Stage, words, page_file, acceptance, building, event_file, moving, writing, Stops, IsQuiet}
+use Rattle.command_line.specs.Page.{page_limit}
+use Rattle.command_line.specs.Saving.{CannotBeRemade, IsTooLarge}
+use Rattle.command_line.specs.Stages.{Seen, Of, Held, IsNoEventFile, Stage, words, page_file, acceptance, event_file, moving, writing, Stops, IsQuiet}
 
 -- ---- of told bytes
 
@@ -38,10 +38,9 @@ abbrev pub StopsAs : Stage → Seen → Status → Type 0
 StopsAs (words command) seen s = s ≡ status.Usage
 StopsAs (page_file p) seen s = (s ≡ status.PageRefused None) × Held seen p (λ bytes. page_limit < length bytes)
 StopsAs (acceptance p) seen s = (r : Refusal) × (s ≡ status.PageRefused (Some r)) × Held seen p (λ bytes. IsRefused bytes r)
-StopsAs (building p) seen s = (r : Refusal) × (s ≡ status.PageRefused (Some r)) × Held seen p (λ bytes. IsNotBuilt bytes r)
 StopsAs (event_file e) seen s = (i : ℕ) × (s ≡ status.EventsRefused i) × Held seen e (λ file. IsNoEventFile file i)
 StopsAs (moving p e) seen s =
-    ((s ≡ status.PageRefused (Some (NotBuilt 1))) × Held seen p (λ bytes. Held seen e (λ file. NeedsScopes bytes file)))
+    ((s ≡ status.PageRefused (Some (NotBuilt 1))) × Held seen p (λ bytes. Held seen e (λ file. CannotBeRemade bytes file)))
     ⊎ ((w : Weight) × (s ≡ status.TooLarge w) × Held seen p (λ bytes. Held seen e (λ file. IsTooLarge bytes file w)))
 StopsAs writing seen s = s ≡ status.Ok
 
@@ -71,17 +70,6 @@ module _ (seen : Seen) (quiet : IsQuiet seen) where
   stops_acceptance p status.WriteFault n h = absurd h
   stops_acceptance p (status.TooLarge w) n h = absurd h
   stops_acceptance p status.OutOfMemory n h = absurd (n refl)
-
-  stops_building : (p : List ℕ) (s : Status) → ¬ (s ≡ status.OutOfMemory) → Stops (building p) s seen → StopsAs (building p) seen s
-  stops_building p status.Ok n h = absurd h
-  stops_building p (status.PageRefused None) n h = absurd h
-  stops_building p (status.PageRefused (Some r)) n h = (r, refl, h)
-  stops_building p status.Usage n h = absurd h
-  stops_building p (status.EventsRefused i) n h = absurd h
-  stops_building p status.ReadFault n h = absurd h
-  stops_building p status.WriteFault n h = absurd h
-  stops_building p (status.TooLarge w) n h = absurd h
-  stops_building p status.OutOfMemory n h = absurd (n refl)
 
   stops_events : (e : List ℕ) (s : Status) → ¬ (s ≡ status.OutOfMemory) → Stops (event_file e) s seen → StopsAs (event_file e) seen s
   stops_events e status.Ok n h = absurd h
@@ -119,7 +107,6 @@ module _ (seen : Seen) (quiet : IsQuiet seen) where
   stops_as (words c) s n h = stops_words c s h
   stops_as (page_file p) s n h = stops_page p s n h
   stops_as (acceptance p) s n h = stops_acceptance p s n h
-  stops_as (building p) s n h = stops_building p s n h
   stops_as (event_file e) s n h = stops_events e s n h
   stops_as (moving p e) s n h = stops_moving p e s n h
   stops_as writing s n h = stops_writing s n h

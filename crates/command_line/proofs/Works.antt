@@ -1,22 +1,22 @@
 -- What a command writes for the files that it read.
 use Rattle.std.proofs.Common.{◌≡◌, ℕ, List, Some, None, refl}
-use Rattle.heap_walker.specs.Alone.{StandAlone}
+use Rattle.heap_walker.specs.Remade.{AllCanBeRemade}
 use Rattle.heap_walker.specs.Things.{IsWalk}
 use Rattle.heap_walker.specs.declared.weight.Weight.{Weight}
 use Rattle.js_values.specs.Line.{lines_text}
 use Rattle.js_values.specs.declared.event.Event.{Event}
-use Rattle.moved_pages.specs.Moved.{AcceptedScriptsAreInForm, MovedPagesGoOn}
+use Rattle.opened_pages.specs.Opened.{HaveNumbers}
 use Rattle.page_io.specs.Content.{Told}
 use Rattle.page_meaning.specs.Pages.{lines_of_run, run_of}
 use Rattle.page_writer.specs.Page.{saved_page}
 use Rattle.command_line.specs.declared.command.Work.TheVariants.{Replay, Save}
 use Rattle.command_line.specs.Moving.{CanBeSaved, IsOverweight}
-use Rattle.command_line.specs.Page.{Page, IsBuilt, IsPage}
+use Rattle.command_line.specs.Page.{Page, IsPage, opened}
 use Rattle.command_line.specs.Replay.{IsEventFile}
-use Rattle.command_line.specs.Saving.{Begins, IsAfter, IsMovable, IsTooLarge, NeedsScopes, Saves}
+use Rattle.command_line.specs.Saving.{Begins, IsAfter, IsMovable, IsTooLarge, CannotBeRemade, Saves}
 use Rattle.command_line.specs.Stages.{Of}
 use Rattle.command_line.specs.Texts.{Writes}
-use Rattle.command_line.proofs.Moves.{OneAcceptance, saved_moves, saved_short, saved_steps}
+use Rattle.command_line.proofs.Moves.{SavingLaws, saved_moves, saved_short, saved_steps}
 
 -- what `replay` writes for a page
 replayed : (bytes file : List ℕ) (page : Page) (events : List Event) (text : List ℕ) → IsPage bytes page → IsEventFile file events
@@ -46,7 +46,7 @@ told_both (Some (Some bytes)) (Some None) of events P of_page of_file f = absurd
 told_both (Some (Some bytes)) (Some (Some content)) of events P of_page of_file f = f bytes content of_page of_file
 
 abbrev is_after : (bytes content : List ℕ) (of : Page) (events : List Event) (things : List ℕ) → IsPage bytes of → IsEventFile content events
-    → IsWalk (run_of of.scripts events) things → IsAfter bytes content (run_of of.scripts events) things
+    → IsWalk (run_of (opened of) events) things → IsAfter bytes content (run_of (opened of) events) things
 is_after bytes content of events things of_page of_file walk = record { page = of; events = events; of_page = of_page; of_file = of_file; state = refl; walked = walk }
 
 -- the page and the events of two names
@@ -55,50 +55,50 @@ pub record Both (page file : Told) (of : Page) (events : List Event) : Type 0 wh
   pub of_file : Of file (λ content. IsEventFile content events)
 
 module _ (page file : Told) (of : Page) (events : List Event) (both : Both page file of events) (things : List ℕ) where
-  pub told_saves : (one : OneAcceptance) (formed : AcceptedScriptsAreInForm) (law : MovedPagesGoOn) → IsBuilt of
-      → CanBeSaved (run_of of.scripts events) things
-      → Of page (λ p. Of file (λ e. Writes Save p e (saved_page (run_of of.scripts events) things)))
-  told_saves one formed law built can = told_both page file of events (λ p e. Saves p e (saved_page (run_of of.scripts events) things)) both.of_page both.of_file λ bytes content p e. record {
-    state = run_of of.scripts events;
+  pub told_saves : (laws : SavingLaws) → HaveNumbers of.kind of.scripts
+      → CanBeSaved (run_of (opened of) events) things
+      → Of page (λ p. Of file (λ e. Writes Save p e (saved_page (run_of (opened of) events) things)))
+  told_saves laws numbered can = told_both page file of events (λ p e. Saves p e (saved_page (run_of (opened of) events) things)) both.of_page both.of_file λ bytes content p e. record {
+    state = run_of (opened of) events;
     things = things;
     after = is_after bytes content of events things p e can.walked;
     saved = refl;
-    short = saved_short formed law bytes of events things p.accepted built can;
-    steps = saved_steps one formed law bytes of events things p.accepted built can;
-    moves = saved_moves one formed law bytes of events things p.accepted built can;
+    short = saved_short laws bytes of events things p.accepted can;
+    steps = saved_steps laws bytes of events things p.accepted can;
+    moves = saved_moves laws bytes of events things p.accepted numbered can;
   }
 
-  pub told_movable : CanBeSaved (run_of of.scripts events) things → Of page (λ p. Of file (λ e. IsMovable p e))
+  pub told_movable : CanBeSaved (run_of (opened of) events) things → Of page (λ p. Of file (λ e. IsMovable p e))
   told_movable can = told_both page file of events (λ p e. IsMovable p e) both.of_page both.of_file λ bytes content p e. record {
-    state = run_of of.scripts events;
+    state = run_of (opened of) events;
     things = things;
     after = is_after bytes content of events things p e can.walked;
-    alone = can.alone;
+    remade = can.remade;
     little = can.little;
   }
 
-  pub told_large : (w : Weight) → IsOverweight (run_of of.scripts events) things w → Of page (λ p. Of file (λ e. IsTooLarge p e w))
+  pub told_large : (w : Weight) → IsOverweight (run_of (opened of) events) things w → Of page (λ p. Of file (λ e. IsTooLarge p e w))
   told_large w over = told_both page file of events (λ p e. IsTooLarge p e w) both.of_page both.of_file λ bytes content p e. record {
-    state = run_of of.scripts events;
+    state = run_of (opened of) events;
     things = things;
     after = is_after bytes content of events things p e over.walked;
-    alone = over.alone;
+    remade = over.remade;
     weighed = over.weighed;
     more = over.more;
   }
 
-  pub told_needs : IsWalk (run_of of.scripts events) things → ¬ StandAlone (run_of of.scripts events) things
-      → Of page (λ p. Of file (λ e. NeedsScopes p e))
-  told_needs walk not_alone = told_both page file of events (λ p e. NeedsScopes p e) both.of_page both.of_file λ bytes content p e. record {
-    state = run_of of.scripts events;
+  pub told_needs : IsWalk (run_of (opened of) events) things → ¬ AllCanBeRemade (run_of (opened of) events) things
+      → Of page (λ p. Of file (λ e. CannotBeRemade p e))
+  told_needs walk not_remade = told_both page file of events (λ p e. CannotBeRemade p e) both.of_page both.of_file λ bytes content p e. record {
+    state = run_of (opened of) events;
     things = things;
     after = is_after bytes content of events things p e walk;
-    not_alone = not_alone;
+    not_remade = not_remade;
   }
 
-  pub told_begins : IsWalk (run_of of.scripts events) things → Of page (λ p. Of file (λ e. Begins p e (saved_page (run_of of.scripts events) things)))
-  told_begins walk = told_both page file of events (λ p e. Begins p e (saved_page (run_of of.scripts events) things)) both.of_page both.of_file λ bytes content p e. record {
-    state = run_of of.scripts events;
+  pub told_begins : IsWalk (run_of (opened of) events) things → Of page (λ p. Of file (λ e. Begins p e (saved_page (run_of (opened of) events) things)))
+  told_begins walk = told_both page file of events (λ p e. Begins p e (saved_page (run_of (opened of) events) things)) both.of_page both.of_file λ bytes content p e. record {
+    state = run_of (opened of) events;
     things = things;
     after = is_after bytes content of events things p e walk;
     saved = refl;

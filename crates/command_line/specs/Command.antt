@@ -8,16 +8,23 @@ use Rattle.command_line.specs.declared.command.Work.TheVariants.{Replay, Save}
 -- a command and its file words
 pub data Command : Type 0 where
   check : List ℕ → Command
+  instrument : List ℕ → Command
   session : Work → List ℕ → List ℕ → Command
 
 abbrev pub view : Asked → Command
 view (asked.Check page) = check page.now
+view (asked.Instrument page) = instrument page.now
 view (asked.Session work page events) = session work page.now events.now
 
 -- `check P`
 abbrev pub check_of : List (List ℕ) → Option Command
 check_of (page ∷ []) = Some (check page)
 check_of words = None
+
+-- `instrument P`
+abbrev pub instrument_of : List (List ℕ) → Option Command
+instrument_of (page ∷ []) = Some (instrument page)
+instrument_of words = None
 
 -- `replay P E` and `save P E`
 abbrev pub session_of : Work → List (List ℕ) → Option Command
@@ -28,9 +35,10 @@ session_of work words = None
 abbrev pub command_by : List ℕ → List (List ℕ) → Option Command
 command_by verb words =
     if bytes_eq verb (codes "check") then check_of words
+    else (if bytes_eq verb (codes "instrument") then instrument_of words
     else (if bytes_eq verb (codes "replay") then session_of Replay words
     else (if bytes_eq verb (codes "save") then session_of Save words
-    else None))
+    else None)))
 
 -- the verb comes first
 abbrev pub command_of : List (List ℕ) → Option Command
@@ -40,4 +48,5 @@ command_of (verb ∷ words) = command_by verb words
 -- the files that a command reads
 abbrev pub files_of : Command → List (List ℕ)
 files_of (check page) = page ∷ []
+files_of (instrument page) = page ∷ []
 files_of (session work page events) = page ∷ events ∷ []

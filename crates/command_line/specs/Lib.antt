@@ -2,6 +2,7 @@ pub mod Checking
 pub mod Command
 pub mod Moving
 pub mod Notes
+pub mod Opening
 pub mod Page
 pub mod Reading
 pub mod Replay

@@ -1,13 +1,10 @@
 -- Which pages the commands take.
-use Rattle.std.specs.Prelude.{ℕ, ◌≡◌, ◌≤◌, true, List, length}
-use Rattle.std.specs.List.{list_all}
+use Rattle.std.specs.Prelude.{ℕ, ◌≤◌, List, length}
 use Rattle.js_core.specs.Tree as tree
-use Rattle.page_check.specs.Accept.{IsAcceptedAs, IsRefused}
+use Rattle.opened_pages.specs.Opened.{opened_scripts}
+use Rattle.page_check.specs.Accept.{IsAcceptedAs}
 use Rattle.page_check.specs.declared.page.Accepted.{Accepted}
 use Rattle.page_check.specs.declared.page.Kind.{Kind}
-use Rattle.page_check.specs.declared.page.Refusal.{Refusal}
-use Rattle.page_check.specs.declared.page.Refusal.TheVariants.{NotBuilt}
-use Rattle.scope_analysis.specs.Form.{in_form}
 
 -- a page file and an event file have at most so many bytes
 abbrev pub page_limit : ℕ
@@ -33,16 +30,6 @@ pub record IsPage (bytes : List ℕ) (page : Page) : Type 0 where
   pub fits : length bytes ≤ page_limit
   pub accepted : Accepts bytes page
 
--- a page that is built in for saving: its scripts are in form, so that each variable that functions share can be rebuilt
-abbrev pub IsBuilt : Page → Type 0
-IsBuilt page = list_all in_form page.scripts ≡ true
-
--- the page is accepted, and its script of this number is not in form
-abbrev pub IsNotBuilt : List ℕ → Refusal → Type 0
-IsNotBuilt bytes (NotBuilt k) = (k ≡ 1) × ((page : Page) × Accepts bytes page × ¬ IsBuilt page)
-IsNotBuilt bytes refusal = ⊥
-
--- why a page is not saved: it is refused, or it is not built in
-abbrev pub IsNotTaken : List ℕ → Refusal → Type 0
-IsNotTaken bytes (NotBuilt k) = IsNotBuilt bytes (NotBuilt k)
-IsNotTaken bytes refusal = IsRefused bytes refusal
+-- the scripts of the page with opened scopes, as it is saved
+abbrev pub opened : Page → List tree.Stmts
+opened page = opened_scripts page.kind page.scripts

@@ -3,11 +3,17 @@ use Rattle.std.specs.Prelude.{◌≡◌, ℕ, ◌<◌, ◌≤◌, List, length, 
 use Rattle.page_io.specs.Content.{Told}
 use Rattle.page_io.specs.Faults.{Rose}
 use Rattle.page_io.specs.Seen.{FilesSeen}
+use Rattle.page_check.specs.Accept.{IsRefused}
 use Rattle.page_check.specs.declared.page.Refusal.{Refusal}
 use Rattle.command_line.specs.declared.status.Status.{Status}
 use Rattle.command_line.specs.declared.status.Status.TheVariants.{PageRefused, EventsRefused, ReadFault, OutOfMemory}
 use Rattle.command_line.specs.Page.{page_limit}
 use Rattle.command_line.specs.Stages.{Of, IsNoEventFile}
+
+-- what a page file holds, where that is not too long
+pub record IsPageFile (held bytes : List ℕ) : Type 0 where
+  pub fits : length held ≤ page_limit
+  pub same : bytes ≡ held
 
 -- why reading the page ends the command
 abbrev pub StopsAtPage : (List ℕ → Refusal → Type 0) → Status → Told → Type 0
@@ -16,6 +22,12 @@ StopsAtPage Why (PageRefused (Some r)) page = Of page (λ bytes. (length bytes �
 StopsAtPage Why ReadFault page = Unit {0}
 StopsAtPage Why OutOfMemory page = Unit {0}
 StopsAtPage Why status page = ⊥
+
+-- the bytes are not accepted as a page, for this cause; want of memory is free
+abbrev pub IsUnaccepted : List ℕ → Status → Type 0
+IsUnaccepted bytes (PageRefused (Some r)) = IsRefused bytes r
+IsUnaccepted bytes OutOfMemory = Unit {0}
+IsUnaccepted bytes status = ⊥
 
 -- why reading the events ends the command
 abbrev pub StopsAtEvents : Status → Told → Type 0

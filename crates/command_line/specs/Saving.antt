@@ -1,6 +1,6 @@
 -- What `save` writes, and that it goes on as the page would.
 use Rattle.std.specs.Prelude.{ℕ, ◌≡◌, ◌<◌, ◌⊎◌, List, [], ◌+◌, ◌*◌, ◌≤◌, length, ◌∷◌}
-use Rattle.heap_walker.specs.Alone.{StandAlone}
+use Rattle.heap_walker.specs.Remade.{AllCanBeRemade}
 use Rattle.heap_walker.specs.Things.{IsWalk}
 use Rattle.heap_walker.specs.Weight.{load_of, told}
 use Rattle.heap_walker.specs.declared.weight.Weight.{Weight}
@@ -12,26 +12,26 @@ use Rattle.page_meaning.specs.Store.{Store}
 use Rattle.page_writer.specs.Page.{saved_page}
 use Rattle.page_writer.specs.Sizes.{text_limit, things_limit}
 use Rattle.rebuilding.specs.Laws.{LoadsWithin}
-use Rattle.command_line.specs.Page.{Page, Accepts, IsBuilt, IsPage}
+use Rattle.command_line.specs.Page.{Page, Accepts, IsPage, opened}
 use Rattle.command_line.specs.Replay.{IsEventFile}
 
 -- ---- what is saved
 
--- the page of these bytes after the events of the file, and its things: those that can still be reached, by age
+-- the page of these bytes, with opened scopes, after the events of the file, and its things: those that can still be reached, by age
 pub record IsAfter (bytes file : List ℕ) (s : Store) (things : List ℕ) : Type 0 where
   pub page : Page
   pub events : List Event
   pub of_page : IsPage bytes page
   pub of_file : IsEventFile file events
-  pub state : s ≡ run_of page.scripts events
+  pub state : s ≡ run_of (opened page) events
   pub walked : IsWalk s things
 
--- one of its functions needs variables of the scopes round it: that is not built yet
-pub record NeedsScopes (bytes file : List ℕ) : Type 0 where
+-- one of its functions cannot be made again from its code and what its needed variables hold. That there is no such page is not proved
+pub record CannotBeRemade (bytes file : List ℕ) : Type 0 where
   pub state : Store
   pub things : List ℕ
   pub after : IsAfter bytes file state things
-  pub not_alone : ¬ StandAlone state things
+  pub not_remade : ¬ AllCanBeRemade state things
 
 abbrev pub IsTooMuch : Weight → Type 0
 IsTooMuch w = (things_limit < w.things) ⊎ (text_limit < w.text)
@@ -41,7 +41,7 @@ pub record IsTooLarge (bytes file : List ℕ) (w : Weight) : Type 0 where
   pub state : Store
   pub things : List ℕ
   pub after : IsAfter bytes file state things
-  pub alone : StandAlone state things
+  pub remade : AllCanBeRemade state things
   pub weighed : w ≡ told (load_of state things)
   pub more : IsTooMuch w
 
@@ -50,7 +50,7 @@ pub record IsMovable (bytes file : List ℕ) : Type 0 where
   pub state : Store
   pub things : List ℕ
   pub after : IsAfter bytes file state things
-  pub alone : StandAlone state things
+  pub remade : AllCanBeRemade state things
   pub little : ¬ IsTooMuch (told (load_of state things))
 
 -- ---- how it goes on
@@ -63,13 +63,11 @@ pub record GoesOn (page : Page) (earlier : List Event) (moved : Page) : Type 0 w
   pub same : (later : List Event) → lines_after moved.scripts [] later ≡ lines_after page.scripts earlier later
 
 -- **A moved page behaves as if it had never moved.** The saved bytes are a page, which is not too long to be read, and whichever page
--- they are accepted as goes on as whichever page the bytes are accepted as. It is built in, so it is saved again, without events as the
--- same bytes.
+-- they are accepted as goes on as whichever page the bytes are accepted as. It is saved again, without events, as the same bytes.
 pub record MovesTo (bytes : List ℕ) (earlier : List Event) (saved : List ℕ) : Type 0 where
   pub moved : Page
   pub page : IsPage saved moved
   pub goes_on : (before now : Page) → Accepts bytes before → Accepts saved now → GoesOn before earlier now
-  pub built : IsBuilt moved
   pub again : (now : Page) (things : List ℕ) → Accepts saved now → IsWalk (run_of now.scripts []) things → saved_page (run_of now.scripts []) things ≡ saved
 
 -- the page that is saved after the events of the file, to which the page moves

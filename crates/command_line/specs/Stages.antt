@@ -10,11 +10,11 @@ use Rattle.js_values.specs.declared.event.Event.{Event}
 use Rattle.event_file.specs.Events.{calls_of}
 use Rattle.command_line.specs.declared.status.Status.{Status}
 use Rattle.command_line.specs.declared.status.Status.TheVariants.{Ok, PageRefused, Usage, EventsRefused, ReadFault, WriteFault, TooLarge, OutOfMemory}
-use Rattle.command_line.specs.Page.{page_limit, event_file_limit, Page, Accepts, IsBuilt, IsNotBuilt}
+use Rattle.command_line.specs.Page.{page_limit, event_file_limit, Page, Accepts}
 use Rattle.command_line.specs.declared.command.Work.TheVariants.{Replay, Save}
-use Rattle.command_line.specs.Command.{Command, check, session, files_of}
+use Rattle.command_line.specs.Command.{Command, check, instrument, session, files_of}
 use Rattle.command_line.specs.Replay.{IsEventFile}
-use Rattle.command_line.specs.Saving.{IsMovable, IsTooLarge, NeedsScopes}
+use Rattle.command_line.specs.Saving.{IsMovable, IsTooLarge, CannotBeRemade}
 
 -- What is seen of the outside: files and output, before a command and now.
 pub record Seen : Type 0 where
@@ -58,8 +58,6 @@ pub data Stage : Type 0 where
   page_file : List ℕ → Stage
   -- it accepts what the file holds
   acceptance : List ℕ → Stage
-  -- it takes the page, if that is built in for saving
-  building : List ℕ → Stage
   -- it reads the event file of this name
   event_file : List ℕ → Stage
   -- it takes what the page of the one name is after the events of the other, if that can be saved
@@ -75,12 +73,10 @@ Stops (page_file p) (PageRefused None) seen = Held seen p (λ bytes. page_limit 
 Stops (page_file p) OutOfMemory seen = Unit {0}
 Stops (acceptance p) (PageRefused (Some r)) seen = Held seen p (λ bytes. IsRefused bytes r)
 Stops (acceptance p) OutOfMemory seen = Unit {0}
-Stops (building p) (PageRefused (Some r)) seen = Held seen p (λ bytes. IsNotBuilt bytes r)
-Stops (building p) OutOfMemory seen = Unit {0}
 Stops (event_file e) ReadFault seen = ReadFailed e seen
 Stops (event_file e) (EventsRefused i) seen = Held seen e (λ file. IsNoEventFile file i)
 Stops (event_file e) OutOfMemory seen = Unit {0}
-Stops (moving p e) (PageRefused (Some (NotBuilt k))) seen = (k ≡ 1) × Held seen p (λ bytes. Held seen e (λ file. NeedsScopes bytes file))
+Stops (moving p e) (PageRefused (Some (NotBuilt k))) seen = (k ≡ 1) × Held seen p (λ bytes. Held seen e (λ file. CannotBeRemade bytes file))
 Stops (moving p e) (TooLarge w) seen = Held seen p (λ bytes. Held seen e (λ file. IsTooLarge bytes file w))
 Stops (moving p e) OutOfMemory seen = Unit {0}
 Stops writing Ok seen = Unit {0}
@@ -93,7 +89,6 @@ abbrev pub Passes : Stage → Seen → Type 0
 Passes (words command) seen = IsSome command
 Passes (page_file p) seen = Held seen p (λ bytes. length bytes ≤ page_limit)
 Passes (acceptance p) seen = Held seen p (λ bytes. (page : Page) × Accepts bytes page)
-Passes (building p) seen = Held seen p (λ bytes. (page : Page) × Accepts bytes page × IsBuilt page)
 Passes (event_file e) seen = Held seen e (λ file. (events : List Event) × IsEventFile file events)
 Passes (moving p e) seen = Held seen p (λ bytes. Held seen e (λ file. IsMovable bytes file))
 Passes writing seen = ⊥
@@ -103,11 +98,12 @@ abbrev pub EndsAt : List Stage → Status → Seen → Type 0
 EndsAt [] status seen = ⊥
 EndsAt (g ∷ gs) status seen = Stops g status seen ⊎ (Passes g seen × EndsAt gs status seen)
 
--- the stages behind the words. Every accepted page is run; those that are built in are saved, where that is little enough
+-- the stages behind the words. Every accepted page is run, and saved where that is little enough
 abbrev pub work_of : Command → List Stage
 work_of (check p) = page_file p ∷ acceptance p ∷ writing ∷ []
+work_of (instrument p) = page_file p ∷ acceptance p ∷ writing ∷ []
 work_of (session Replay p e) = page_file p ∷ acceptance p ∷ event_file e ∷ writing ∷ []
-work_of (session Save p e) = page_file p ∷ acceptance p ∷ building p ∷ event_file e ∷ moving p e ∷ writing ∷ []
+work_of (session Save p e) = page_file p ∷ acceptance p ∷ event_file e ∷ moving p e ∷ writing ∷ []
 
 abbrev pub work_behind : Option Command → List Stage
 work_behind None = []

@@ -5,8 +5,9 @@ use Rattle.command_line.specs.declared.status.Status.{Status}
 use Rattle.command_line.specs.declared.status.Status.TheVariants.{Ok, WriteFault, OutOfMemory}
 use Rattle.command_line.specs.declared.command.Work.{Work}
 use Rattle.command_line.specs.declared.command.Work.TheVariants.{Replay, Save}
-use Rattle.command_line.specs.Command.{Command, check, session}
+use Rattle.command_line.specs.Command.{Command, check, instrument, session}
 use Rattle.command_line.specs.Checking.{Tells}
+use Rattle.command_line.specs.Opening.{OpensTo}
 use Rattle.command_line.specs.Replay.{Replays}
 use Rattle.command_line.specs.Saving.{Begins, Saves}
 use Rattle.command_line.specs.Stages.{Seen, Held}
@@ -19,6 +20,7 @@ Writes Save page file text = Saves page file text
 -- the text of a command for what its files hold
 abbrev pub TextOf : Command → Seen → List ℕ → Type 0
 TextOf (check p) seen text = Held seen p (λ bytes. Tells bytes text)
+TextOf (instrument p) seen text = Held seen p (λ bytes. OpensTo bytes text)
 TextOf (session work p e) seen text = Held seen p (λ bytes. Held seen e (λ file. Writes work bytes file text))
 
 abbrev pub PutsNothing : Seen → Type 0

@@ -17,6 +17,8 @@ pub enum Work {
 pub enum Command<'a> {
     /// `check P`: writes of which kind the page file P is.
     Check(&'a str),
+    /// `instrument P`: writes the page file P with opened scopes.
+    Instrument(&'a str),
     /// `replay P E` or `save P E`: what is done with the page file P and the event file E.
     Session(Work, &'a str, &'a str),
 }
@@ -27,6 +29,16 @@ fn check_of(words: &[String]) -> Option<Command<'_>>
 {
     match words {
         [page] => Some(Command::Check(page.as_str())),
+        _ => None,
+    }
+}
+
+// `instrument P`.
+fn instrument_of(words: &[String]) -> Option<Command<'_>>
+    ensures { option_map spec.view result ≡ spec.instrument_of (map string_bytes words.now) }
+{
+    match words {
+        [page] => Some(Command::Instrument(page.as_str())),
         _ => None,
     }
 }
@@ -50,6 +62,7 @@ pub fn command_of(words: &[String]) -> Option<Command<'_>>
     };
     match verb.as_str() {
         "check" => check_of(words),
+        "instrument" => instrument_of(words),
         "replay" => session_of(Work::Replay, words),
         "save" => session_of(Work::Save, words),
         _ => None,

@@ -3,6 +3,7 @@
 
 mod check;
 mod command;
+mod instrument;
 mod laws;
 mod notes;
 mod program;

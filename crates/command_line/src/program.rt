@@ -9,6 +9,7 @@ ghost use Rattle.command_line.specs.Texts.{Puts};
 use crate::check::check;
 use crate::command;
 use crate::command::{Command, Work};
+use crate::instrument::instrument;
 use crate::notes::write_note;
 use crate::replay::replay;
 use crate::save::save;
@@ -32,6 +33,7 @@ fn obey<F: Files, O: Sink>(alloc: Global, words: &[String], files: &mut F, out: 
     match command::command_of(words) {
         None => Status::Usage,
         Some(Command::Check(page)) => check(alloc, page, files, out),
+        Some(Command::Instrument(page)) => instrument(alloc, page, files, out),
         Some(Command::Session(Work::Replay, page, events)) => {
             replay(alloc, page, events, files, out)
         }

@@ -5,17 +5,18 @@ ghost use Rattle.command_line.specs.Command.{session};
 ghost use Rattle.command_line.specs.Stages.{seen_between, work_of, EndsAt, Lasts};
 ghost use Rattle.command_line.specs.Texts.{PutsText};
 
-use crate::reading::{read_built, read_events};
+use crate::reading::{read_events, read_page};
 use crate::saving::save_page;
 use crate::status::Status;
 use moved_pages::{law_accepted_scripts_are_in_form, law_moved_pages_go_on};
+use opened_pages::{law_opened_pages_are_accepted, law_opened_pages_put_out_the_same};
 use page_check::law_one_answer;
 use page_io::files::Files;
 use page_io::sink::Sink;
 use std::alloc::Global;
 
-/// Writes the page of this name as it is after the events. The order is: reading and accepting the page, whether its scripts
-/// are in form, reading the events, loading and acting, what can be reached and whether it can be saved, writing. The first
+/// Writes the page of this name as it is after the events. The order is: reading and accepting the page, reading the
+/// events, opening its scopes, loading and acting, what can be reached and whether it can be saved, writing. The first
 /// cause to end is the answer.
 pub fn save<F: Files, O: Sink>(
     alloc: Global,
@@ -34,7 +35,9 @@ pub fn save<F: Files, O: Sink>(
     law_one_answer();
     law_accepted_scripts_are_in_form();
     law_moved_pages_go_on();
-    let page = match read_built(alloc, files, page) {
+    law_opened_pages_are_accepted();
+    law_opened_pages_put_out_the_same();
+    let page = match read_page(alloc, files, page) {
         Ok(page) => page,
         Err(status) => return status,
     };

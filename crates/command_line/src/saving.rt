@@ -1,24 +1,44 @@
 //! What is saved of a page, where that can be.
 
-ghost use Rattle.std.specs.Prelude.{◌≤◌};
-ghost use Rattle.heap_walker.specs.Alone.{StandAlone};
+ghost use Rattle.std.specs.Prelude.{◌≡◌, ◌≤◌, ℕ, List};
+ghost use Rattle.heap_walker.specs.Remade.{AllCanBeRemade};
 ghost use Rattle.heap_walker.specs.Things.{IsWalk};
 ghost use Rattle.page_meaning.specs.Pages.{run_of};
+ghost use Rattle.opened_pages.specs.Opened.{HaveNumbers};
+ghost use Rattle.page_check.specs.Accept.{IsAccepted};
 ghost use Rattle.command_line.specs.Moving.{IsAnswer};
+ghost use Rattle.command_line.specs.Page.{opened, page_of};
 
 use crate::replay::run_page;
 use crate::status::Status;
-use heap_walker::{Walked, stand_alone, walk};
+use heap_walker::{Walked, all_can_be_remade, walk};
 use js_core::memory::OutOfMemory;
 use js_values::event::Event;
+use opened_pages::open_accepted;
 use page_check::{Accepted, Refusal};
 use page_io::sink::Sink;
 use page_state::State;
 use page_writer::{SaveFault, write_walked};
 use std::alloc::Global;
 
-/// Puts the page as it is after the events, where each of its functions stands alone and it is not too large.
+/// Puts the page as it is after the events, with opened scopes, where each of its functions can be made again and it is not too
+/// large.
 pub fn save_page<O: Sink>(alloc: Global, page: Accepted, list: &[Event], out: &mut O) -> Status
+    requires { (bytes : List ℕ) × IsAccepted bytes page }
+    ensures answer { IsAnswer (run_of (opened (page_of page)) list.now)
+        (O.seen out.old) (O.seen out.new) result }
+    ensures later { (O.seen out.old).faults ≤ (O.seen out.new).faults }
+    ensures numbered { ¬ (result ≡ Status.OutOfMemory)
+        → HaveNumbers page.kind page.scripts.items }
+{
+    match open_accepted(alloc, page) {
+        Ok(opened) => save_opened(alloc, opened, list, out),
+        Err(OutOfMemory) => Status::OutOfMemory,
+    }
+}
+
+// Puts the page with these scripts as it is after the events.
+fn save_opened<O: Sink>(alloc: Global, page: Accepted, list: &[Event], out: &mut O) -> Status
     ensures answer { IsAnswer (run_of page.scripts.items list.now)
         (O.seen out.old) (O.seen out.new) result }
     ensures later { (O.seen out.old).faults ≤ (O.seen out.new).faults }
@@ -46,17 +66,17 @@ fn save_walked<O: Sink>(state: &State, walked: &Walked, out: &mut O) -> Status
     ensures answer { IsAnswer state.now (O.seen out.old) (O.seen out.new) result }
     ensures later { (O.seen out.old).faults ≤ (O.seen out.new).faults }
 {
-    match stand_alone(state, walked) {
-        Ok(true) => save_alone(state, walked, out),
+    match all_can_be_remade(state, walked) {
+        Ok(true) => save_remade(state, walked, out),
         Ok(false) => Status::PageRefused(Some(Refusal::NotBuilt(1))),
         Err(OutOfMemory) => Status::OutOfMemory,
     }
 }
 
-// Puts the page, each function of which stands alone.
-fn save_alone<O: Sink>(state: &State, walked: &Walked, out: &mut O) -> Status
+// Puts the page, each function of which can be made again.
+fn save_remade<O: Sink>(state: &State, walked: &Walked, out: &mut O) -> Status
     requires walked { IsWalk state.now walked.now.things.keys }
-    requires alone { StandAlone state.now walked.now.things.keys }
+    requires remade { AllCanBeRemade state.now walked.now.things.keys }
     ensures answer { IsAnswer state.now (O.seen out.old) (O.seen out.new) result }
     ensures later { (O.seen out.old).faults ≤ (O.seen out.new).faults }
 {

@@ -1,6 +1,7 @@
-use Rattle.command_line.proofs.Refusals.{told_refused}
+use Rattle.command_line.proofs.Refusals.{told_unaccepted_if}
 use Rattle.command_line.proofs.reading.read_page.Goals as goal
 
-pub returns-in-Err-Refused-clause-stops : goal.returns-in-Err-Refused-clause-stops
-returns-in-Err-Refused-clause-stops g c =
-    told_refused _ c.deref.result.now _ _ (rw c.deref.ensures.value c.in-Ok.ensures.bytes) c.in-Err-Refused.field-0-is c.in-Err-Refused.ensures.refused
+pub returns-clause-stops : goal.returns-clause-stops
+returns-clause-stops g c =
+    told_unaccepted_if ((g.F.Files.seen c.args.files.now).content c.args.name.now) c.in-Ok.bytes.items c.deref.result.now c.accept_bytes.result
+    c.deref.ensures.value c.in-Ok.ensures.ok c.accept_bytes.ensures.stops
