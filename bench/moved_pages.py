@@ -3,7 +3,7 @@
 
 Makes COUNT random pages (1,000), as random_pages.py does, and moves each at a random event: `save` after the earlier calls, `replay` of the saved
 page on the later ones. The lines have to be those of the page that never moved, and the saved page, saved again, has to have the same bytes.
-Prints each page that does otherwise, and then how many were moved, and how many are not built yet.
+The page with opened scopes (`instrument`) has to put out the lines of the page. Prints each page that does otherwise, and then how many were moved.
 """
 import json
 import os
@@ -27,20 +27,22 @@ class Mover:
             file.write(page)
         with open(os.path.join(self.folder, "e"), "w", encoding="utf-8") as file:
             json.dump([{"call": name} for name in calls], file)
-        return subprocess.run(self.words + [command, "p", "e"], cwd=self.folder, capture_output=True, timeout=60)
+        names = ["p"] if command == "instrument" else ["p", "e"]
+        return subprocess.run(self.words + [command] + names, cwd=self.folder, capture_output=True, timeout=60)
 
     def lines(self, page, calls):
         return self.run("replay", page, calls).stdout.split(b"\n")[:-1]
 
     def fault(self, page, earlier, later):
-        """How the page goes otherwise once it has moved, or nothing; None where it is not built."""
+        """How the page goes otherwise once it has moved or its scopes are opened, or nothing."""
+        opened = self.run("instrument", page, [])
+        whole = self.lines(page, earlier + later)
+        if opened.returncode or self.lines(opened.stdout, earlier + later) != whole:
+            return "other lines with opened scopes"
         saved = self.run("save", page, earlier)
-        if saved.returncode == 1 and saved.stderr.endswith(b": not built\n"):
-            return None
         if saved.returncode:
             return "status %d" % saved.returncode
-        stayed = self.lines(page, earlier + later)[len(self.lines(page, earlier)):]
-        if self.lines(saved.stdout, later) != stayed:
+        if self.lines(saved.stdout, later) != whole[len(self.lines(page, earlier)):]:
             return "other lines"
         return "" if self.run("save", saved.stdout, []).stdout == saved.stdout else "other bytes"
 
@@ -48,7 +50,7 @@ class Mover:
 def main():
     count = int(sys.argv[2]) if len(sys.argv) > 2 else 1000
     seed = int(sys.argv[3]) if len(sys.argv) > 3 else 1
-    moved = unbuilt = faults = 0
+    moved = faults = 0
     with tempfile.TemporaryDirectory() as folder:
         mover = Mover(shlex.split(sys.argv[1]), folder)
         for k in range(count):
@@ -57,14 +59,12 @@ def main():
             calls = [page.r.choice(page.functions + ["nowhere"]) for _ in range(page.r.randrange(6))]
             at = page.r.randrange(len(calls) + 1)
             fault = mover.fault(text, calls[:at], calls[at:])
-            if fault is None:
-                unbuilt += 1
-            elif fault:
+            if fault:
                 faults += 1
                 print("page %d of seed %d: %s\n%s\ncalls %s, moved at %d\n" % (k, seed, fault, text.decode(), calls, at))
             else:
                 moved += 1
-    print("%d pages moved, %d not built, %d otherwise" % (moved, unbuilt, faults))
+    print("%d pages moved, %d otherwise" % (moved, faults))
     sys.exit(1 if faults else 0)
 
 
