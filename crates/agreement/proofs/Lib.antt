@@ -2,7 +2,6 @@ pub mod Acts
 pub mod AllRows
 pub mod Beginning
 pub mod Bindings
-pub mod BoundNames
 pub mod Called
 pub mod Callers
 pub mod Calling

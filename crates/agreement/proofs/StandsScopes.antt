@@ -1,5 +1,5 @@
 -- A function or a catch clause of a plain script may be opened, and its body is a piece of one in its frame.
-use Rattle.std.proofs.Common.{◌≡◌, refl, ℕ, suc, ◌+◌, ◌<◌, ◌^◌, Bool, true, false, not, ◌&&◌, ◌||◌, nat_lt, List, [], ◌∷◌, ◌++◌, Option, Some, None, bytes_eq, is_some, arith, if◌then◌else◌}
+use Rattle.std.proofs.Common.{◌≡◌, ◌∙◌, refl, ℕ, suc, ◌+◌, ◌<◌, ◌^◌, Bool, true, false, not, ◌&&◌, ◌||◌, nat_lt, List, [], ◌∷◌, ◌++◌, Option, Some, None, bytes_eq, is_some, arith, if◌then◌else◌}
 use Rattle.std.specs.List.{list_any}
 use Rattle.std.proofs.lemmas.Bool.{and_from, false_from_ne_true, lt-ltb, not_from_false, or_from, or_left, or_parts, or_right}
 use Rattle.js_core.specs.Tree as tree
@@ -16,10 +16,10 @@ use Rattle.instrumenter.specs.Around.{next_number}
 use Rattle.instrumenter.specs.Counting.{catch_scopes, count_of, expr_scopes, stmt_scopes, stmts_scopes}
 use Rattle.instrumenter.specs.Fields.{clause_fields, declaration_fields, expression_fields, fields_in}
 use Rattle.instrumenter.proofs.Callers.{Among, Each, Fails, Leaving, Missing, Staying, all_pass, among_left, among_right, each_among, each_at, each_both, each_fails, each_field, each_parts, each_so, fields_apart, leaving_to, left_of, missing_both, missing_parts, name_is_own, never_both, own_is_name, right_of, staying_to, stmts_undeclared}
+use Rattle.scope_chains.proofs.Callers.{entry_bound}
 use Rattle.heap_relations.specs.Naming.{Absent, Frame, Place, Sealed, are_below, is_scope_name, resolve, resolved}
 use Rattle.heap_relations.specs.Scope.{own_frame}
 use Rattle.agreement.specs.Opened.{are_plain, clause_frame, clause_may_open, frames_round, function_frame, is_bound, is_numbered, is_round, is_sealed, kept_in, may_open, may_use, number_in, opened_at, scope_frame}
-use Rattle.agreement.proofs.BoundNames.{declared_are_bound, formals_are_bound}
 use Rattle.agreement.proofs.StandsPieces.{Allowed, Piece, inner, plain_name, still_below, with_uses}
 
 each_pair : (P Q R : Use → Type 0) → ((u : Use) → P u → Q u → R u) → (us : List Use) → Each P us → Each Q us → Each R us
@@ -153,7 +153,7 @@ module _ (own x : Option (List ℕ)) (formals : List (List ℕ)) (body : tree.St
   Binds y = is_bound formals body y ≡ true
 
   all_bound : Each Binds (formals ++ declared_names body)
-  all_bound = each_both Binds formals (declared_names body) (formals_are_bound formals body) (declared_are_bound formals body is)
+  all_bound = each_among Binds (formals ++ declared_names body) (λ y there. entry_bound formals body [] is y ∙ there)
 
   no_field : (y : List ℕ) → Missing y names → Missing y fields
   no_field y away =

@@ -2,6 +2,7 @@
 use Rattle.std.proofs.Common.{◌≡◌, ◌∙◌, refl, sym, ap, subst, ℕ, ◌+◌, ◌≤◌, Bool, true, false, List, [], ◌∷◌, arith}
 use Rattle.std.specs.Prelude.{◌||◌, ◌&&◌, not, bytes_eq, codes, nat_lt}
 use Rattle.std.specs.List.{list_all}
+use Rattle.std.proofs.lemmas.Bool.{and_parts}
 use Rattle.std.proofs.lemmas.Bool.Decides.{nat_tests}
 use Rattle.js_core.specs.Height.{stmts_height}
 use Rattle.js_core.specs.Text.{utf16_of}
@@ -37,18 +38,10 @@ begins_opened n ss h = cc h
 free_is_lined : (b c : Bool) → b ≡ true → (b || c) ≡ true
 free_is_lined b c h = ap (λ (d : Bool). d || c) h
 
-and_left : (a b : Bool) → (a && b) ≡ true → a ≡ true
-and_left true b e = refl
-and_left false b e = e
-
-and_right : (a b : Bool) → (a && b) ≡ true → b ≡ true
-and_right true b e = e
-and_right false b e = absurd (cc)
-
 all_lined : (us : List ℕ) → list_all is_free us ≡ true → list_all is_lined us ≡ true
 all_lined [] h = refl
 all_lined (u ∷ us) h =
-    ap (λ (d : Bool). d && list_all is_lined us) (free_is_lined (is_free u) _ (and_left (is_free u) _ h)) ∙ all_lined us (and_right (is_free u) _ h)
+    ap (λ (d : Bool). d && list_all is_lined us) (free_is_lined (is_free u) _ (and_parts (is_free u) _ h).0) ∙ all_lined us (and_parts (is_free u) _ h).1
 
 lined_again : (script : tree.Stmts) (text : List ℕ) → ReadAgain script text → LinedAgain script text
 lined_again script text again = record {

@@ -4,6 +4,7 @@ use Rattle.std.specs.Prelude.{not, ◌&&◌, ◌||◌, ◌==◌, if◌then◌els
 use Rattle.std.specs.Char.Escape.{encode_utf16}
 use Rattle.std.specs.List.{list_all, flat_map}
 use Rattle.std.specs.Str.{all_scalars}
+use Rattle.std.proofs.lemmas.Bool.{and_from, and_parts}
 use Rattle.std.proofs.lemmas.Bool.Decides.{nat_tests}
 use Rattle.std.proofs.lemmas.Grind.{flat_map-append}
 use Rattle.std.proofs.lemmas.List.Folds.{list_all-append}
@@ -16,17 +17,6 @@ use Rattle.page_check.specs.Frame.{IsFramePage, begins_in_any_case, begins_with_
 use Rattle.page_check.specs.declared.page.Kind.TheVariants.{Form}
 use Rattle.printed_pages.specs.Printed.{framed, page_back, page_front}
 
-and_left : (a b : Bool) → (a && b) ≡ true → a ≡ true
-and_left true b e = refl
-and_left false b e = e
-
-and_right : (a b : Bool) → (a && b) ≡ true → b ≡ true
-and_right true b e = e
-and_right false b e = absurd (cc)
-
-and_both : (a b : Bool) → a ≡ true → b ≡ true → (a && b) ≡ true
-and_both a b e f = ap (λ (c : Bool). c && b) e ∙ f
-
 -- ---- no end tag
 
 less_alone : (u : ℕ) → (lower_case u == 60) ≡ true → u ≡ 60
@@ -36,10 +26,10 @@ slash_alone : (u : ℕ) → (lower_case u == 47) ≡ true → u ≡ 47
 slash_alone u e = grind (arith, nat_tests)
 
 tag_begins : (u : ℕ) (us : List ℕ) → HasNoEndTag (u ∷ us) → begins_in_any_case (codes "</script") (u ∷ us) ≡ true → ⊥
-tag_begins u [] none e = absurd (cc (and_right (lower_case u == 60) false e))
+tag_begins u [] none e = absurd (cc (and_parts (lower_case u == 60) false e).1)
 tag_begins u (v ∷ us) none e =
-    let less = less_alone u (and_left (lower_case u == 60) _ e) in
-    let slash = slash_alone v (and_left (lower_case v == 47) _ (and_right (lower_case u == 60) _ e)) in
+    let less = less_alone u (and_parts (lower_case u == 60) _ e).0 in
+    let slash = slash_alone v (and_parts (lower_case v == 47) _ (and_parts (lower_case u == 60) _ e).1).0 in
     none [] us (ap (λ (x : ℕ). x ∷ v ∷ us) less ∙ ap (λ (x : ℕ). 60 ∷ x ∷ us) slash)
 
 pub no_end_tag : (us : List ℕ) → HasNoEndTag us → has_end_tag us ≡ false
@@ -63,11 +53,11 @@ lined_stays u e = grind (arith, nat_tests)
 
 all_stay : (us : List ℕ) → list_all is_lined us ≡ true → list_all stays us ≡ true
 all_stay [] e = refl
-all_stay (u ∷ us) e = and_both (stays u) _ (lined_stays u (and_left (is_lined u) _ e)) (all_stay us (and_right (is_lined u) _ e))
+all_stay (u ∷ us) e = and_from (stays u) _ (lined_stays u (and_parts (is_lined u) _ e).0) (all_stay us (and_parts (is_lined u) _ e).1)
 
 with_same : (us : List ℕ) → list_all stays us ≡ true → with_line_feeds us ≡ us
 with_same [] e = refl
-with_same (u ∷ us) e = by (u == 13) (and_left (not (u == 13)) _ (and_left (stays u) _ e)) (with_same us (and_right (stays u) _ e))
+with_same (u ∷ us) e = by (u == 13) (and_parts (not (u == 13)) _ (and_parts (stays u) _ e).0).0 (with_same us (and_parts (stays u) _ e).1)
   where
     by : (b : Bool) → not b ≡ true → with_line_feeds us ≡ us
         → (if b then (if begins_with_line_feed us then with_line_feeds us else 10 ∷ with_line_feeds us) else u ∷ with_line_feeds us) ≡ u ∷ us
@@ -76,7 +66,7 @@ with_same (u ∷ us) e = by (u == 13) (and_left (not (u == 13)) _ (and_left (sta
 
 zero_free : (us : List ℕ) → list_all stays us ≡ true → has_zero us ≡ false
 zero_free [] e = refl
-zero_free (u ∷ us) e = by (u == 0) (and_right (not (u == 13)) _ (and_left (stays u) _ e)) (zero_free us (and_right (stays u) _ e))
+zero_free (u ∷ us) e = by (u == 0) (and_parts (not (u == 13)) _ (and_parts (stays u) _ e).0).1 (zero_free us (and_parts (stays u) _ e).1)
   where
     by : (b : Bool) → not b ≡ true → has_zero us ≡ false → (b || has_zero us) ≡ false
     by true off more = absurd (cc)
@@ -86,7 +76,7 @@ zero_free (u ∷ us) e = by (u == 0) (and_right (not (u == 13)) _ (and_left (sta
 
 both_scalars : (cs ds : List ℕ) → all_scalars cs ≡ true → all_scalars ds ≡ true → all_scalars (cs ++ ds) ≡ true
 both_scalars [] ds e f = f
-both_scalars (c ∷ cs) ds e f = and_both _ _ (and_left _ _ e) (both_scalars cs ds (and_right _ _ e) f)
+both_scalars (c ∷ cs) ds e f = and_from _ _ (and_parts _ _ e).0 (both_scalars cs ds (and_parts _ _ e).1 f)
 
 spelt : (cs : List ℕ) → all_scalars cs ≡ true → utf16_of (encode_utf8_all cs) ≡ flat_map encode_utf16 cs
 spelt cs e = ap (flat_map encode_utf16) (chars-encodes cs e)
@@ -106,8 +96,8 @@ low_byte u e = grind (arith, nat_tests)
 ascii_bytes : (us : List ℕ) → is_ascii_text us ≡ true → encode_utf8_all us ≡ us
 ascii_bytes [] e = refl
 ascii_bytes (u ∷ us) e =
-    ap (λ (x : List ℕ). encode_utf8 u ++ x) (ascii_bytes us (and_right (nat_lt u 128) _ e))
-    ∙ ap (λ (x : List ℕ). x ++ us) (encode_ascii u (low_byte u (and_left (nat_lt u 128) _ e)))
+    ap (λ (x : List ℕ). encode_utf8 u ++ x) (ascii_bytes us (and_parts (nat_lt u 128) _ e).1)
+    ∙ ap (λ (x : List ℕ). x ++ us) (encode_ascii u (low_byte u (and_parts (nat_lt u 128) _ e).0))
 
 -- a text of characters that are units and bytes
 record Same (us : List ℕ) : Type 0 where
@@ -138,8 +128,8 @@ framed_units with_body t u =
 
 -- what stays of the frame round units that stay
 framed_stays : (with_body : Bool) (us : List ℕ) → list_all stays us ≡ true → list_all stays (framed with_body us) ≡ true
-framed_stays true us all = list_all-append stays us page_back ∙ and_both _ _ all refl
-framed_stays false us all = list_all-append stays us page_back ∙ and_both _ _ all refl
+framed_stays true us all = list_all-append stays us page_back ∙ and_from _ _ all refl
+framed_stays false us all = list_all-append stays us page_back ∙ and_from _ _ all refl
 
 front_whole : (with_body : Bool) (us : List ℕ)
     → framed with_body us ≡ opening_text form_mark ++ codes "<html>" ++ body_text with_body ++ codes "<script>" ++ us ++ codes "</script></html>"

@@ -148,7 +148,7 @@ names_bound b (y ∷ ys) x = by_case (is_some (value_of b y)) refl (names_bound 
     by_case true h r s = rw (h) (r ∙ kept (bytes_eq x y) refl h)
     by_case false h r s = rw (h) (s ∙ (ap (λ t. t || is_among x ys) (last_bound b y x) ∙ or_round (is_some (value_of b x)) (bytes_eq x y) (is_among x ys)))
 
-entry_bound : (formals : List (List ℕ)) (body : tree.Stmts) (vs : List Value) → AreStmts true body → (x : List ℕ) → is_some (value_of (entry_names formals body vs) x) ≡ is_among x (formals ++ declared_names body)
+pub entry_bound : (formals : List (List ℕ)) (body : tree.Stmts) (vs : List Value) → AreStmts true body → (x : List ℕ) → is_some (value_of (entry_names formals body vs) x) ≡ is_among x (formals ++ declared_names body)
 entry_bound formals body vs h x =
     let fs = function_names (held.functions_of body) in
     let us = held.variables_of body in
