@@ -20,6 +20,7 @@ KINDS = {
     "arrays": ("a[i]=[i];", 4),
     "errors": ("a[i]=new Error();", 2),
     "functions": ("a[i]=function(){return i;};", 5),
+    "closures": ("a[i]=g(i);", 8),
     "bound": ("a[i]=f.bind(a,i);", 3),
     "chains": ("o=a[i]=Object.create(o);", 2),
     "numbers": ("a[i]=i;", 1),
@@ -44,6 +45,6 @@ with tempfile.TemporaryDirectory() as folder:
     for name, (turn, weight) in KINDS.items():
         costs = []
         for things in (7_400, 74_000):
-            made = f"var a=[],i,o=null,f=function(){{}};for(i=0;i<{things // weight};i++){{{turn}}}"
+            made = f"var a=[],i,o=null,f=function(){{}},g=function(n){{return function(){{n=n+1;return n;}};}};for(i=0;i<{things // weight};i++){{{turn}}}"
             costs.append(best(made, folder) - best(made + "a=o=null;", folder))
         print(name, *[f"{cost * 1e3:.1f} ms" for cost in costs], f"{costs[1] / max(costs[0], 1e-9):.1f}")
