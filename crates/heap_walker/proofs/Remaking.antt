@@ -16,6 +16,7 @@ use Rattle.object_shapes.specs.Links.{all_below, value_links}
 use Rattle.page_meaning.specs.Store.{Store}
 use Rattle.scope_analysis.specs.FreeUses.{needed_variables}
 use Rattle.scope_analysis.specs.Identifiers.{is_reserved}
+use Rattle.scope_analysis.specs.Limits.{function_height_limit}
 use Rattle.scope_analysis.specs.Names.{bound_names, code_body, is_among, maybe_name}
 use Rattle.scope_analysis.specs.Uses.{leaving_function, stmts_uses}
 use Rattle.scope_analysis.specs.declared.name_use.Use.{Use}
@@ -86,7 +87,7 @@ module _ (s : Store) (k : ℕ) (env : Option EnvId) where
 
 module _ (s : Store) (k : ℕ) (c : tree.Code) (env : Option EnvId) where
   -- where what it needs is held
-  pub remade_held : (b d : Bool) → code_height c + 1 ≤ 400 → OwnName s k env (name_of c) → b ≡ list_all (is_held s k env) (needed_variables c)
+  pub remade_held : (b d : Bool) → code_height c + 1 ≤ function_height_limit → OwnName s k env (name_of c) → b ≡ list_all (is_held s k env) (needed_variables c)
       → b ≡ true → d ≡ misses_none s env (left_by c) → (d ≡ true) ↔ CanBeRemade s k c env
   remade_held b d low own held holds none = (to, from)
     where

@@ -15,6 +15,7 @@ use Rattle.object_shapes.specs.Links.{all_below, value_links}
 use Rattle.page_meaning.specs.Store.{Store}
 use Rattle.scope_analysis.specs.FreeUses.{needed_variables}
 use Rattle.scope_analysis.specs.Identifiers.{is_reserved}
+use Rattle.scope_analysis.specs.Limits.{function_height_limit}
 use Rattle.scope_analysis.specs.Uses.{expr_uses}
 use Rattle.scope_analysis.specs.declared.name_use.Use.{Use}
 
@@ -26,7 +27,7 @@ pub record CanBeRemade (s : Store) (k : ℕ) (c : tree.Code) (env : Option EnvId
   pub older : IsTrue (all_below k (needs_links (needs_of s env c)))
   pub unbound : IsTrue (list_all (λ x. not (has_name s env x)) (other_names c))
   pub own_name : OwnName s k env (name_of c)
-  pub low : code_height c + 1 ≤ 400
+  pub low : code_height c + 1 ≤ function_height_limit
 
 -- so can each function among the things
 abbrev pub AllCanBeRemade : Store → List ℕ → Type 0

@@ -21,6 +21,7 @@ use Rattle.scope_analysis.specs.EarlyRules.{early_rule}
 use Rattle.scope_analysis.specs.Form.{in_form}
 use Rattle.scope_analysis.specs.FreeUses.{needed_variables}
 use Rattle.scope_analysis.specs.Identifiers.{is_reserved}
+use Rattle.scope_analysis.specs.Limits.{function_height_limit}
 use Rattle.scope_analysis.specs.Uses.{expr_uses}
 use Rattle.heap_walker.specs.Things.{Reach, class_links, needs_links, needs_of}
 
@@ -64,7 +65,7 @@ pub record IsFunctionAtRest (s : Store) (k : ℕ) (c : tree.Code) (env : Option 
   pub own_name : OwnName s k env (name_of c)
   pub formed : IsTrue (in_form (wrapped c))
   pub orderly : early_rule (wrapped c) ≡ None
-  pub low : code_height c + 1 ≤ 400
+  pub low : code_height c + 1 ≤ function_height_limit
 
 -- ---- the page
 

@@ -23,6 +23,7 @@ ghost use Rattle.object_heap.specs.Heap.{look_in};
 ghost use Rattle.object_shapes.specs.Links.{all_below, value_links};
 ghost use Rattle.page_meaning.specs.Properties.{class_at};
 ghost use Rattle.scope_analysis.specs.FreeUses.{needed_variables};
+ghost use Rattle.scope_analysis.specs.Limits.{function_height_limit};
 ghost use Rattle.scope_analysis.specs.Names.{is_among};
 ghost use Rattle.scope_analysis.specs.Uses.{leaving_function};
 ghost use Rattle.heap_walker.specs.Remade as spec;
@@ -94,7 +95,7 @@ fn can_be_remade(
 
 // Whether the code is no higher than that of a function of a form page.
 fn is_low(code: &FunctionCode) -> bool
-    ensures { (result ≡ true) ↔ (code_height code.now + 1 ≤ 400) }
+    ensures { (result ≡ true) ↔ (code_height code.now + 1 ≤ function_height_limit) }
 {
     source_of(code).height() < FUNCTION_HEIGHT_LIMIT
 }

@@ -3,6 +3,7 @@ use Rattle.std.proofs.Common.{◌≡◌, ◌∙◌, ℕ, ◌+◌, ◌≤◌, tru
 use Rattle.js_core.specs.Height.{code_height, stmts_height}
 use Rattle.js_core.specs.Tree as tree
 use Rattle.js_core.specs.Tree.{code, func, function, no_stmts, one_catch, stmts_of, then_stmt}
+use Rattle.scope_analysis.specs.Limits.{plain_height_limit}
 use Rattle.scope_analysis.specs.Names.{code_body, code_formals, code_name, own_name}
 use Rattle.instrumenter.specs.Around.{Around, append, clause_object, declaration, in_clause, in_function, next_number, opened_clause, opened_fields, parameter, scope_object, valued_names}
 use Rattle.instrumenter.specs.Counting.{catch_scopes, count_of, expr_scopes, stmt_scopes, stmts_scopes}
@@ -102,7 +103,7 @@ declared_opened a n c x y formals same ss body e opens whole name names b f =
     ∙ ap (λ z. func (code None (code_formals c) (open_function a n (opened_fields z (declaration_fields c)) None c))) (sym opens))
     ∙ sym (open_declared a n c)
 
-pub function_low : (a : Around) (n : ℕ) (fields : List (List ℕ)) (own : Option (List ℕ)) (c : tree.Code) → fields ≡ fields_in own c → code_height c ≤ 200
+pub function_low : (a : Around) (n : ℕ) (fields : List (List ℕ)) (own : Option (List ℕ)) (c : tree.Code) → fields ≡ fields_in own c → code_height c ≤ plain_height_limit
     → stmts_height (open_function a n fields own c) ≤ 401
 function_low a n fields own (code x formals body) e h =
     let high : has_fields fields ≡ true → 2 ≤ stmts_height body = λ g. room true body _ (sym (ap has_fields e) ∙ g) in

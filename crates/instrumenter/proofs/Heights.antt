@@ -7,6 +7,7 @@ use Rattle.js_core.specs.Tree.{name, num, text, bool, null, this, list, literal,
 use Rattle.js_core.specs.declared.operators.UnaryOp.TheVariants.{Void}
 use Rattle.scope_analysis.specs.declared.name_use.Use.{Use}
 use Rattle.scope_analysis.specs.Form.{has_high_function}
+use Rattle.scope_analysis.specs.Limits.{form_height_limit}
 use Rattle.scope_analysis.specs.Names.{is_among, own_name}
 use Rattle.scope_analysis.specs.Uses.{catch_uses, declarators_uses, init_uses, is_captured, leaving_clause, maybe_expr_uses, maybe_stmts_uses, stmt_uses, stmts_uses}
 use Rattle.instrumenter.specs.Around.{Around, append, as_init, as_statements, assignments, before_for, before_for_in, callee, clause_object, declaration, field_or_name, in_clause, in_function, is_changed, literal_fields, next_number, opened_body, opened_fields, opened_init, opened_var, plain_names, scope_object, top, valued_names, var_of, var_where_any, without_this}
@@ -386,5 +387,5 @@ tops_fit a n (then_stmt s ss) = append_fits (open_stmt a n s) (open_tops a (n + 
 pub opened_scripts_are_low : OpenedScriptsAreLow
 opened_scripts_are_low n body h = by (tops_fit (top true) n body) where
   by : Fits (stmts_height (open_script n body)) (stmts_height body)
-      → (stmts_height (open_script n body) ≤ 420) × (has_high_function (open_script n body) ≡ false)
+      → (stmts_height (open_script n body) ≤ form_height_limit) × (has_high_function (open_script n body) ≡ false)
   by f = (omega (arith, f.fits, h), has_no_high_function (open_script n body) (omega (arith, f.fits, h)))

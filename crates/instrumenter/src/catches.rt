@@ -6,6 +6,7 @@ ghost use Rattle.js_core.specs.Height.{maybe_catch_height};
 ghost use Rattle.js_core.specs.Tree as tree;
 ghost use Rattle.js_core.specs.Tree.{stmts_of};
 ghost use Rattle.js_core.specs.Views.{catch_of};
+ghost use Rattle.scope_analysis.specs.Limits.{plain_height_limit};
 ghost use Rattle.instrumenter.specs.Around as around;
 ghost use Rattle.instrumenter.specs.Counting.{catch_scopes};
 ghost use Rattle.instrumenter.specs.Levels.{around_of};
@@ -29,7 +30,7 @@ pub fn open_catch(
     next: &mut u64,
     catch: &Option<Catch>,
 ) -> Result<Option<Catch>, OutOfMemory>
-    requires { maybe_catch_height (catch_of catch.now) ≤ 200 }
+    requires { maybe_catch_height (catch_of catch.now) ≤ plain_height_limit }
     ensures opened { IfOk result (λ c. catch_of c
         ≡ spec.open_catch (around_of (map rc_value levels.now)) next.old (catch_of catch.now)) }
     ensures counted { OnOk result (next.new ≡ next.old + catch_scopes (catch_of catch.now)) }
@@ -47,7 +48,7 @@ fn open_clause(
     next: &mut u64,
     clause: &Catch,
 ) -> Result<Catch, OutOfMemory>
-    requires { maybe_catch_height (catch_of (Some clause.now)) ≤ 200 }
+    requires { maybe_catch_height (catch_of (Some clause.now)) ≤ plain_height_limit }
     ensures opened { IfOk result (λ c. catch_of (Some c)
         ≡ spec.open_catch (around_of (map rc_value levels.now)) next.old
         (catch_of (Some clause.now))) }

@@ -5,6 +5,7 @@ ghost use Rattle.std.specs.Rc.{rc_value};
 ghost use Rattle.js_core.specs.Height.{expr_height, exprs_height, fields_height, holes_height, maybe_expr_height};
 ghost use Rattle.js_core.specs.Tree as tree;
 ghost use Rattle.js_core.specs.Tree.{exprs_of, fields_of, holes_of, maybe_expr};
+ghost use Rattle.scope_analysis.specs.Limits.{plain_height_limit};
 ghost use Rattle.instrumenter.specs.Around as around;
 ghost use Rattle.instrumenter.specs.Counting.{
   expr_scopes,
@@ -35,7 +36,7 @@ pub fn open_expression(
     next: &mut u64,
     expression: &Expr,
 ) -> Result<Expr, OutOfMemory>
-    requires { expr_height expression.now ≤ 200 }
+    requires { expr_height expression.now ≤ plain_height_limit }
     ensures opened { IfOk result (λ e. e
         ≡ spec.open_expr (around_of (map rc_value levels.now)) next.old expression.now) }
     ensures counted { OnOk result (next.new ≡ next.old + expr_scopes expression.now) }
@@ -77,7 +78,7 @@ fn open_list(
     next: &mut u64,
     elements: &[Option<Expr>],
 ) -> Result<Expr, OutOfMemory>
-    requires { expr_height (tree.list (holes_of elements.now)) ≤ 200 }
+    requires { expr_height (tree.list (holes_of elements.now)) ≤ plain_height_limit }
     ensures opened { IfOk result (λ e. e
         ≡ spec.open_expr (around_of (map rc_value levels.now)) next.old
         (tree.list (holes_of elements.now))) }
@@ -96,7 +97,7 @@ fn open_literal(
     next: &mut u64,
     fields: &[(Units, Expr)],
 ) -> Result<Expr, OutOfMemory>
-    requires { expr_height (tree.literal (fields_of fields.now)) ≤ 200 }
+    requires { expr_height (tree.literal (fields_of fields.now)) ≤ plain_height_limit }
     ensures opened { IfOk result (λ e. e
         ≡ spec.open_expr (around_of (map rc_value levels.now)) next.old
         (tree.literal (fields_of fields.now))) }
@@ -116,7 +117,7 @@ fn open_member(
     object: &Expr,
     name: &Units,
 ) -> Result<Expr, OutOfMemory>
-    requires { expr_height (tree.member object.now name.now) ≤ 200 }
+    requires { expr_height (tree.member object.now name.now) ≤ plain_height_limit }
     ensures opened { IfOk result (λ e. e
         ≡ spec.open_expr (around_of (map rc_value levels.now)) next.old
         (tree.member object.now name.now)) }
@@ -136,7 +137,7 @@ fn open_unary(
     op: UnaryOp,
     operand: &Expr,
 ) -> Result<Expr, OutOfMemory>
-    requires { expr_height (tree.unary op operand.now) ≤ 200 }
+    requires { expr_height (tree.unary op operand.now) ≤ plain_height_limit }
     ensures opened { IfOk result (λ e. e
         ≡ spec.open_expr (around_of (map rc_value levels.now)) next.old
         (tree.unary op operand.now)) }
@@ -156,7 +157,7 @@ fn open_update(
     prefix: bool,
     target: &Expr,
 ) -> Result<Expr, OutOfMemory>
-    requires { expr_height (tree.update up prefix target.now) ≤ 200 }
+    requires { expr_height (tree.update up prefix target.now) ≤ plain_height_limit }
     ensures opened { IfOk result (λ e. e
         ≡ spec.open_expr (around_of (map rc_value levels.now)) next.old
         (tree.update up prefix target.now)) }
@@ -180,7 +181,7 @@ fn open_index(
     left: &Expr,
     right: &Expr,
 ) -> Result<Expr, OutOfMemory>
-    requires { expr_height (tree.index left.now right.now) ≤ 200 }
+    requires { expr_height (tree.index left.now right.now) ≤ plain_height_limit }
     ensures opened { IfOk result (λ e. e
         ≡ spec.open_expr (around_of (map rc_value levels.now)) next.old
         (tree.index left.now right.now)) }
@@ -202,7 +203,7 @@ fn open_binary(
     left: &Expr,
     right: &Expr,
 ) -> Result<Expr, OutOfMemory>
-    requires { expr_height (tree.binary op left.now right.now) ≤ 200 }
+    requires { expr_height (tree.binary op left.now right.now) ≤ plain_height_limit }
     ensures opened { IfOk result (λ e. e
         ≡ spec.open_expr (around_of (map rc_value levels.now)) next.old
         (tree.binary op left.now right.now)) }
@@ -223,7 +224,7 @@ fn open_and(
     left: &Expr,
     right: &Expr,
 ) -> Result<Expr, OutOfMemory>
-    requires { expr_height (tree.logical_and left.now right.now) ≤ 200 }
+    requires { expr_height (tree.logical_and left.now right.now) ≤ plain_height_limit }
     ensures opened { IfOk result (λ e. e
         ≡ spec.open_expr (around_of (map rc_value levels.now)) next.old
         (tree.logical_and left.now right.now)) }
@@ -244,7 +245,7 @@ fn open_or(
     left: &Expr,
     right: &Expr,
 ) -> Result<Expr, OutOfMemory>
-    requires { expr_height (tree.logical_or left.now right.now) ≤ 200 }
+    requires { expr_height (tree.logical_or left.now right.now) ≤ plain_height_limit }
     ensures opened { IfOk result (λ e. e
         ≡ spec.open_expr (around_of (map rc_value levels.now)) next.old
         (tree.logical_or left.now right.now)) }
@@ -266,7 +267,7 @@ fn open_assign(
     left: &Expr,
     right: &Expr,
 ) -> Result<Expr, OutOfMemory>
-    requires { expr_height (tree.assign op left.now right.now) ≤ 200 }
+    requires { expr_height (tree.assign op left.now right.now) ≤ plain_height_limit }
     ensures opened { IfOk result (λ e. e
         ≡ spec.open_expr (around_of (map rc_value levels.now)) next.old
         (tree.assign op left.now right.now)) }
@@ -288,7 +289,7 @@ fn open_conditional(
     first: &Expr,
     second: &Expr,
 ) -> Result<Expr, OutOfMemory>
-    requires { expr_height (tree.conditional test.now first.now second.now) ≤ 200 }
+    requires { expr_height (tree.conditional test.now first.now second.now) ≤ plain_height_limit }
     ensures opened { IfOk result (λ e. e
         ≡ spec.open_expr (around_of (map rc_value levels.now)) next.old
         (tree.conditional test.now first.now second.now)) }
@@ -314,7 +315,7 @@ fn open_call(
     callee: &Expr,
     values: &[Expr],
 ) -> Result<Expr, OutOfMemory>
-    requires { expr_height (tree.call callee.now (exprs_of values.now)) ≤ 200 }
+    requires { expr_height (tree.call callee.now (exprs_of values.now)) ≤ plain_height_limit }
     ensures opened { IfOk result (λ e. e
         ≡ spec.open_expr (around_of (map rc_value levels.now)) next.old
         (tree.call callee.now (exprs_of values.now))) }
@@ -336,7 +337,7 @@ fn open_new(
     callee: &Expr,
     values: &[Expr],
 ) -> Result<Expr, OutOfMemory>
-    requires { expr_height (tree.construct callee.now (exprs_of values.now)) ≤ 200 }
+    requires { expr_height (tree.construct callee.now (exprs_of values.now)) ≤ plain_height_limit }
     ensures opened { IfOk result (λ e. e
         ≡ spec.open_expr (around_of (map rc_value levels.now)) next.old
         (tree.construct callee.now (exprs_of values.now))) }
@@ -356,7 +357,7 @@ fn open_comma(
     next: &mut u64,
     parts: &[Expr],
 ) -> Result<Expr, OutOfMemory>
-    requires { expr_height (tree.comma (exprs_of parts.now)) ≤ 200 }
+    requires { expr_height (tree.comma (exprs_of parts.now)) ≤ plain_height_limit }
     ensures opened { IfOk result (λ e. e
         ≡ spec.open_expr (around_of (map rc_value levels.now)) next.old
         (tree.comma (exprs_of parts.now))) }
@@ -384,7 +385,7 @@ fn open_expressions(
     next: &mut u64,
     expressions: &[Expr],
 ) -> Result<Vec<Expr>, OutOfMemory>
-    requires { exprs_height (exprs_of expressions.now) ≤ 200 }
+    requires { exprs_height (exprs_of expressions.now) ≤ plain_height_limit }
     ensures opened { IfOk result (λ v. exprs_of v.items
         ≡ spec.open_exprs (around_of (map rc_value levels.now)) next.old
         (exprs_of expressions.now)) }
@@ -406,7 +407,7 @@ fn open_elements(
     next: &mut u64,
     elements: &[Option<Expr>],
 ) -> Result<Vec<Option<Expr>>, OutOfMemory>
-    requires { holes_height (holes_of elements.now) ≤ 200 }
+    requires { holes_height (holes_of elements.now) ≤ plain_height_limit }
     ensures opened { IfOk result (λ v. holes_of v.items
         ≡ spec.open_holes (around_of (map rc_value levels.now)) next.old (holes_of elements.now)) }
     ensures counted { OnOk result (next.new ≡ next.old + holes_scopes (holes_of elements.now)) }
@@ -427,7 +428,7 @@ fn open_fields(
     next: &mut u64,
     fields: &[(Units, Expr)],
 ) -> Result<Vec<(Units, Expr)>, OutOfMemory>
-    requires { fields_height (fields_of fields.now) ≤ 200 }
+    requires { fields_height (fields_of fields.now) ≤ plain_height_limit }
     ensures opened { IfOk result (λ v. fields_of v.items
         ≡ spec.open_fields (around_of (map rc_value levels.now)) next.old (fields_of fields.now)) }
     ensures counted { OnOk result (next.new ≡ next.old + fields_scopes (fields_of fields.now)) }
@@ -449,7 +450,7 @@ pub fn open_maybe_expression(
     next: &mut u64,
     expression: &Option<Expr>,
 ) -> Result<Option<Expr>, OutOfMemory>
-    requires { maybe_expr_height (maybe_expr expression.now) ≤ 200 }
+    requires { maybe_expr_height (maybe_expr expression.now) ≤ plain_height_limit }
     ensures exact { IfOk result (λ e. e
         ≡ option_map (spec.open_expr (around_of (map rc_value levels.now)) next.old)
         expression.now) }

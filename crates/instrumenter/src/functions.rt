@@ -5,6 +5,7 @@ ghost use Rattle.std.specs.Rc.{rc_value};
 ghost use Rattle.js_core.specs.Height.{code_height, expr_height, stmt_height, stmts_height};
 ghost use Rattle.js_core.specs.Tree as tree;
 ghost use Rattle.js_core.specs.Tree.{code, stmts_of};
+ghost use Rattle.scope_analysis.specs.Limits.{plain_height_limit};
 ghost use Rattle.scope_analysis.specs.Names.{code_body, code_formals, code_name, maybe_name};
 ghost use Rattle.instrumenter.specs.Around as around;
 ghost use Rattle.instrumenter.specs.Counting.{count_of, expr_scopes, stmt_scopes, stmts_scopes};
@@ -31,7 +32,7 @@ pub fn open_function_expression(
     next: &mut u64,
     code: &Code,
 ) -> Result<Expr, OutOfMemory>
-    requires { expr_height (tree.func code.now) ≤ 200 }
+    requires { expr_height (tree.func code.now) ≤ plain_height_limit }
     ensures opened { IfOk result (λ e. e
         ≡ spec.open_expr (around_of (map rc_value levels.now)) next.old (tree.func code.now)) }
     ensures counted { OnOk result (next.new ≡ next.old + expr_scopes (tree.func code.now)) }
@@ -87,7 +88,7 @@ pub fn open_declared(
     next: &mut u64,
     code: &Code,
 ) -> Result<Vec<Stmt>, OutOfMemory>
-    requires { code_height code.now ≤ 200 }
+    requires { code_height code.now ≤ plain_height_limit }
     ensures opened { IfOk result (λ body. stmts_of body.items
         ≡ spec.open_function (around_of (map rc_value levels.now)) next.old
         (declaration_fields code.now) None code.now) }
@@ -107,7 +108,7 @@ fn open_function(
     own: &Option<Units>,
     code: &Code,
 ) -> Result<Vec<Stmt>, OutOfMemory>
-    requires { code_height code.now ≤ 200 }
+    requires { code_height code.now ≤ plain_height_limit }
     ensures opened { IfOk result (λ body. stmts_of body.items
         ≡ spec.open_function (around_of (map rc_value levels.now)) next.old
         fields.now own.now code.now) }
@@ -142,7 +143,7 @@ fn push_body(
     declared: &mut Vec<Stmt>,
     others: &mut Vec<Stmt>,
 ) -> Result<(), OutOfMemory>
-    requires { stmts_height (stmts_of body.now) ≤ 200 }
+    requires { stmts_height (stmts_of body.now) ≤ plain_height_limit }
     ensures declared { OnOk result (stmts_of declared.new.items
         ≡ around.append (stmts_of declared.old.items) (spec.open_declarations
         (around_of (map rc_value levels.now)) next.old (stmts_of body.now))) }
@@ -168,7 +169,7 @@ fn push_part(
     declared: &mut Vec<Stmt>,
     others: &mut Vec<Stmt>,
 ) -> Result<(), OutOfMemory>
-    requires { stmt_height statement.now ≤ 200 }
+    requires { stmt_height statement.now ≤ plain_height_limit }
     ensures declared { OnOk result (stmts_of declared.new.items
         ≡ around.append (stmts_of declared.old.items) (spec.open_declarations
         (around_of (map rc_value levels.now)) next.old
@@ -193,7 +194,7 @@ fn push_declaration(
     code: &Code,
     out: &mut Vec<Stmt>,
 ) -> Result<(), OutOfMemory>
-    requires { stmt_height (tree.function code.now) ≤ 200 }
+    requires { stmt_height (tree.function code.now) ≤ plain_height_limit }
     ensures opened { OnOk result (stmts_of out.new.items
         ≡ around.append (stmts_of out.old.items) (spec.open_declarations
         (around_of (map rc_value levels.now)) next.old

@@ -6,6 +6,7 @@ ghost use Rattle.js_core.specs.Height.{for_init_height, stmt_height};
 ghost use Rattle.js_core.specs.Tree as tree;
 ghost use Rattle.js_core.specs.Tree.{maybe_expr, stmts_of};
 ghost use Rattle.js_core.specs.Views.{declarators_of, init_of};
+ghost use Rattle.scope_analysis.specs.Limits.{plain_height_limit};
 ghost use Rattle.instrumenter.specs.Around as around;
 ghost use Rattle.instrumenter.specs.Around.{append};
 ghost use Rattle.instrumenter.specs.Counting.{init_scopes, stmt_scopes};
@@ -33,7 +34,7 @@ pub fn push_do(
     test: &Expr,
     out: &mut Vec<Stmt>,
 ) -> Result<(), OutOfMemory>
-    requires { stmt_height (tree.do_while (stmts_of body.now) test.now) ≤ 200 }
+    requires { stmt_height (tree.do_while (stmts_of body.now) test.now) ≤ plain_height_limit }
     ensures opened { OnOk result (stmts_of out.new.items ≡ append (stmts_of out.old.items)
         (spec.open_stmt (around_of (map rc_value levels.now)) next.old
         (tree.do_while (stmts_of body.now) test.now))) }
@@ -55,7 +56,7 @@ pub fn push_while(
     body: &[Stmt],
     out: &mut Vec<Stmt>,
 ) -> Result<(), OutOfMemory>
-    requires { stmt_height (tree.while test.now (stmts_of body.now)) ≤ 200 }
+    requires { stmt_height (tree.while test.now (stmts_of body.now)) ≤ plain_height_limit }
     ensures opened { OnOk result (stmts_of out.new.items ≡ append (stmts_of out.old.items)
         (spec.open_stmt (around_of (map rc_value levels.now)) next.old
         (tree.while test.now (stmts_of body.now)))) }
@@ -80,7 +81,7 @@ pub fn push_for(
     out: &mut Vec<Stmt>,
 ) -> Result<(), OutOfMemory>
     requires { stmt_height (tree.for (init_of init.now) (maybe_expr test.now) (maybe_expr step.now)
-        (stmts_of body.now)) ≤ 200 }
+        (stmts_of body.now)) ≤ plain_height_limit }
     ensures opened { OnOk result (stmts_of out.new.items ≡ append (stmts_of out.old.items)
         (spec.open_stmt (around_of (map rc_value levels.now)) next.old
         (tree.for (init_of init.now) (maybe_expr test.now) (maybe_expr step.now)
@@ -117,7 +118,8 @@ pub fn push_for_in(
     body: &[Stmt],
     out: &mut Vec<Stmt>,
 ) -> Result<(), OutOfMemory>
-    requires { stmt_height (tree.for_in declared target.now object.now (stmts_of body.now)) ≤ 200 }
+    requires { stmt_height (tree.for_in declared target.now object.now (stmts_of body.now))
+        ≤ plain_height_limit }
     ensures opened { OnOk result (stmts_of out.new.items ≡ append (stmts_of out.old.items)
         (spec.open_stmt (around_of (map rc_value levels.now)) next.old
         (tree.for_in declared target.now object.now (stmts_of body.now)))) }
@@ -183,7 +185,7 @@ fn open_init(
     next: &mut u64,
     init: &ForInit,
 ) -> Result<ForInit, OutOfMemory>
-    requires { for_init_height (init_of init.now) ≤ 200 }
+    requires { for_init_height (init_of init.now) ≤ plain_height_limit }
     ensures opened { IfOk result (λ i. init_of i
         ≡ spec.open_init (around_of (map rc_value levels.now)) next.old (init_of init.now)) }
     ensures counted { OnOk result (next.new ≡ next.old + init_scopes (init_of init.now)) }

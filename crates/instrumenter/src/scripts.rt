@@ -4,6 +4,7 @@ ghost use Rattle.std.specs.Prelude.{◌≡◌, ◌≤◌, ◌<◌, ◌+◌, ◌^
 ghost use Rattle.js_core.specs.Height.{stmt_height, stmts_height};
 ghost use Rattle.js_core.specs.Tree as tree;
 ghost use Rattle.js_core.specs.Tree.{stmts_of};
+ghost use Rattle.scope_analysis.specs.Limits.{plain_height_limit};
 ghost use Rattle.instrumenter.specs.Around.{append, top};
 ghost use Rattle.instrumenter.specs.Counting.{scripts_scopes, stmt_scopes, stmts_scopes};
 ghost use Rattle.instrumenter.specs.Opening as spec;
@@ -17,7 +18,7 @@ use std::alloc::Global;
 
 /// The scripts of a page, each with opened scopes. Objects are numbered from 1 through all scripts, and all have numbers that fit.
 pub fn open_scopes(alloc: Global, scripts: &[Script]) -> Result<Vec<Script>, OutOfMemory>
-    requires { All (λ body. stmts_height body ≤ 200) scripts.now }
+    requires { All (λ body. stmts_height body ≤ plain_height_limit) scripts.now }
     ensures opened { IfOk result (λ opened. opened.items ≡ spec.open_scripts scripts.now) }
     ensures numbered { OnOk result (1 + scripts_scopes scripts.now < 2 ^ 64) }
 {
@@ -39,7 +40,7 @@ fn number_fits(number: u64)
 
 // The script, where this is the number of the next scope's object.
 fn open_script(alloc: Global, next: &mut u64, script: &Script) -> Result<Script, OutOfMemory>
-    requires { stmts_height script.now ≤ 200 }
+    requires { stmts_height script.now ≤ plain_height_limit }
     ensures opened { IfOk result (λ s. s ≡ spec.open_script next.old script.now) }
     ensures counted { OnOk result (next.new ≡ next.old + stmts_scopes script.now) }
 {
@@ -55,7 +56,7 @@ fn push_tops(
     statements: &[Stmt],
     out: &mut Vec<Stmt>,
 ) -> Result<(), OutOfMemory>
-    requires { stmts_height (stmts_of statements.now) ≤ 200 }
+    requires { stmts_height (stmts_of statements.now) ≤ plain_height_limit }
     ensures opened { OnOk result (stmts_of out.new.items ≡ append (stmts_of out.old.items)
         (spec.open_tops (top true) next.old (stmts_of statements.now))) }
     ensures counted { OnOk result (next.new ≡ next.old + stmts_scopes (stmts_of statements.now)) }
@@ -74,7 +75,7 @@ fn push_top(
     statement: &Stmt,
     out: &mut Vec<Stmt>,
 ) -> Result<(), OutOfMemory>
-    requires { stmt_height statement.now ≤ 200 }
+    requires { stmt_height statement.now ≤ plain_height_limit }
     ensures opened { OnOk result (stmts_of out.new.items ≡ append (stmts_of out.old.items)
         (spec.open_tops (top true) next.old (tree.then_stmt statement.now tree.no_stmts))) }
     ensures counted { OnOk result (next.new ≡ next.old + stmt_scopes statement.now) }
@@ -91,7 +92,7 @@ fn push_function(
     code: &Code,
     out: &mut Vec<Stmt>,
 ) -> Result<(), OutOfMemory>
-    requires { stmt_height (tree.function code.now) ≤ 200 }
+    requires { stmt_height (tree.function code.now) ≤ plain_height_limit }
     ensures opened { OnOk result (stmts_of out.new.items ≡ append (stmts_of out.old.items)
         (spec.open_tops (top true) next.old
         (tree.then_stmt (tree.function code.now) tree.no_stmts))) }

@@ -12,6 +12,7 @@ ghost use Rattle.js_core.specs.Height.{
 ghost use Rattle.js_core.specs.Tree as tree;
 ghost use Rattle.js_core.specs.Tree.{maybe_expr, maybe_stmts, stmts_of};
 ghost use Rattle.js_core.specs.Views.{cases_of, catch_of, declarators_of, init_of};
+ghost use Rattle.scope_analysis.specs.Limits.{plain_height_limit};
 ghost use Rattle.instrumenter.specs.Around.{append};
 ghost use Rattle.instrumenter.specs.Counting.{
   cases_scopes,
@@ -45,7 +46,7 @@ pub fn push_statement(
     statement: &Stmt,
     out: &mut Vec<Stmt>,
 ) -> Result<(), OutOfMemory>
-    requires { stmt_height statement.now ≤ 200 }
+    requires { stmt_height statement.now ≤ plain_height_limit }
     ensures opened { OnOk result (stmts_of out.new.items ≡ append (stmts_of out.old.items)
         (spec.open_stmt (around_of (map rc_value levels.now)) next.old statement.now)) }
     ensures counted { OnOk result (next.new ≡ next.old + stmt_scopes statement.now) }
@@ -107,7 +108,7 @@ fn leave_out(
     code: &Code,
     out: &mut Vec<Stmt>,
 ) -> Result<(), OutOfMemory>
-    requires { stmt_height (tree.function code.now) ≤ 200 }
+    requires { stmt_height (tree.function code.now) ≤ plain_height_limit }
     ensures opened { OnOk result (stmts_of out.new.items ≡ append (stmts_of out.old.items)
         (spec.open_stmt (around_of (map rc_value levels.now)) next.old (tree.function code.now))) }
     ensures counted { OnOk result (next.new ≡ next.old + stmt_scopes (tree.function code.now)) }
@@ -125,7 +126,7 @@ fn push_expression(
     value: &Expr,
     out: &mut Vec<Stmt>,
 ) -> Result<(), OutOfMemory>
-    requires { stmt_height (tree.expr value.now) ≤ 200 }
+    requires { stmt_height (tree.expr value.now) ≤ plain_height_limit }
     ensures opened { OnOk result (stmts_of out.new.items ≡ append (stmts_of out.old.items)
         (spec.open_stmt (around_of (map rc_value levels.now)) next.old (tree.expr value.now))) }
     ensures counted { OnOk result (next.new ≡ next.old + stmt_scopes (tree.expr value.now)) }
@@ -143,7 +144,7 @@ fn push_block(
     body: &[Stmt],
     out: &mut Vec<Stmt>,
 ) -> Result<(), OutOfMemory>
-    requires { stmt_height (tree.block (stmts_of body.now)) ≤ 200 }
+    requires { stmt_height (tree.block (stmts_of body.now)) ≤ plain_height_limit }
     ensures opened { OnOk result (stmts_of out.new.items ≡ append (stmts_of out.old.items)
         (spec.open_stmt (around_of (map rc_value levels.now)) next.old
         (tree.block (stmts_of body.now)))) }
@@ -166,7 +167,7 @@ fn push_if(
     out: &mut Vec<Stmt>,
 ) -> Result<(), OutOfMemory>
     requires { stmt_height (tree.if_else test.now (stmts_of first.now)
-        (maybe_stmts (option_map (λ v. v.items) second.now))) ≤ 200 }
+        (maybe_stmts (option_map (λ v. v.items) second.now))) ≤ plain_height_limit }
     ensures opened { OnOk result (stmts_of out.new.items ≡ append (stmts_of out.old.items)
         (spec.open_stmt (around_of (map rc_value levels.now)) next.old
         (tree.if_else test.now (stmts_of first.now) (maybe_stmts
@@ -190,7 +191,7 @@ fn push_return(
     value: &Option<Expr>,
     out: &mut Vec<Stmt>,
 ) -> Result<(), OutOfMemory>
-    requires { stmt_height (tree.return (maybe_expr value.now)) ≤ 200 }
+    requires { stmt_height (tree.return (maybe_expr value.now)) ≤ plain_height_limit }
     ensures opened { OnOk result (stmts_of out.new.items ≡ append (stmts_of out.old.items)
         (spec.open_stmt (around_of (map rc_value levels.now)) next.old
         (tree.return (maybe_expr value.now)))) }
@@ -210,7 +211,7 @@ fn push_throw(
     value: &Expr,
     out: &mut Vec<Stmt>,
 ) -> Result<(), OutOfMemory>
-    requires { stmt_height (tree.throw value.now) ≤ 200 }
+    requires { stmt_height (tree.throw value.now) ≤ plain_height_limit }
     ensures opened { OnOk result (stmts_of out.new.items ≡ append (stmts_of out.old.items)
         (spec.open_stmt (around_of (map rc_value levels.now)) next.old (tree.throw value.now))) }
     ensures counted { OnOk result (next.new ≡ next.old + stmt_scopes (tree.throw value.now)) }
@@ -231,7 +232,7 @@ fn push_try(
     out: &mut Vec<Stmt>,
 ) -> Result<(), OutOfMemory>
     requires { stmt_height (tree.try (stmts_of block.now) (catch_of catch.now)
-        (maybe_stmts (option_map (λ v. v.items) last.now))) ≤ 200 }
+        (maybe_stmts (option_map (λ v. v.items) last.now))) ≤ plain_height_limit }
     ensures opened { OnOk result (stmts_of out.new.items ≡ append (stmts_of out.old.items)
         (spec.open_stmt (around_of (map rc_value levels.now)) next.old
         (tree.try (stmts_of block.now) (catch_of catch.now)
@@ -256,7 +257,7 @@ fn push_switch(
     cases: &[Case],
     out: &mut Vec<Stmt>,
 ) -> Result<(), OutOfMemory>
-    requires { stmt_height (tree.switch value.now (cases_of cases.now)) ≤ 200 }
+    requires { stmt_height (tree.switch value.now (cases_of cases.now)) ≤ plain_height_limit }
     ensures opened { OnOk result (stmts_of out.new.items ≡ append (stmts_of out.old.items)
         (spec.open_stmt (around_of (map rc_value levels.now)) next.old
         (tree.switch value.now (cases_of cases.now)))) }
@@ -275,7 +276,8 @@ fn open_maybe_body(
     next: &mut u64,
     body: &Option<Vec<Stmt>>,
 ) -> Result<Option<Vec<Stmt>>, OutOfMemory>
-    requires { maybe_stmts_height (maybe_stmts (option_map (λ v. v.items) body.now)) ≤ 200 }
+    requires { maybe_stmts_height (maybe_stmts (option_map (λ v. v.items) body.now))
+        ≤ plain_height_limit }
     ensures opened { IfOk result (λ opened. maybe_stmts (option_map (λ v. v.items) opened)
         ≡ spec.open_maybe_body (around_of (map rc_value levels.now)) next.old
         (maybe_stmts (option_map (λ v. v.items) body.now))) }
@@ -295,7 +297,7 @@ fn open_cases(
     next: &mut u64,
     cases: &[Case],
 ) -> Result<Vec<Case>, OutOfMemory>
-    requires { cases_height (cases_of cases.now) ≤ 200 }
+    requires { cases_height (cases_of cases.now) ≤ plain_height_limit }
     ensures opened { IfOk result (λ v. cases_of v.items
         ≡ spec.open_cases (around_of (map rc_value levels.now)) next.old (cases_of cases.now)) }
     ensures counted { OnOk result (next.new ≡ next.old + cases_scopes (cases_of cases.now)) }
@@ -319,7 +321,7 @@ pub fn open_statements(
     next: &mut u64,
     statements: &[Stmt],
 ) -> Result<Vec<Stmt>, OutOfMemory>
-    requires { stmts_height (stmts_of statements.now) ≤ 200 }
+    requires { stmts_height (stmts_of statements.now) ≤ plain_height_limit }
     ensures opened { IfOk result (λ v. stmts_of v.items
         ≡ spec.open_stmts (around_of (map rc_value levels.now)) next.old
         (stmts_of statements.now)) }
@@ -339,7 +341,7 @@ pub fn push_statements(
     statements: &[Stmt],
     out: &mut Vec<Stmt>,
 ) -> Result<(), OutOfMemory>
-    requires { stmts_height (stmts_of statements.now) ≤ 200 }
+    requires { stmts_height (stmts_of statements.now) ≤ plain_height_limit }
     ensures opened { OnOk result (stmts_of out.new.items ≡ append (stmts_of out.old.items)
         (spec.open_stmts (around_of (map rc_value levels.now)) next.old
         (stmts_of statements.now))) }

@@ -6,6 +6,7 @@ ghost use Rattle.js_core.specs.Height.{declarators_height, expr_height, exprs_he
 ghost use Rattle.js_core.specs.Tree as tree;
 ghost use Rattle.js_core.specs.Tree.{exprs_of, maybe_expr, stmts_of};
 ghost use Rattle.js_core.specs.Views.{declarators_of, init_of};
+ghost use Rattle.scope_analysis.specs.Limits.{plain_height_limit};
 ghost use Rattle.instrumenter.specs.Around as around;
 ghost use Rattle.instrumenter.specs.Around.{append};
 ghost use Rattle.instrumenter.specs.Counting.{declarators_scopes, expr_scopes, maybe_expr_scopes, stmt_scopes};
@@ -94,7 +95,7 @@ pub fn push_variables(
     declarators: &[Declarator],
     out: &mut Vec<Stmt>,
 ) -> Result<(), OutOfMemory>
-    requires { stmt_height (tree.var (declarators_of declarators.now)) ≤ 200 }
+    requires { stmt_height (tree.var (declarators_of declarators.now)) ≤ plain_height_limit }
     ensures opened { OnOk result (stmts_of out.new.items ≡ append (stmts_of out.old.items)
         (spec.open_stmt (around_of (map rc_value levels.now)) next.old
         (tree.var (declarators_of declarators.now)))) }
@@ -118,7 +119,7 @@ fn push_assignments(
     declarators: &[Declarator],
     out: &mut Vec<Stmt>,
 ) -> Result<(), OutOfMemory>
-    requires { declarators_height (declarators_of declarators.now) ≤ 200 }
+    requires { declarators_height (declarators_of declarators.now) ≤ plain_height_limit }
     ensures opened { OnOk result (stmts_of out.new.items ≡ append (stmts_of out.old.items)
         (around.as_statements (around.assignments (around_of (map rc_value levels.now))
         (spec.open_declarators (around_of (map rc_value levels.now)) next.old
@@ -152,7 +153,7 @@ fn push_initialiser(
     value: &Option<Expr>,
     out: &mut Vec<Stmt>,
 ) -> Result<(), OutOfMemory>
-    requires { maybe_expr_height (maybe_expr value.now) ≤ 200 }
+    requires { maybe_expr_height (maybe_expr value.now) ≤ plain_height_limit }
     ensures opened { OnOk result (stmts_of out.new.items ≡ append (stmts_of out.old.items)
         (around.as_statements (exprs_of (assigned (around_of (map rc_value levels.now)) next.old
         name.now value.now)))) }
@@ -178,7 +179,7 @@ fn open_initialiser(
     name: &Units,
     value: &Expr,
 ) -> Result<Expr, OutOfMemory>
-    requires { expr_height value.now ≤ 200 }
+    requires { expr_height value.now ≤ plain_height_limit }
     ensures opened { IfOk result (λ e. e ≡ tree.assign None
         (around.field_or_name ((around_of (map rc_value levels.now)).fields name.now) name.now)
         (spec.open_expr (around_of (map rc_value levels.now)) next.old value.now)) }
@@ -198,7 +199,7 @@ pub fn open_header(
     next: &mut u64,
     declarators: &[Declarator],
 ) -> Result<ForInit, OutOfMemory>
-    requires { declarators_height (declarators_of declarators.now) ≤ 200 }
+    requires { declarators_height (declarators_of declarators.now) ≤ plain_height_limit }
     ensures opened { IfOk result (λ i. init_of i
         ≡ spec.open_init (around_of (map rc_value levels.now)) next.old
         (tree.init_var (declarators_of declarators.now))) }
@@ -219,7 +220,7 @@ fn open_initialisers(
     next: &mut u64,
     declarators: &[Declarator],
 ) -> Result<Vec<Expr>, OutOfMemory>
-    requires { declarators_height (declarators_of declarators.now) ≤ 200 }
+    requires { declarators_height (declarators_of declarators.now) ≤ plain_height_limit }
     ensures opened { IfOk result (λ v. exprs_of v.items
         ≡ around.assignments (around_of (map rc_value levels.now))
         (spec.open_declarators (around_of (map rc_value levels.now)) next.old
@@ -261,7 +262,7 @@ fn open_declarators(
     next: &mut u64,
     declarators: &[Declarator],
 ) -> Result<Vec<Declarator>, OutOfMemory>
-    requires { declarators_height (declarators_of declarators.now) ≤ 200 }
+    requires { declarators_height (declarators_of declarators.now) ≤ plain_height_limit }
     ensures opened { IfOk result (λ v. declarators_of v.items
         ≡ spec.open_declarators (around_of (map rc_value levels.now)) next.old
         (declarators_of declarators.now)) }

@@ -13,11 +13,12 @@ use Rattle.page_check.specs.declared.page.Kind.TheVariants.{Plain, Form}
 use Rattle.page_rest.specs.Laws.{IsInForm}
 use Rattle.printed_pages.proofs.Callers.{accepted_scripts_have_syntax}
 use Rattle.scope_analysis.specs.Form.{has_high_function, in_form}
+use Rattle.scope_analysis.specs.Limits.{form_height_limit, plain_height_limit}
 use Rattle.moved_pages.specs.Moved.{AcceptedScriptsAreInForm}
 
-low_of : (kind : Kind) (script : tree.Stmts) → is_too_deep kind script ≡ false → stmts_height script ≤ 420
-low_of Plain script h = omega (arith, ltb-false 200 (stmts_height script) h)
-low_of Form script h = ltb-false 420 (stmts_height script) (or_parts (nat_lt 420 (stmts_height script)) (has_high_function script) h).0
+low_of : (kind : Kind) (script : tree.Stmts) → is_too_deep kind script ≡ false → stmts_height script ≤ form_height_limit
+low_of Plain script h = omega (arith, ltb-false plain_height_limit (stmts_height script) h)
+low_of Form script h = ltb-false form_height_limit (stmts_height script) (or_parts (nat_lt form_height_limit (stmts_height script)) (has_high_function script) h).0
 
 pub accepted_scripts_in_form : TokensCanBeWritten → TokensHaveSyntax → AcceptedScriptsAreInForm
 accepted_scripts_in_form written syntax bytes kind scripts is formed =

@@ -45,6 +45,7 @@ use Rattle.rebuild_plan.specs.declared.statement.Maker.TheVariants as made
 use Rattle.rebuild_plan.specs.declared.statement.Rebuild.{Rebuild}
 use Rattle.rebuild_plan.specs.declared.statement.Rebuild.TheVariants.{Make, Define, DefinePrototype, DefineLength, Prevent}
 use Rattle.scope_analysis.specs.FreeUses.{needed_variables}
+use Rattle.scope_analysis.specs.Limits.{function_height_limit}
 use Rattle.moved_pages.proofs.UsedNames.{needed_named}
 
 -- ---- places and values
@@ -102,7 +103,7 @@ module _ (n : ℕ) (few : n ≤ 75093) where
 
 -- the code is low, and a tree that some tokens have
 abbrev pub IsLowSyntax : Code → Type 0
-IsLowSyntax c = IsExpr (func c) × (code_height c + 1 ≤ 400)
+IsLowSyntax c = IsExpr (func c) × (code_height c + 1 ≤ function_height_limit)
 
 -- so it is of a function, and what it needs has names
 abbrev IsNamed : Maker → Type 0

@@ -10,6 +10,7 @@ use Rattle.js_lexer.specs.Directives.{IsStrict}
 use Rattle.js_lexer.specs.Tokens.{Tokens}
 use Rattle.scope_analysis.specs.EarlyRules.{early_rule}
 use Rattle.scope_analysis.specs.Form.{in_form, has_reserved_name, has_high_function}
+use Rattle.scope_analysis.specs.Limits.{form_height_limit, plain_height_limit}
 use Rattle.page_check.specs.Frame.{IsFramePage, with_line_feeds}
 use Rattle.page_check.specs.declared.page.Accepted.{Accepted}
 use Rattle.page_check.specs.declared.page.AcceptFault.{AcceptFault}
@@ -21,11 +22,10 @@ use Rattle.page_check.specs.declared.page.Refusal.TheVariants.{NotUtf8, NotPage,
 use Rattle.page_check.specs.declared.script.ScriptFault.{ScriptFault}
 use Rattle.page_check.specs.declared.script.ScriptFault.TheVariants as cause
 
--- the script is higher than 200 in a plain page; in a form page it is higher than 420, or a function of it that is no
--- factory is higher than 400
+-- the script is higher than one of such a page; in a form page, or a function of it that is no factory is higher than may be
 abbrev pub is_too_deep : Kind → tree.Stmts → Bool
-is_too_deep Plain script = nat_lt 200 (stmts_height script)
-is_too_deep Form script = nat_lt 420 (stmts_height script) || has_high_function script
+is_too_deep Plain script = nat_lt plain_height_limit (stmts_height script)
+is_too_deep Form script = nat_lt form_height_limit (stmts_height script) || has_high_function script
 
 -- the text has these tokens, and they this tree
 pub record IsRead (text : List ℕ) (tokens : List Token) (script : tree.Stmts) : Type 0 where

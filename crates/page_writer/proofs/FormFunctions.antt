@@ -14,6 +14,7 @@ use Rattle.scope_analysis.specs.EarlyRules.{early_rule}
 use Rattle.scope_analysis.specs.Form.{in_form}
 use Rattle.scope_analysis.specs.FreeUses.{needed_variables}
 use Rattle.scope_analysis.specs.Identifiers.{is_reserved}
+use Rattle.scope_analysis.specs.Limits.{function_height_limit}
 use Rattle.scope_analysis.specs.Nodes.{Node, expr_any, expression, stmt_any, stmts_any, statement, exprs_any}
 use Rattle.scope_analysis.specs.Uses.{expr_uses}
 use Rattle.scope_analysis.specs.declared.name_use.Use.{Use}
@@ -34,7 +35,7 @@ pub record IsFormFunction (c : tree.Code) (needs : List (List ℕ × Value)) : T
   pub formed : in_form (called c needs) ≡ true
   pub orderly : early_rule (called c needs) ≡ None
   pub reserved : list_all is_reserved (need_names needs) ≡ true
-  pub low : code_height c + 1 ≤ 400
+  pub low : code_height c + 1 ≤ function_height_limit
 
 -- ---- what no node of that call passes, none of the binding function passes, and none of the function
 

@@ -13,6 +13,7 @@ use Rattle.rebuild_plan.specs.declared.statement.Rebuild.{Rebuild}
 use Rattle.scope_analysis.specs.EarlyRules.{assigns_own_name, deletes_name, has_bad_target, has_restricted_name, has_stray_jump, repeats_field, repeats_formal}
 use Rattle.scope_analysis.specs.Form.{any_is_reserved, any_use_is_reserved, has_inner_declaration, has_open_reserved, in_form, is_clause_out_of_form, is_declaration, is_high_function, scope_out_of_form}
 use Rattle.scope_analysis.specs.Jumps.{leaves, strays}
+use Rattle.scope_analysis.specs.Limits.{form_height_limit}
 use Rattle.scope_analysis.specs.Names.{declared_names}
 use Rattle.scope_analysis.specs.Nodes.{stmts_any}
 use Rattle.scope_analysis.specs.Uses.{is_captured, leaving_clause, stmts_uses}
@@ -30,7 +31,7 @@ use Rattle.page_writer.proofs.Syntax.{rebuild_fits}
 use Rattle.page_writer.proofs.Words.{list_is_identifier}
 use Rattle.page_writer.specs.FormScripts.{SavedScriptsAreForm}
 use Rattle.page_writer.specs.Script.{saved_script, statements}
-use Rattle.page_writer.specs.Writable.{IsWritable, form_height_limit}
+use Rattle.page_writer.specs.Writable.{IsWritable}
 
 -- ---- it is a tree that tokens have, and low
 

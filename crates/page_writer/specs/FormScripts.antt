@@ -11,8 +11,9 @@ use Rattle.rebuild_plan.specs.Compact.{compact}
 use Rattle.rebuild_plan.specs.Plan.{plan}
 use Rattle.scope_analysis.specs.EarlyRules.{early_rule}
 use Rattle.scope_analysis.specs.Form.{has_high_function, in_form}
+use Rattle.scope_analysis.specs.Limits.{form_height_limit}
 use Rattle.page_writer.specs.Script.{saved_script}
-use Rattle.page_writer.specs.Writable.{IsWritable, form_height_limit}
+use Rattle.page_writer.specs.Writable.{IsWritable}
 
 -- a tree that some tokens have, in form, that breaks no early rule and is low, as scripts of form pages are
 pub record IsFormScript (script : tree.Stmts) : Type 0 where

@@ -10,6 +10,7 @@ use Rattle.js_lexer.specs.Written.{is_unit}
 use Rattle.js_values.specs.declared.ids.ObjId.{ObjId}
 use Rattle.js_values.specs.declared.value.Value.{Value}
 use Rattle.js_values.specs.declared.value.Value.TheVariants as value
+use Rattle.scope_analysis.specs.Limits.{form_height_limit, function_height_limit}
 use Rattle.page_writer.specs.Statements.{statement}
 use Rattle.rebuild_plan.specs.declared.statement.Maker.{Maker}
 use Rattle.rebuild_plan.specs.declared.statement.Maker.TheVariants as made
@@ -45,10 +46,6 @@ is_writable_value v = true
 abbrev pub is_need : List ℕ × Value → Bool
 is_need n = is_identifier n.0 && is_writable_value n.1
 
--- no function is higher as an expression
-abbrev pub function_height_limit : ℕ
-function_height_limit = 400
-
 abbrev pub IsWritableMaker : Maker → Type 0
 IsWritableMaker (made.Plain proto) = IsTrue (is_prototype proto)
 IsWritableMaker made.List = Unit {0}
@@ -68,10 +65,6 @@ IsWritable (DefineLength at v writable) = IsTrue (is_place at) × IsTrue (is_wri
 IsWritable (Prevent at) = IsTrue (is_place at)
 
 -- ---- the law
-
--- no script of a form page is higher
-abbrev pub form_height_limit : ℕ
-form_height_limit = 420
 
 -- a statement that can be written is, as a script, a tree that some tokens have, and no higher than a script of a form page may be
 abbrev pub StatementsAreSyntax : Type 0

@@ -7,6 +7,7 @@ use Rattle.js_core.specs.Tree.{name, num, text, bool, null, this, list, literal,
 use Rattle.js_core.specs.Height.{code_height}
 use Rattle.js_core.specs.declared.operators.UnaryOp.TheVariants.{Void}
 use Rattle.scope_analysis.specs.declared.name_use.Use.{Use}
+use Rattle.scope_analysis.specs.Limits.{function_height_limit}
 use Rattle.scope_analysis.specs.Names.{is_among, code_name, code_formals, code_body, declared_names, bound_names, own_name}
 use Rattle.scope_analysis.specs.Nodes.{Node, of_scopes, expression, statement, code_any, stmt_any, stmts_any}
 use Rattle.scope_analysis.specs.Identifiers.{identifiers, is_reserved}
@@ -194,8 +195,8 @@ is_factory c = has_no_name (code_name c) && list_all is_reserved (code_formals c
 
 -- a function that is higher, as an expression, than a form page may have it, and no factory
 abbrev pub is_high_function : Node → Bool
-is_high_function (expression is_callee (func c)) = not (is_callee && is_factory c) && nat_lt 400 (code_height c + 1)
-is_high_function (statement (function c)) = nat_lt 400 (code_height c + 1)
+is_high_function (expression is_callee (func c)) = not (is_callee && is_factory c) && nat_lt function_height_limit (code_height c + 1)
+is_high_function (statement (function c)) = nat_lt function_height_limit (code_height c + 1)
 is_high_function n = false
 
 -- the script has such a function

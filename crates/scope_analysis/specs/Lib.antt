@@ -3,6 +3,7 @@ pub mod Form
 pub mod FreeUses
 pub mod Identifiers
 pub mod Jumps
+pub mod Limits
 pub mod Marks
 pub mod NameTests
 pub mod Names

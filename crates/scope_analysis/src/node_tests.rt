@@ -8,6 +8,7 @@ ghost use Rattle.js_core.specs.Tree.{fields_of, stmts_of};
 ghost use Rattle.scope_analysis.specs.EarlyRules as rules;
 ghost use Rattle.scope_analysis.specs.Form as form;
 ghost use Rattle.scope_analysis.specs.Identifiers.{is_reserved};
+ghost use Rattle.scope_analysis.specs.Limits.{function_height_limit};
 ghost use Rattle.scope_analysis.specs.Nodes as nodes;
 ghost use Rattle.scope_analysis.specs.NodeTests.{passes};
 
@@ -16,14 +17,12 @@ use crate::jumps::strays;
 use crate::name_test::{NameTest, is_reserved};
 use crate::names::{has_repeat, push_name};
 use crate::node_test::NodeTest;
+use js_core::limits::FUNCTION_HEIGHT_LIMIT;
 use js_core::memory::OutOfMemory;
 use js_core::operators::UnaryOp;
 use js_core::syntax::{Catch, Code, Expr, ExprNode, Stmt, StmtNode};
 use js_core::units::Units;
 use std::alloc::Global;
-
-/// The greatest height, as an expression, of a function in a form page that is no factory.
-const FUNCTION_LIMIT: u64 = 400;
 
 /// Whether the expression passes the test.
 pub fn expression_passes(
@@ -226,9 +225,9 @@ fn declares_high_function(statement: &Stmt) -> bool
 }
 
 fn is_high(code: &Code) -> bool
-    ensures { result ≡ nat_lt 400 (code_height code.now + 1) }
+    ensures { result ≡ nat_lt function_height_limit (code_height code.now + 1) }
 {
-    code.height() + 1 > FUNCTION_LIMIT
+    code.height() + 1 > FUNCTION_HEIGHT_LIMIT
 }
 
 fn is_factory(code: &Code) -> bool

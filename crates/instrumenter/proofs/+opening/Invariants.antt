@@ -6,6 +6,7 @@ use Rattle.js_core.specs.Height.{cases_height, declarators_height, exprs_height,
 use Rattle.js_core.specs.Sizes.{expr_size, exprs_size, maybe_expr_size, holes_size, fields_size, code_size, stmt_size, stmts_size, maybe_stmts_size, declarators_size, for_init_size, maybe_catch_size, cases_size}
 use Rattle.js_core.specs.Tree.{exprs_of, maybe_expr, holes_of, fields_of, stmts_of, maybe_stmts}
 use Rattle.js_core.specs.Views.{declarators_of, init_of, catch_of, cases_of}
+use Rattle.scope_analysis.specs.Limits.{plain_height_limit}
 use Rattle.instrumenter.specs.Around.{append, as_statements, assignments}
 use Rattle.instrumenter.specs.Counting.{cases_scopes, declarators_scopes, exprs_scopes, fields_scopes, holes_scopes, stmts_scopes}
 use Rattle.instrumenter.specs.Levels.{around_of}
@@ -170,7 +171,7 @@ abbrev pub invariant-expressions::open_expressions-loop-rest : goal.invariant-ex
 invariant-expressions::open_expressions-loop-rest l = record {
   opened : l.opened.items ++ expr_list (around_of (map rc_value l.levels)) l.next l.rest ≡ expr_list (around_of (map rc_value l.levels)) l.initial.next l.expressions;
   counted : l.next + exprs_scopes (exprs_of l.rest) ≡ l.initial.next + exprs_scopes (exprs_of l.expressions);
-  low : exprs_height (exprs_of l.rest) ≤ 200;
+  low : exprs_height (exprs_of l.rest) ≤ plain_height_limit;
   inside : exprs_size (exprs_of l.rest) ≤ exprs_size (exprs_of l.expressions);
 }
 
@@ -181,7 +182,7 @@ abbrev pub invariant-expressions::open_elements-loop-rest : goal.invariant-expre
 invariant-expressions::open_elements-loop-rest l = record {
   opened : l.opened.items ++ hole_list (around_of (map rc_value l.levels)) l.next l.rest ≡ hole_list (around_of (map rc_value l.levels)) l.initial.next l.elements;
   counted : l.next + holes_scopes (holes_of l.rest) ≡ l.initial.next + holes_scopes (holes_of l.elements);
-  low : holes_height (holes_of l.rest) ≤ 200;
+  low : holes_height (holes_of l.rest) ≤ plain_height_limit;
   inside : holes_size (holes_of l.rest) ≤ holes_size (holes_of l.elements);
 }
 
@@ -192,7 +193,7 @@ abbrev pub invariant-expressions::open_fields-loop-rest : goal.invariant-express
 invariant-expressions::open_fields-loop-rest l = record {
   opened : l.opened.items ++ field_list (around_of (map rc_value l.levels)) l.next l.rest ≡ field_list (around_of (map rc_value l.levels)) l.initial.next l.fields;
   counted : l.next + fields_scopes (fields_of l.rest) ≡ l.initial.next + fields_scopes (fields_of l.fields);
-  low : fields_height (fields_of l.rest) ≤ 200;
+  low : fields_height (fields_of l.rest) ≤ plain_height_limit;
   inside : fields_size (fields_of l.rest) ≤ fields_size (fields_of l.fields);
 }
 
@@ -203,7 +204,7 @@ abbrev pub invariant-variables::open_declarators-loop-rest : goal.invariant-vari
 invariant-variables::open_declarators-loop-rest l = record {
   opened : l.opened.items ++ declarator_list (around_of (map rc_value l.levels)) l.next l.rest ≡ declarator_list (around_of (map rc_value l.levels)) l.initial.next l.declarators;
   counted : l.next + declarators_scopes (declarators_of l.rest) ≡ l.initial.next + declarators_scopes (declarators_of l.declarators);
-  low : declarators_height (declarators_of l.rest) ≤ 200;
+  low : declarators_height (declarators_of l.rest) ≤ plain_height_limit;
   inside : declarators_size (declarators_of l.rest) ≤ declarators_size (declarators_of l.declarators);
 }
 
@@ -214,7 +215,7 @@ abbrev pub invariant-variables::open_initialisers-loop-rest : goal.invariant-var
 invariant-variables::open_initialisers-loop-rest l = record {
   opened : l.assignments.items ++ assigned_list (around_of (map rc_value l.levels)) l.next l.rest ≡ assigned_list (around_of (map rc_value l.levels)) l.initial.next l.declarators;
   counted : l.next + declarators_scopes (declarators_of l.rest) ≡ l.initial.next + declarators_scopes (declarators_of l.declarators);
-  low : declarators_height (declarators_of l.rest) ≤ 200;
+  low : declarators_height (declarators_of l.rest) ≤ plain_height_limit;
   inside : declarators_size (declarators_of l.rest) ≤ declarators_size (declarators_of l.declarators);
 }
 
@@ -225,7 +226,7 @@ abbrev pub invariant-statements::push_statements-loop-rest : goal.invariant-stat
 invariant-statements::push_statements-loop-rest l = record {
   opened : append (stmts_of l.out.items) (open_stmts (around_of (map rc_value l.levels)) l.next (stmts_of l.rest)) ≡ append (stmts_of l.initial.out.items) (open_stmts (around_of (map rc_value l.levels)) l.initial.next (stmts_of l.statements));
   counted : l.next + stmts_scopes (stmts_of l.rest) ≡ l.initial.next + stmts_scopes (stmts_of l.statements);
-  low : stmts_height (stmts_of l.rest) ≤ 200;
+  low : stmts_height (stmts_of l.rest) ≤ plain_height_limit;
   inside : stmts_size (stmts_of l.rest) ≤ stmts_size (stmts_of l.statements);
 }
 
@@ -237,7 +238,7 @@ invariant-functions::push_body-loop-rest l = record {
   declared : append (stmts_of l.declared.items) (open_declarations (around_of (map rc_value l.levels)) l.next (stmts_of l.rest)) ≡ append (stmts_of l.initial.declared.items) (open_declarations (around_of (map rc_value l.levels)) l.initial.next (stmts_of l.body));
   others : append (stmts_of l.others.items) (open_stmts (around_of (map rc_value l.levels)) l.next (stmts_of l.rest)) ≡ append (stmts_of l.initial.others.items) (open_stmts (around_of (map rc_value l.levels)) l.initial.next (stmts_of l.body));
   counted : l.next + stmts_scopes (stmts_of l.rest) ≡ l.initial.next + stmts_scopes (stmts_of l.body);
-  low : stmts_height (stmts_of l.rest) ≤ 200;
+  low : stmts_height (stmts_of l.rest) ≤ plain_height_limit;
   inside : stmts_size (stmts_of l.rest) ≤ stmts_size (stmts_of l.body);
 }
 
@@ -248,7 +249,7 @@ abbrev pub invariant-variables::push_assignments-loop-rest : goal.invariant-vari
 invariant-variables::push_assignments-loop-rest l = record {
   opened : append (stmts_of l.out.items) (as_statements (assignments (around_of (map rc_value l.levels)) (open_declarators (around_of (map rc_value l.levels)) l.next (declarators_of l.rest)))) ≡ append (stmts_of l.initial.out.items) (as_statements (assignments (around_of (map rc_value l.levels)) (open_declarators (around_of (map rc_value l.levels)) l.initial.next (declarators_of l.declarators))));
   counted : l.next + declarators_scopes (declarators_of l.rest) ≡ l.initial.next + declarators_scopes (declarators_of l.declarators);
-  low : declarators_height (declarators_of l.rest) ≤ 200;
+  low : declarators_height (declarators_of l.rest) ≤ plain_height_limit;
   inside : declarators_size (declarators_of l.rest) ≤ declarators_size (declarators_of l.declarators);
 }
 
@@ -259,7 +260,7 @@ abbrev pub invariant-statements::open_cases-loop-rest : goal.invariant-statement
 invariant-statements::open_cases-loop-rest l = record {
   opened : after_cases (cases_of l.opened.items) (open_cases (around_of (map rc_value l.levels)) l.next (cases_of l.rest)) ≡ open_cases (around_of (map rc_value l.levels)) l.initial.next (cases_of l.cases);
   counted : l.next + cases_scopes (cases_of l.rest) ≡ l.initial.next + cases_scopes (cases_of l.cases);
-  low : cases_height (cases_of l.rest) ≤ 200;
+  low : cases_height (cases_of l.rest) ≤ plain_height_limit;
   inside : cases_size (cases_of l.rest) ≤ cases_size (cases_of l.cases);
 }
 

@@ -1,5 +1,6 @@
 use Rattle.std.proofs.Common.{◌≡◌, ◌≤◌, ◌+◌, ◌++◌, All, length}
 use Rattle.js_core.specs.Height.{stmts_height}
+use Rattle.scope_analysis.specs.Limits.{plain_height_limit}
 use Rattle.instrumenter.specs.Counting.{scripts_scopes}
 use Rattle.instrumenter.specs.Opening.{open_from, open_scripts}
 use Rattle.instrumenter.proofs.scripts.open_scopes.Given as goal
@@ -7,7 +8,7 @@ use Rattle.instrumenter.proofs.scripts.open_scopes.Given as goal
 abbrev pub invariant-loop-rest : goal.invariant-loop-rest
 invariant-loop-rest l = record {
   opened : l.opened.items ++ open_from l.next l.rest ≡ open_scripts l.scripts;
-  low : All (λ body. stmts_height body ≤ 200) l.rest;
+  low : All (λ body. stmts_height body ≤ plain_height_limit) l.rest;
   counted : l.next + scripts_scopes l.rest ≡ 1 + scripts_scopes l.scripts;
 }
 
