@@ -9,7 +9,6 @@ pub mod Jumps
 pub mod KeptNames
 pub mod Leaving
 pub mod Low
-pub mod LowFunctions
 pub mod NamedUses
 pub mod NodePieces
 pub mod NodeTests

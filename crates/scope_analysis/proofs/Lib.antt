@@ -3,6 +3,7 @@ pub mod Callers
 pub mod Chains
 pub mod FreeOccurrences
 pub mod KeptRules
+pub mod LowFunctions
 pub mod MarkLists
 pub mod Outwards
 pub mod Repeats
