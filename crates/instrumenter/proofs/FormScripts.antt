@@ -1,5 +1,7 @@
 -- An opened script of a plain page is a script of a form page.
+use Rattle.scope_analysis.specs.FormScripts.{IsFormScript}
 use Rattle.instrumenter.specs.Opened.{OpenedScriptsAreForm}
+use Rattle.instrumenter.specs.Opening.{open_script}
 use Rattle.instrumenter.proofs.Heights.{opened_scripts_are_low}
 use Rattle.instrumenter.proofs.OpenedForm.{opened_is_formed, opened_is_orderly}
 use Rattle.instrumenter.proofs.OpenedSyntax.{opened_is_syntax}
@@ -7,10 +9,10 @@ use Rattle.instrumenter.proofs.OpenedSyntax.{opened_is_syntax}
 pub opened_scripts_are_form : OpenedScriptsAreForm
 opened_scripts_are_form n script h =
     let heights = opened_scripts_are_low n script h.low in
+    let form : IsFormScript (open_script n script) =
     record {
-      syntax = opened_is_syntax n script h.syntax;
+      formed = opened_is_formed n script h.syntax h.orderly h.plain;
       orderly = opened_is_orderly n script h.syntax h.orderly h.plain;
       low = heights.0;
-      functions = heights.1;
-      formed = opened_is_formed n script h.syntax h.orderly h.plain;
-    }
+    } in
+    (opened_is_syntax n script h.syntax, record { form = form; functions = heights.1 })

@@ -1,15 +1,14 @@
 -- That the text of a page with opened scopes is accepted as a form page.
-use Rattle.std.proofs.Common.{◌≡◌, ◌∙◌, refl, sym, ap, subst, ℕ, ◌+◌, ◌≤◌, Bool, true, false, List, [], ◌∷◌, arith}
-use Rattle.std.specs.Prelude.{◌||◌, ◌&&◌, not, bytes_eq, codes, nat_lt}
+use Rattle.std.proofs.Common.{◌≡◌, ◌∙◌, refl, sym, ap, subst, ℕ, ◌+◌, Bool, true, false, List, [], ◌∷◌}
+use Rattle.std.specs.Prelude.{◌||◌, ◌&&◌, not, bytes_eq, codes}
 use Rattle.std.specs.List.{list_all}
-use Rattle.std.proofs.lemmas.Bool.{and_parts}
-use Rattle.std.proofs.lemmas.Bool.Decides.{nat_tests}
+use Rattle.std.proofs.lemmas.Bool.{and_parts, ltb-false}
 use Rattle.js_core.specs.Height.{stmts_height}
 use Rattle.js_core.specs.Text.{utf16_of}
 use Rattle.js_core.specs.Tree as tree
 use Rattle.js_core.specs.Tree.{no_stmts, then_stmt}
 use Rattle.instrumenter.specs.Around.{top}
-use Rattle.instrumenter.specs.Opened.{IsFormScript, IsPlainScript, OpenedScriptsAreForm}
+use Rattle.instrumenter.specs.Opened.{IsPlainScript, OpenedScriptsAreForm}
 use Rattle.instrumenter.specs.Opening.{open_script, open_scripts, open_tops}
 use Rattle.js_grammar.specs.Syntax.{IsSyntax}
 use Rattle.js_print.specs.Laws.{is_free}
@@ -18,8 +17,9 @@ use Rattle.js_print.specs.Printing.{script_text}
 use Rattle.js_print.specs.ReadAgain.{ReadAgain, ScriptsAreReadAgain, begins_strict}
 use Rattle.page_check.specs.Accept.{IsAcceptedAs}
 use Rattle.page_check.specs.declared.page.Kind.TheVariants.{Plain, Form}
-use Rattle.printed_pages.specs.Printed.{AcceptedScriptsBeginStrict, AcceptedScriptsHaveSyntax, FramedScriptsAreAccepted, IsFormScript as IsPrintedForm}
-use Rattle.scope_analysis.specs.Form.{has_high_function, has_reserved_name}
+use Rattle.printed_pages.specs.Printed.{AcceptedScriptsBeginStrict, AcceptedScriptsHaveSyntax, FramedScriptsAreAccepted}
+use Rattle.scope_analysis.specs.Form.{has_reserved_name}
+use Rattle.scope_analysis.specs.Limits.{plain_height_limit}
 use Rattle.opened_pages.specs.Opened.{OpenedPagesAreAccepted, opened_text}
 
 -- ---- directives stay where they are
@@ -56,15 +56,6 @@ lined_again script text again = record {
 
 -- ---- the law
 
-low_plain : (h : ℕ) → nat_lt 200 h ≡ false → h ≤ 200
-low_plain h e = grind (arith, nat_tests)
-
-low_form : (h : ℕ) → h ≤ 420 → nat_lt 420 h ≡ false
-low_form h e = grind (arith, nat_tests)
-
-both_false : (a b : Bool) → a ≡ false → b ≡ false → (a || b) ≡ false
-both_false a b e f = ap (λ (c : Bool). c || b) e ∙ f
-
 not_true : (b : Bool) → not b ≡ true → b ≡ false
 not_true true h = absurd (cc h)
 not_true false h = refl
@@ -74,16 +65,8 @@ pub plain_script : (bytes : List ℕ) (scripts : List tree.Stmts) (page : IsAcce
 plain_script bytes scripts page syntax = record {
   syntax = syntax;
   orderly = page.read.low.orderly.orderly;
-  low = low_plain (stmts_height page.script) page.read.low.low;
+  low = ltb-false plain_height_limit (stmts_height page.script) page.read.low.low;
   plain = not_true (has_reserved_name page.script) page.read.formed;
-}
-
--- the words of the two crates on scripts of form pages say the same
-printed_form : (script : tree.Stmts) → IsFormScript script → IsPrintedForm script
-printed_form script form = record {
-  orderly = form.orderly;
-  low = both_false (nat_lt 420 (stmts_height script)) (has_high_function script) (low_form (stmts_height script) form.low) form.functions;
-  formed = form.formed;
 }
 
 module _ (formed : OpenedScriptsAreForm) (printed : ScriptsAreReadAgain) (framing : FramedScriptsAreAccepted)
@@ -94,8 +77,8 @@ module _ (formed : OpenedScriptsAreForm) (printed : ScriptsAreReadAgain) (framin
       let script = page.script in
       let opened = open_script 1 script in
       let is = formed 1 script (plain_script bytes scripts page (syntax bytes Plain scripts page)) in
-      framing with_body opened (script_text opened) (printed_form opened is) (begins_opened 1 script (strict bytes Plain scripts page))
-      (lined_again opened (script_text opened) (printed opened is.syntax))
+      framing with_body opened (script_text opened) is.1 (begins_opened 1 script (strict bytes Plain scripts page))
+      (lined_again opened (script_text opened) (printed opened is.0))
 
   pub opened_pages_are_accepted : OpenedPagesAreAccepted
   opened_pages_are_accepted Form bytes scripts text is opens = subst (λ (t : List ℕ). IsAcceptedAs t Form scripts) (sym opens) is

@@ -1,14 +1,14 @@
 -- What holds of each function in a script of a form page, wherever it stands: alone in a call that binds its needed variables, it is a script of
 -- a form page, too.
-use Rattle.std.specs.Prelude.{◌≡◌, ◌≤◌, Bool, true, false, not, ◌&&◌, Option, Some, None}
+use Rattle.std.specs.Prelude.{◌≡◌, Bool, true, false, not, ◌&&◌, Option, Some, None}
 use Rattle.heap_walker.specs.Still.{wrapped}
-use Rattle.js_core.specs.Height.{stmts_height}
 use Rattle.js_core.specs.Tree as tree
 use Rattle.js_core.specs.Tree.{code, func, function}
 use Rattle.js_grammar.specs.Syntax.{IsSyntax}
 use Rattle.page_rest.specs.Trees.{keeps_code}
 use Rattle.scope_analysis.specs.EarlyRules.{early_rule}
 use Rattle.scope_analysis.specs.Form.{in_form}
+use Rattle.scope_analysis.specs.FormScripts.{IsFormScript}
 use Rattle.scope_analysis.specs.Nodes.{Node, expression, statement, stmts_any}
 
 abbrev pub is_no : {A : Type 0} → Option A → Bool
@@ -38,13 +38,7 @@ is_not_asked (expression is_callee (func c)) = not (is_asked c)
 is_not_asked (statement (function c)) = not (is_asked (without_name c))
 is_not_asked n = false
 
--- a script of a form page
-pub record IsFormScript (script : tree.Stmts) : Type 0 where
-  pub formed : in_form script ≡ true
-  pub orderly : early_rule script ≡ None
-  pub low : stmts_height script ≤ 420
-
--- no function in it is such a one
+-- no function in a script of a form page is such a one
 abbrev pub FunctionsAreFormed : Type 0
 FunctionsAreFormed = (script : tree.Stmts) → IsFormScript script → stmts_any is_unformed script ≡ false
 

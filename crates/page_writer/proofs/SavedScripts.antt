@@ -12,6 +12,7 @@ use Rattle.rebuild_plan.specs.Plan.{plan}
 use Rattle.rebuild_plan.specs.declared.statement.Rebuild.{Rebuild}
 use Rattle.scope_analysis.specs.EarlyRules.{assigns_own_name, deletes_name, has_bad_target, has_restricted_name, has_stray_jump, repeats_field, repeats_formal}
 use Rattle.scope_analysis.specs.Form.{any_is_reserved, any_use_is_reserved, has_inner_declaration, has_open_reserved, in_form, is_clause_out_of_form, is_declaration, is_high_function, scope_out_of_form}
+use Rattle.scope_analysis.specs.FormScripts.{IsFormScript}
 use Rattle.scope_analysis.specs.Jumps.{leaves, strays}
 use Rattle.scope_analysis.specs.Limits.{form_height_limit}
 use Rattle.scope_analysis.specs.Names.{declared_names}
@@ -140,10 +141,10 @@ saved_scripts_are_form s things still walk written =
     let rs : List Rebuild = plan (compact s things) in
     let all : All IsInForm rs = plan_in_form s things still walk in
     let fit = statements_fit rs written in
+    let form : IsFormScript (saved_script rs) =
     record {
-      syntax = script_is_syntax rs fit.0;
       formed = from_parts (saved_script rs) (script_has_form rs all);
       orderly = none_is_broken (saved_script rs) (script_keeps rs all);
       low = script_is_low rs fit.1;
-      functions = script_quiet is_high_function high_quiet functions_are_low rs all refl;
-    }
+    } in
+    (script_is_syntax rs fit.0, record { form = form; functions = script_quiet is_high_function high_quiet functions_are_low rs all refl })

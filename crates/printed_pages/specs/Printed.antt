@@ -1,14 +1,14 @@
 -- That a printed script in the frame of a form page is accepted as that page, and that the scripts of accepted pages can be printed.
-use Rattle.std.specs.Prelude.{◌≡◌, ℕ, Bool, true, false, IsTrue, List, [], ◌∷◌, ◌++◌, None, codes}
+use Rattle.std.specs.Prelude.{◌≡◌, ℕ, Bool, true, IsTrue, List, [], ◌∷◌, ◌++◌, codes}
 use Rattle.js_core.specs.Tree as tree
 use Rattle.js_grammar.specs.Syntax.{IsSyntax}
 use Rattle.js_print.specs.Lined.{LinedAgain}
 use Rattle.js_print.specs.ReadAgain.{begins_strict}
-use Rattle.page_check.specs.Accept.{IsAcceptedAs, is_too_deep, keeps_form}
+use Rattle.page_check.specs.Accept.{IsAcceptedAs}
 use Rattle.page_check.specs.Frame.{body_text}
 use Rattle.page_check.specs.declared.page.Kind.{Kind}
 use Rattle.page_check.specs.declared.page.Kind.TheVariants.{Form}
-use Rattle.scope_analysis.specs.EarlyRules.{early_rule}
+use Rattle.scope_analysis.specs.FormScripts.{IsFormPageScript}
 
 -- what stands before the text of a form page's script, with an empty body or none, and what stands behind it
 abbrev pub page_front : Bool → List ℕ
@@ -20,16 +20,10 @@ page_back = codes "</script></html>"
 abbrev pub framed : Bool → List ℕ → List ℕ
 framed with_body text = page_front with_body ++ (text ++ page_back)
 
--- a script of a form page, but that it is strict
-pub record IsFormScript (script : tree.Stmts) : Type 0 where
-  pub orderly : early_rule script ≡ None
-  pub low : is_too_deep Form script ≡ false
-  pub formed : keeps_form Form script ≡ true
-
--- where the text is read again as such a script that begins with the strict directive, it is accepted in this frame
+-- where the text is read again as what a form page asks of a script, and this begins with the strict directive, it is accepted in this frame
 abbrev pub FramedScriptsAreAccepted : Type 0
 FramedScriptsAreAccepted =
-    (with_body : Bool) (script : tree.Stmts) (text : List ℕ) → IsFormScript script → IsTrue (begins_strict script) → LinedAgain script text
+    (with_body : Bool) (script : tree.Stmts) (text : List ℕ) → IsFormPageScript script → IsTrue (begins_strict script) → LinedAgain script text
     → IsAcceptedAs (framed with_body text) Form (script ∷ [])
 
 -- the script of an accepted page is a tree that some tokens have

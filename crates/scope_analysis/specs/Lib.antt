@@ -1,5 +1,6 @@
 pub mod EarlyRules
 pub mod Form
+pub mod FormScripts
 pub mod FreeUses
 pub mod Identifiers
 pub mod Jumps
