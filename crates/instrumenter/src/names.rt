@@ -1,7 +1,7 @@
 //! The captured names of scopes, and the names of their objects.
 
 ghost use Rattle.std.specs.Prelude.{◌≡◌, ◌++◌, List, ℕ, suc, bytes_eq, filter, IfOk, OnOk};
-ghost use Rattle.indexmap.specs.IndexSet.{contains, insert_all};
+ghost use Rattle.indexmap.specs.IndexSet.{contains};
 ghost use Rattle.scope_analysis.specs.Names.{code_body, code_formals, declared_names, maybe_name};
 ghost use Rattle.scope_analysis.specs.Scopes.{scope_names};
 ghost use Rattle.scope_analysis.specs.Uses.{is_captured, stmts_uses};
@@ -15,7 +15,7 @@ use js_core::ascii::ascii_text;
 use js_core::memory::OutOfMemory;
 use js_core::syntax::{Catch, Code, Stmt};
 use js_core::units::Units;
-use scope_analysis::name_table::captured_table;
+use scope_analysis::name_table::{captured_table, insert_names};
 use scope_analysis::names::{push_declared_names, push_maybe_name, push_names};
 use scope_analysis::scope_test::ScopeTest;
 use scope_analysis::uses::push_statements_uses;
@@ -60,17 +60,6 @@ fn captured_names(alloc: Global, statements: &[Stmt]) -> Result<IndexSet<Units>,
     let mut uses = Vec::new(alloc);
     push_statements_uses(ScopeTest::IsOutOfForm, statements, &mut uses)?;
     captured_table(alloc, uses.as_slice())
-}
-
-fn insert_names(set: &mut IndexSet<Units>, names: &[Units]) -> Result<(), OutOfMemory>
-    ensures { OnOk result (set.new.keys ≡ insert_all bytes_eq set.old.keys names.now) }
-{
-    let mut rest = names;
-    while let [name, after @ ..] = rest {
-        set.insert(name.clone()?)?;
-        rest = after;
-    }
-    Ok(())
 }
 
 // Appends those of the names that are in the table.

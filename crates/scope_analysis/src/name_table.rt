@@ -1,7 +1,7 @@
 //! Tables of names, by which a name is found without going over a list.
 
-ghost use Rattle.std.specs.Prelude.{◌≡◌, ◌++◌, ℕ, List, bytes_eq, IfOk};
-ghost use Rattle.indexmap.specs.IndexSet.{contains};
+ghost use Rattle.std.specs.Prelude.{◌≡◌, ◌++◌, ℕ, List, bytes_eq, IfOk, OnOk};
+ghost use Rattle.indexmap.specs.IndexSet.{contains, insert_all};
 ghost use Rattle.scope_analysis.specs.Names as spec;
 ghost use Rattle.scope_analysis.specs.Uses.{is_assigned, is_captured};
 
@@ -12,6 +12,18 @@ use js_core::memory::OutOfMemory;
 use js_core::syntax::Code;
 use js_core::units::Units;
 use std::alloc::Global;
+
+/// Puts the names into the set, each behind those that are there, where it is not among them.
+pub fn insert_names(set: &mut IndexSet<Units>, names: &[Units]) -> Result<(), OutOfMemory>
+    ensures { OnOk result (set.new.keys ≡ insert_all bytes_eq set.old.keys names.now) }
+{
+    let mut rest = names;
+    while let [name, after @ ..] = rest {
+        set.insert(name.clone()?)?;
+        rest = after;
+    }
+    Ok(())
+}
 
 /// A table of these names.
 pub fn name_table(alloc: Global, names: &[Units]) -> Result<IndexSet<Units>, OutOfMemory>

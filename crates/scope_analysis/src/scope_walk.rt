@@ -10,6 +10,7 @@ ghost use Rattle.scope_analysis.specs.ScopeWalk.{functions_after};
 ghost use Rattle.scope_analysis.specs.ScopeWalk as spec;
 
 use crate::mark::{Mark, ScopeHead, ScopeKind};
+use crate::name_table::insert_names;
 use crate::names::push_names;
 use indexmap::{IndexMap, IndexSet};
 use js_core::memory::OutOfMemory;
@@ -188,17 +189,6 @@ fn is_function(kind: ScopeKind) -> bool
         ScopeKind::Expression | ScopeKind::Declaration => true,
         ScopeKind::Clause => false,
     }
-}
-
-fn insert_names(set: &mut IndexSet<Units>, names: &[Units]) -> Result<(), OutOfMemory>
-    ensures { OnOk result (set.new.keys ≡ insert_all bytes_eq set.old.keys names.now) }
-{
-    let mut rest = names;
-    while let [name, after @ ..] = rest {
-        set.insert(name.clone()?)?;
-        rest = after;
-    }
-    Ok(())
 }
 
 fn insert_maybe(to: &mut IndexSet<Units>, name: &Option<Units>) -> Result<(), OutOfMemory>
