@@ -1,7 +1,7 @@
 -- What is left of a list from a place on.
-use Rattle.std.proofs.Common.{◌≡◌, ◌∙◌, refl, sym, ap, ℕ, zero, suc, ◌+◌, ◌-◌, ◌≤◌, ◌<◌, arith, drop, take, get_or, length, List, [], ◌∷◌, Some, None}
+use Rattle.std.proofs.Common.{◌≡◌, ◌∙◌, refl, sym, ap, ℕ, zero, suc, ◌+◌, ◌<◌, arith, drop, get_or, length, List, [], ◌∷◌, Some, None}
 use Rattle.std.specs.Prelude.{slice_get}
-use Rattle.std.proofs.Math.Seq.{drop-cons, take-length}
+use Rattle.std.proofs.Math.Seq.{drop-cons}
 use Rattle.std.proofs.lemmas.Option.{get_or_from_slice_get, slice_get_within}
 
 pub from_place : {X : Type 0} (xs : List X) (k : ℕ) (x : X) → slice_get xs k ≡ Some x → drop k xs ≡ x ∷ drop (k + 1) xs
@@ -14,17 +14,6 @@ past_places [] zero none = refl
 past_places [] (suc k) none = refl
 past_places (y ∷ ys) zero none = cc none
 past_places (y ∷ ys) (suc k) none = past_places ys k none
-
--- the next one of a list, and what is left of it
-pub next_of : {X : Type 0} (xs : List X) (x : X) → 1 ≤ length xs → x ≡ get_or xs 0 x → xs ≡ x ∷ take (length xs - 1) (drop 1 xs)
-next_of [] x some is = absurd (omega arith)
-next_of (y ∷ ys) x some is =
-    let long : length ys ≡ length (y ∷ ys) - 1 = omega arith in
-    ap (λ z. z ∷ ys) (sym is) ∙ ap (λ zs. x ∷ zs) (sym (take-length ys) ∙ ap (λ n. take n ys) long)
-
-pub none_of : {X : Type 0} (xs : List X) → length xs < 1 → xs ≡ []
-none_of [] none = refl
-none_of (x ∷ xs) none = absurd (omega arith)
 
 pub same_place : {X : Type 0} (xs : List X) (k : ℕ) (d e : X) → k < length xs → get_or xs k d ≡ get_or xs k e
 same_place [] k d e h = absurd (omega arith)

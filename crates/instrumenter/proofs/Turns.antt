@@ -2,7 +2,6 @@
 use Rattle.std.proofs.Common.{◌≡◌, ◌≤◌, ◌<◌, ◌-◌, ◌+◌, ◌^◌, ℕ, Bool, true, false, not, ◌&&◌, List, [], ◌∷◌, ◌++◌, Option, Some, None, Result, Ok, Err, IfOk, OnOk, Global, length, get_or, take, drop, refl, sym, ap, ◌∙◌, arith}
 use Rattle.std.proofs.Common as lists
 use Rattle.std.proofs.lemmas.List.{append-nil}
-use Rattle.std.proofs.Math.Seq.{take-length}
 use Rattle.std.specs.declared.rc.Rc.{Rc}
 use Rattle.js_core.specs.Tree as tree
 use Rattle.js_core.specs.Tree.{empty, exprs_of, for, for_in, function, maybe_expr, no_stmts, stmts_of, then_case, then_declarator, then_stmt}
@@ -17,17 +16,6 @@ use Rattle.instrumenter.specs.Counting.{expr_scopes, init_scopes, maybe_expr_sco
 use Rattle.instrumenter.specs.Levels.{assigned}
 use Rattle.instrumenter.specs.Opening.{open_cases, open_declarations, open_declarators, open_expr, open_from, open_init, open_maybe, open_script, open_stmt, open_stmts, open_tops}
 use Rattle.instrumenter.proofs.Appended.{after_cases, any_behind, append_assoc, append_nothing, case_pushed, cases_end, declarations_behind, for_behind, for_in_behind}
-
--- the next one of a list, and what is left of it
-pub next_of : {X : Type 0} (xs : List X) (x : X) → 1 ≤ length xs → x ≡ get_or xs 0 x → xs ≡ x ∷ take (length xs - 1) (drop 1 xs)
-next_of [] x some is = absurd (omega arith)
-next_of (y ∷ ys) x some is =
-    let long : length ys ≡ length (y ∷ ys) - 1 = omega arith in
-    ap (λ z. z ∷ ys) (sym is) ∙ ap (λ zs. x ∷ zs) (sym (take-length ys) ∙ ap (λ n. take n ys) long)
-
-pub none_of : {X : Type 0} (xs : List X) → length xs < 1 → xs ≡ []
-none_of [] none = refl
-none_of (x ∷ xs) none = absurd (omega arith)
 
 -- the next statement is opened behind these
 pub stmts_turn : (a : Around) (n m : ℕ) (s : tree.Stmt) (ss after : List tree.Stmt) (xs ys whole : tree.Stmts) → ss ≡ s ∷ after → m ≡ n + stmt_scopes s

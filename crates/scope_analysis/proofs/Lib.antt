@@ -7,6 +7,7 @@ pub mod LowFunctions
 pub mod MarkLists
 pub mod Outwards
 pub mod Repeats
+pub mod Rests
 pub mod ScopeNames
 pub mod Sets
 pub mod ScopeSteps

@@ -6,6 +6,7 @@ use Rattle.js_core.specs.Height.{expr_height, exprs_height, stmts_height}
 use Rattle.js_core.specs.Tree as tree
 use Rattle.js_core.specs.Tree.{code, exprs_of, fields_of, holes_of, maybe_expr, no_stmts, stmts_of, then_stmt}
 use Rattle.js_core.specs.Views.{cases_of, declarators_of, init_of, stmt_of}
+use Rattle.scope_analysis.proofs.Callers.{next_of}
 use Rattle.scope_analysis.specs.Names.{code_body}
 use Rattle.instrumenter.specs.Around.{append, as_statements, assignments, before_for, before_for_in, callee, clause_object, in_clause, in_function, is_changed, next_number, opened_var, parameter, plain_names, scope_object, single, valued_names, var_where_any, without_this}
 use Rattle.instrumenter.specs.Counting.{count_of, expr_scopes, init_scopes, maybe_expr_scopes, stmts_scopes}
@@ -15,7 +16,7 @@ use Rattle.instrumenter.specs.Opening.{open_declarators, open_expr, open_exprs, 
 use Rattle.instrumenter.proofs.Appended.{append_assoc, append_nothing, any_behind, assigned_list, assigned_opened, called, declarator_list, declarators_opened, expr_list, exprs_opened, field_list, fields_opened, for_behind, for_in_behind, hole_list, holes_opened, number_behind}
 use Rattle.instrumenter.proofs.Bodies.{clause_opened, declared_opened, func_opened, function_low, function_opened}
 use Rattle.instrumenter.proofs.Low.{assignments_low, declarators_low, expr_low}
-use Rattle.instrumenter.proofs.Turns.{assignments_turn, cases_rest, cases_turn, changed_opened, declarations_turn, for_in_opened, for_opened, list_end, next_of, ok_is, on_any, on_ok, stmts_end, stmts_turn, undeclared}
+use Rattle.instrumenter.proofs.Turns.{assignments_turn, cases_rest, cases_turn, changed_opened, declarations_turn, for_in_opened, for_opened, list_end, ok_is, on_any, on_ok, stmts_end, stmts_turn, undeclared}
 use Rattle.instrumenter.proofs.+opening.Goals as goal
 
 pub catches::open_clause-returns-clause-opened : goal.catches::open_clause-returns-clause-opened

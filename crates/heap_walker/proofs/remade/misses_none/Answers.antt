@@ -1,8 +1,8 @@
 use Rattle.std.proofs.Common.{◌∙◌, sym, ap, arith}
 use Rattle.std.proofs.lemmas.Grind.{common_steps}
+use Rattle.scope_analysis.proofs.Callers.{next_of}
 use Rattle.scope_analysis.specs.Uses.{leaving_function}
 use Rattle.heap_walker.specs.Remade.{misses_none}
-use Rattle.heap_walker.proofs.Places.{next_of}
 use Rattle.heap_walker.proofs.Remaking.{bound_inside, not_missed}
 use Rattle.heap_walker.proofs.remade.misses_none.Goals as goal
 use Rattle.heap_walker.proofs.remade.misses_none.Goals.{else-not-contains-via-then-not-contains+else-is_missed, else-not-contains-via-else-not-contains}

@@ -1,9 +1,10 @@
 use Rattle.std.proofs.Common.{true, refl, arith}
 use Rattle.std.proofs.lemmas.Grind.{common_steps}
 use Rattle.js_core.specs.Tree.{stmts_of}
+use Rattle.scope_analysis.proofs.Callers.{next_of}
 use Rattle.instrumenter.specs.Around.{top}
 use Rattle.instrumenter.specs.Opening.{open_tops}
-use Rattle.instrumenter.proofs.Turns.{next_of, stmts_end, tops_turn}
+use Rattle.instrumenter.proofs.Turns.{stmts_end, tops_turn}
 use Rattle.instrumenter.proofs.scripts.push_tops.Goals as goal
 
 pub loop-rest-preserved : goal.loop-rest-preserved

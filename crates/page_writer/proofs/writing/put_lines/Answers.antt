@@ -1,6 +1,7 @@
 use Rattle.std.proofs.Common.{sym, subst, Ok, arith}
 use Rattle.std.proofs.lemmas.Grind.{common_steps}
-use Rattle.heap_walker.proofs.Callers.{next_of, none_of}
+use Rattle.std.proofs.lemmas.List.{nil_from_length}
+use Rattle.scope_analysis.proofs.Callers.{next_of}
 use Rattle.page_writer.proofs.Pieces.{puts_both, puts_nothing, puts_stopped}
 use Rattle.page_writer.specs.Page.{line, lines}
 use Rattle.page_writer.specs.Putting.{Puts}
@@ -26,4 +27,4 @@ loop-rest-preserved g c new result h =
 pub returns : goal.returns
 returns g c =
     let seen = g.O.Sink.seen c.loop-rest.out in
-    c.loop-rest.invariant seen (Ok tt) (subst (λ r. Puts seen seen (lines r) (Ok tt)) (sym (none_of c.loop-rest.rest.now (omega arith))) (puts_nothing seen))
+    c.loop-rest.invariant seen (Ok tt) (subst (λ r. Puts seen seen (lines r) (Ok tt)) (sym (nil_from_length c.loop-rest.rest.now (omega arith))) (puts_nothing seen))

@@ -1,7 +1,8 @@
 use Rattle.std.proofs.Common.{sym, subst, arith}
 use Rattle.std.proofs.lemmas.Grind.{common_steps}
+use Rattle.std.proofs.lemmas.List.{nil_from_length}
+use Rattle.scope_analysis.proofs.Callers.{next_of}
 use Rattle.heap_walker.specs.Weight.{Adds, named_load, needs_load}
-use Rattle.heap_walker.proofs.Places.{next_of, none_of}
 use Rattle.heap_walker.proofs.Weights.{adds_both, adds_none}
 use Rattle.heap_walker.proofs.weight.Weight.add_needs.Goals as goal
 
@@ -14,4 +15,4 @@ loop-rest-preserved c w h =
 
 pub returns : goal.returns
 returns c =
-    c.loop-rest.invariant c.loop-rest.self (subst (λ r. Adds c.loop-rest.self c.loop-rest.self (needs_load r)) (sym (none_of c.loop-rest.rest.now (omega arith))) (adds_none c.loop-rest.self))
+    c.loop-rest.invariant c.loop-rest.self (subst (λ r. Adds c.loop-rest.self c.loop-rest.self (needs_load r)) (sym (nil_from_length c.loop-rest.rest.now (omega arith))) (adds_none c.loop-rest.self))
