@@ -42,6 +42,7 @@ pub mod PlainPages
 pub mod Properties
 pub mod Reading
 pub mod Rows
+pub mod Runs
 pub mod ScopeObjects
 pub mod ScopeValues
 pub mod Scoped

@@ -3,15 +3,11 @@ use Rattle.std.proofs.Common.{◌≡◌, refl, sym, ap, ◌∙◌, List, [], ◌
 use Rattle.std.proofs.lemmas.List.{append-nil}
 use Rattle.js_values.specs.declared.event.Event.{Event}
 use Rattle.js_values.specs.declared.line.Line.{Line}
+use Rattle.agreement.proofs.Callers.{run_append}
 use Rattle.page_meaning.specs.Laws.{LinesGrow}
 use Rattle.page_meaning.specs.Pages.{do_event, load_of, run_all, run_of}
 use Rattle.page_meaning.specs.Store.{Store}
 use Rattle.moved_pages.specs.Moved.{MovesJoin}
-
--- events, and then others
-run_append : (s : Store) (es fs : List Event) → run_all s (es ++ fs) ≡ run_all (run_all s es) fs
-run_append s [] fs = refl
-run_append s (e ∷ es) fs = run_append (do_event e s) es fs
 
 drop_all : {A : Type 0} (xs ys : List A) → drop (length xs) (xs ++ ys) ≡ ys
 drop_all [] ys = refl

@@ -5,6 +5,7 @@ use Rattle.std.proofs.lemmas.List.Elements.{All-cons, All-nil}
 use Rattle.js_core.specs.Tree as tree
 use Rattle.js_values.specs.declared.event.Event.{Event}
 use Rattle.js_values.specs.declared.line.Line.{Line}
+use Rattle.agreement.proofs.Callers.{run_append}
 use Rattle.agreement.specs.Laws.{PlainPagesAgree}
 use Rattle.instrumenter.specs.Counting.{scripts_scopes}
 use Rattle.instrumenter.specs.Opened.{IsPlainScript}
@@ -12,17 +13,13 @@ use Rattle.instrumenter.specs.Opening.{open_scripts}
 use Rattle.page_check.specs.Accept.{IsAcceptedAs}
 use Rattle.page_check.specs.declared.page.Kind.{Kind}
 use Rattle.page_check.specs.declared.page.Kind.TheVariants.{Plain, Form}
-use Rattle.page_meaning.specs.Pages.{do_event, lines_after, lines_of_run, load_of, run_all, run_of}
+use Rattle.page_meaning.specs.Pages.{lines_after, lines_of_run, load_of}
 use Rattle.page_meaning.specs.Store.{Store}
 use Rattle.printed_pages.specs.Printed.{AcceptedScriptsHaveSyntax}
 use Rattle.opened_pages.proofs.Accepted.{plain_script}
 use Rattle.opened_pages.specs.Opened.{HaveNumbers, OpenedPagesPutOutTheSame, PutOutTheSame}
 
 -- ---- later events
-
-run_append : (s : Store) (es fs : List Event) → run_all s (es ++ fs) ≡ run_all (run_all s es) fs
-run_append s [] fs = refl
-run_append s (e ∷ es) fs = run_append (do_event e s) es fs
 
 after_is : (scripts : List tree.Stmts) (earlier later : List Event)
     → lines_after scripts earlier later ≡ drop (length (lines_of_run scripts earlier)) (lines_of_run scripts (earlier ++ later))
