@@ -172,6 +172,30 @@ fn open_update(
     }))
 }
 
+// Two parts of an expression, opened one after the other.
+#[cycle(opening)]
+fn open_both(
+    alloc: Global,
+    levels: &[Rc<Level>],
+    next: &mut u64,
+    left: &Expr,
+    right: &Expr,
+) -> Result<(Box<Expr>, Box<Expr>), OutOfMemory>
+    requires left { expr_height left.now ≤ plain_height_limit }
+    requires right { expr_height right.now ≤ plain_height_limit }
+    ensures left { IfOk result (λ both. both.0.value
+        ≡ spec.open_expr (around_of (map rc_value levels.now)) next.old left.now) }
+    ensures right { IfOk result (λ both. both.1.value
+        ≡ spec.open_expr (around_of (map rc_value levels.now)) (next.old + expr_scopes left.now)
+        right.now) }
+    ensures counted { OnOk result (next.new
+        ≡ next.old + (expr_scopes left.now + expr_scopes right.now)) }
+{
+    let left = open_expression(alloc, levels, next, left)?;
+    let right = open_expression(alloc, levels, next, right)?;
+    Ok((Box::new(alloc, left)?, Box::new(alloc, right)?))
+}
+
 #[cycle(opening)]
 #[tactic(auto, using(crate::proofs::Low::expr_low))]
 fn open_index(
@@ -188,9 +212,8 @@ fn open_index(
     ensures counted { OnOk result (next.new ≡ next.old + expr_scopes
         (tree.index left.now right.now)) }
 {
-    let left = open_expression(alloc, levels, next, left)?;
-    let right = open_expression(alloc, levels, next, right)?;
-    Ok(Expr::new(ExprNode::Index(Box::new(alloc, left)?, Box::new(alloc, right)?)))
+    let (left, right) = open_both(alloc, levels, next, left, right)?;
+    Ok(Expr::new(ExprNode::Index(left, right)))
 }
 
 #[cycle(opening)]
@@ -210,9 +233,8 @@ fn open_binary(
     ensures counted { OnOk result (next.new ≡ next.old + expr_scopes
         (tree.binary op left.now right.now)) }
 {
-    let left = open_expression(alloc, levels, next, left)?;
-    let right = open_expression(alloc, levels, next, right)?;
-    Ok(Expr::new(ExprNode::Binary(op, Box::new(alloc, left)?, Box::new(alloc, right)?)))
+    let (left, right) = open_both(alloc, levels, next, left, right)?;
+    Ok(Expr::new(ExprNode::Binary(op, left, right)))
 }
 
 #[cycle(opening)]
@@ -231,9 +253,8 @@ fn open_and(
     ensures counted { OnOk result (next.new ≡ next.old + expr_scopes
         (tree.logical_and left.now right.now)) }
 {
-    let left = open_expression(alloc, levels, next, left)?;
-    let right = open_expression(alloc, levels, next, right)?;
-    Ok(Expr::new(ExprNode::And(Box::new(alloc, left)?, Box::new(alloc, right)?)))
+    let (left, right) = open_both(alloc, levels, next, left, right)?;
+    Ok(Expr::new(ExprNode::And(left, right)))
 }
 
 #[cycle(opening)]
@@ -252,9 +273,8 @@ fn open_or(
     ensures counted { OnOk result (next.new ≡ next.old + expr_scopes
         (tree.logical_or left.now right.now)) }
 {
-    let left = open_expression(alloc, levels, next, left)?;
-    let right = open_expression(alloc, levels, next, right)?;
-    Ok(Expr::new(ExprNode::Or(Box::new(alloc, left)?, Box::new(alloc, right)?)))
+    let (left, right) = open_both(alloc, levels, next, left, right)?;
+    Ok(Expr::new(ExprNode::Or(left, right)))
 }
 
 #[cycle(opening)]
@@ -274,9 +294,8 @@ fn open_assign(
     ensures counted { OnOk result (next.new ≡ next.old + expr_scopes
         (tree.assign op left.now right.now)) }
 {
-    let left = open_expression(alloc, levels, next, left)?;
-    let right = open_expression(alloc, levels, next, right)?;
-    Ok(Expr::new(ExprNode::Assign(op, Box::new(alloc, left)?, Box::new(alloc, right)?)))
+    let (left, right) = open_both(alloc, levels, next, left, right)?;
+    Ok(Expr::new(ExprNode::Assign(op, left, right)))
 }
 
 #[cycle(opening)]

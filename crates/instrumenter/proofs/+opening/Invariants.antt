@@ -32,20 +32,23 @@ decreases-expressions::open_unary l = 4 * (expr_size l.operand.now) + 1
 abbrev pub decreases-expressions::open_update : goal.decreases-expressions::open_update
 decreases-expressions::open_update l = 4 * (expr_size l.target.now) + 1
 
+abbrev pub decreases-expressions::open_both : goal.decreases-expressions::open_both
+decreases-expressions::open_both l = 4 * (expr_size l.left.now + expr_size l.right.now) + 1
+
 abbrev pub decreases-expressions::open_index : goal.decreases-expressions::open_index
-decreases-expressions::open_index l = 4 * (expr_size l.left.now + expr_size l.right.now) + 1
+decreases-expressions::open_index l = 4 * (expr_size l.left.now + expr_size l.right.now) + 2
 
 abbrev pub decreases-expressions::open_binary : goal.decreases-expressions::open_binary
-decreases-expressions::open_binary l = 4 * (expr_size l.left.now + expr_size l.right.now) + 1
+decreases-expressions::open_binary l = 4 * (expr_size l.left.now + expr_size l.right.now) + 2
 
 abbrev pub decreases-expressions::open_and : goal.decreases-expressions::open_and
-decreases-expressions::open_and l = 4 * (expr_size l.left.now + expr_size l.right.now) + 1
+decreases-expressions::open_and l = 4 * (expr_size l.left.now + expr_size l.right.now) + 2
 
 abbrev pub decreases-expressions::open_or : goal.decreases-expressions::open_or
-decreases-expressions::open_or l = 4 * (expr_size l.left.now + expr_size l.right.now) + 1
+decreases-expressions::open_or l = 4 * (expr_size l.left.now + expr_size l.right.now) + 2
 
 abbrev pub decreases-expressions::open_assign : goal.decreases-expressions::open_assign
-decreases-expressions::open_assign l = 4 * (expr_size l.left.now + expr_size l.right.now) + 1
+decreases-expressions::open_assign l = 4 * (expr_size l.left.now + expr_size l.right.now) + 2
 
 abbrev pub decreases-expressions::open_conditional : goal.decreases-expressions::open_conditional
 decreases-expressions::open_conditional l = 4 * (expr_size l.test.now + expr_size l.first.now + expr_size l.second.now) + 1
