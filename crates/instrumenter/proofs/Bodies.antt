@@ -1,15 +1,15 @@
 -- Functions and catch clauses, from the parts that are made of them.
-use Rattle.std.proofs.Common.{◌≡◌, ◌∙◌, ℕ, ◌+◌, ◌≤◌, true, List, [], ◌∷◌, ◌++◌, Option, None, Some, ap, refl, sym, arith}
+use Rattle.std.proofs.Common.{◌≡◌, ◌∙◌, ℕ, ◌+◌, ◌≤◌, true, List, ◌++◌, Option, None, ap, refl, sym, arith}
 use Rattle.js_core.specs.Height.{code_height, stmts_height}
 use Rattle.js_core.specs.Tree as tree
 use Rattle.js_core.specs.Tree.{code, func, function, no_stmts, one_catch, stmts_of, then_stmt}
 use Rattle.scope_analysis.specs.Limits.{plain_height_limit}
 use Rattle.scope_analysis.specs.Names.{code_body, code_formals, code_name, own_name}
 use Rattle.instrumenter.specs.Around.{Around, append, clause_object, declaration, in_clause, in_function, next_number, opened_clause, opened_fields, parameter, scope_object, valued_names}
-use Rattle.instrumenter.specs.Counting.{catch_scopes, count_of, expr_scopes, stmt_scopes, stmts_scopes}
+use Rattle.instrumenter.specs.Counting.{count_of, expr_scopes, stmt_scopes, stmts_scopes}
 use Rattle.instrumenter.specs.Fields.{clause_fields, declaration_fields, expression_fields, fields_in, has_fields}
 use Rattle.instrumenter.specs.Opening.{open_catch, open_declarations, open_expr, open_function, open_stmts}
-use Rattle.instrumenter.proofs.Appended.{append_assoc, append_nothing, clause_before, joined, object_before}
+use Rattle.instrumenter.proofs.Appended.{append_assoc, clause_before, joined, object_before}
 use Rattle.instrumenter.proofs.Heights.{function_fits, room}
 
 pub declared_scopes : (c : tree.Code) → stmt_scopes (function c) ≡ count_of (declaration_fields c) + stmts_scopes (code_body c)

@@ -1,6 +1,6 @@
 -- Opened parts of a script of a plain page are low enough for a tree.
-use Rattle.std.proofs.Common.{◌≡◌, ℕ, ◌≤◌, List, Option, arith}
-use Rattle.js_core.specs.Height.{cases_height, code_height, declarators_height, expr_height, exprs_height, fields_height, for_init_height, holes_height, maybe_catch_height, maybe_expr_height, maybe_stmts_height, stmts_height}
+use Rattle.std.proofs.Common.{ℕ, ◌≤◌, arith}
+use Rattle.js_core.specs.Height.{cases_height, declarators_height, expr_height, exprs_height, fields_height, for_init_height, holes_height, maybe_catch_height, maybe_expr_height, maybe_stmts_height, stmts_height}
 use Rattle.js_core.specs.Tree as tree
 use Rattle.scope_analysis.specs.Limits.{plain_height_limit}
 use Rattle.instrumenter.specs.Around.{Around, assignments}

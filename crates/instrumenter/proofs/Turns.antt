@@ -1,5 +1,5 @@
 -- One turn of the loops over statements.
-use Rattle.std.proofs.Common.{◌≡◌, ◌≤◌, ◌<◌, ◌-◌, ◌+◌, ◌^◌, ℕ, Bool, true, false, not, ◌&&◌, List, [], ◌∷◌, ◌++◌, Option, Some, None, Result, Ok, Err, IfOk, OnOk, Global, length, get_or, take, drop, refl, sym, ap, ◌∙◌, arith}
+use Rattle.std.proofs.Common.{◌≡◌, ◌<◌, ◌+◌, ◌^◌, ℕ, Bool, true, not, ◌&&◌, List, [], ◌∷◌, ◌++◌, Option, Some, None, Result, Ok, Err, IfOk, OnOk, Global, length, refl, sym, ap, ◌∙◌, arith}
 use Rattle.std.proofs.Common as lists
 use Rattle.std.proofs.lemmas.List.{append-nil}
 use Rattle.std.specs.declared.rc.Rc.{Rc}

@@ -1,21 +1,21 @@
 -- What is left of the recursion of opening.
-use Rattle.std.proofs.Common.{rules, ◌≡◌, ◌≤◌, ◌+◌, ◌<◌, ◌-◌, ◌∙◌, ℕ, true, List, [], ◌∷◌, ◌++◌, Some, None, length, take, drop, map, refl, sym, ap, arith}
+use Rattle.std.proofs.Common.{◌≡◌, ◌≤◌, ◌+◌, ◌∙◌, None, map, refl, sym, ap, arith}
 use Rattle.std.proofs.lemmas.Grind.{common_steps}
 use Rattle.std.specs.Rc.{rc_value}
-use Rattle.js_core.specs.Height.{expr_height, exprs_height, stmts_height}
+use Rattle.js_core.specs.Height.{exprs_height, stmts_height}
 use Rattle.js_core.specs.Tree as tree
 use Rattle.js_core.specs.Tree.{code, exprs_of, fields_of, holes_of, maybe_expr, no_stmts, stmts_of, then_stmt}
-use Rattle.js_core.specs.Views.{cases_of, declarators_of, init_of, stmt_of}
+use Rattle.js_core.specs.Views.{declarators_of, init_of, stmt_of}
 use Rattle.scope_analysis.proofs.Callers.{next_of}
 use Rattle.scope_analysis.specs.Names.{code_body}
-use Rattle.instrumenter.specs.Around.{append, as_statements, assignments, before_for, before_for_in, callee, clause_object, in_clause, in_function, is_changed, next_number, opened_var, parameter, plain_names, scope_object, single, valued_names, var_where_any, without_this}
-use Rattle.instrumenter.specs.Counting.{count_of, expr_scopes, init_scopes, maybe_expr_scopes, stmts_scopes}
-use Rattle.instrumenter.specs.Fields.{declaration_fields, expression_fields}
-use Rattle.instrumenter.specs.Levels.{around_of, called_field}
-use Rattle.instrumenter.specs.Opening.{open_declarators, open_expr, open_exprs, open_function, open_init, open_maybe, open_stmt, open_stmts, open_declarations}
-use Rattle.instrumenter.proofs.Appended.{append_assoc, append_nothing, any_behind, assigned_list, assigned_opened, called, declarator_list, declarators_opened, expr_list, exprs_opened, field_list, fields_opened, for_behind, for_in_behind, hole_list, holes_opened, number_behind}
+use Rattle.instrumenter.specs.Around.{append, as_statements, assignments, callee, clause_object, in_clause, in_function, next_number, parameter, scope_object, valued_names, without_this}
+use Rattle.instrumenter.specs.Counting.{count_of, stmts_scopes}
+use Rattle.instrumenter.specs.Fields.{declaration_fields}
+use Rattle.instrumenter.specs.Levels.{around_of}
+use Rattle.instrumenter.specs.Opening.{open_declarators, open_expr, open_exprs, open_function, open_stmt, open_stmts, open_declarations}
+use Rattle.instrumenter.proofs.Appended.{append_nothing, assigned_list, assigned_opened, called, declarator_list, declarators_opened, expr_list, exprs_opened, field_list, fields_opened, hole_list, holes_opened, number_behind}
 use Rattle.instrumenter.proofs.Bodies.{clause_opened, declared_opened, func_opened, function_low, function_opened}
-use Rattle.instrumenter.proofs.Low.{assignments_low, declarators_low, expr_low}
+use Rattle.instrumenter.proofs.Low.{assignments_low, declarators_low}
 use Rattle.instrumenter.proofs.Turns.{assignments_turn, cases_rest, cases_turn, changed_opened, declarations_turn, for_in_opened, for_opened, list_end, ok_is, on_any, on_ok, stmts_end, stmts_turn, undeclared}
 use Rattle.instrumenter.proofs.+opening.Goals as goal
 

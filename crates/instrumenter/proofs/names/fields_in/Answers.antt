@@ -1,4 +1,4 @@
-use Rattle.std.proofs.Common.{◌≡◌, ◌∙◌, ◌++◌, [], ap, refl, bytes_eq, arith}
+use Rattle.std.proofs.Common.{◌≡◌, ◌++◌, [], bytes_eq, arith}
 use Rattle.std.proofs.lemmas.Grind.{common_steps}
 use Rattle.indexmap.specs.IndexSet.{contains, insert_all}
 use Rattle.js_core.specs.Tree.{code, stmts_of}

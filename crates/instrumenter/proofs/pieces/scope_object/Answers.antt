@@ -1,4 +1,4 @@
-use Rattle.std.proofs.Common.{◌≡◌, ◌∙◌, ◌≤◌, ap, arith}
+use Rattle.std.proofs.Common.{◌≡◌, ◌∙◌, ap, arith}
 use Rattle.js_core.specs.Tree as tree
 use Rattle.js_core.specs.Tree.{fields_of}
 use Rattle.instrumenter.specs.Around.{literal_fields}

@@ -1,6 +1,5 @@
-use Rattle.std.proofs.Common.{◌≡◌, ◌∙◌, ◌≤◌, ap, sym, arith}
+use Rattle.std.proofs.Common.{◌≡◌, arith}
 use Rattle.std.proofs.lemmas.Grind.{common_steps}
-use Rattle.js_core.specs.Height.{stmts_height}
 use Rattle.js_core.specs.Tree.{stmts_of}
 use Rattle.instrumenter.specs.Opening.{open_script}
 use Rattle.instrumenter.proofs.Heights.{opened_scripts_are_low}

@@ -3,7 +3,7 @@ use Rattle.std.proofs.lemmas.Grind.{common_steps}
 use Rattle.std.specs.Rc.{rc_value}
 use Rattle.js_core.specs.Tree.{no_stmts, stmts_of}
 use Rattle.js_core.specs.Views.{declarators_of}
-use Rattle.instrumenter.specs.Around.{append, plain_names, var_where_any}
+use Rattle.instrumenter.specs.Around.{append, var_where_any}
 use Rattle.instrumenter.specs.Levels.{around_of}
 use Rattle.instrumenter.proofs.Appended.{any_names, append_nothing}
 use Rattle.instrumenter.proofs.Heights.{plain_is_low}
