@@ -1,7 +1,7 @@
 -- What other crates cite of the proofs of this one.
 use Rattle.std.specs.Prelude.{Some}
 use Rattle.object_heap.specs.Function.{with_function}
-use Rattle.std.proofs.Common.{◌≡◌, ℕ, suc, ◌<◌, Bool, false, nat_eq, List, [], ◌++◌, Option, length, slice_index_or, drop, true, ◌∷◌, bytes_eq, ◌^◌}
+use Rattle.std.proofs.Common.{ap, ◌≡◌, ℕ, suc, ◌<◌, Bool, false, nat_eq, List, [], ◌++◌, Option, length, slice_index_or, drop, true, ◌∷◌, bytes_eq, ◌^◌}
 use Rattle.std.specs.Map.{keys_of, lookup as find}
 use Rattle.std.specs.Option.{ForSome, is_some}
 use Rattle.js_core.specs.Tree.{Code}
@@ -23,7 +23,7 @@ use Rattle.object_heap.specs.Object.{is_list, Object}
 use Rattle.object_heap.specs.Property.{own_property, same_value}
 use Rattle.heap_relations.specs.Laws.{EntriesAgree, FunctionsAgree, JoinsAgree, MadeAgree, NewObjectsAgree, OpenedAgree, OthersDoNotCount}
 use Rattle.heap_relations.specs.Related.{AttemptRel, ChangeRel, ClassRel, Each, Entries, EventRel, Maybe, ObjectIds, ObjectRel, PropRel, ValueRel}
-use Rattle.heap_relations.specs.Naming.{Agree, Assigned, Captured, CapturedRel, FoundRel, Frame, Free, Functions, here, In, is_reserved, Larger, Named, named, resolve, Round, Slot, with_object, with_slot, World, env_id, scope_name, is_scope_name, BothRel, Sealed}
+use Rattle.heap_relations.specs.Naming.{Agree, Assigned, Captured, CapturedRel, Constant, FoundRel, Frame, Free, Functions, here, In, is_reserved, Larger, Named, named, resolve, Round, Slot, with_done, with_object, with_slot, World, env_id, scope_name, is_scope_name, BothRel, Sealed}
 use Rattle.heap_relations.specs.Scope.{OwnFunctionsAgree, ScopesAgree, with_own_function, AreFresh, IsFillable}
 use Rattle.heap_relations.proofs.Captured as captured
 use Rattle.heap_relations.proofs.Chains as chains
@@ -68,6 +68,13 @@ larger_function {W = W} a b = worlds.larger_more (objects.one_more {W = W} a b) 
 
 pub larger_slot : {W : World} (s : Slot) → Larger W (with_slot W s)
 larger_slot = entry.slot_more
+
+pub larger_done : {W : World} (k : ℕ) → Larger W (with_done W k)
+larger_done = kept.done_more
+
+-- what is named does not depend on these
+pub agree_same : {V W : World} {h g : Contents} → Larger V W → V.objects ≡ W.objects → V.slots ≡ W.slots → Agree V h g → Agree W h g
+agree_same = kept.with_same
 
 module _ {V W : World} (l : Larger V W) where
   pub named_up : {a b : ℕ} → Named V a b → Named W a b
@@ -199,7 +206,13 @@ module _ {W : World} {h g : Contents} (r : Agree W h g) where
 
   module _ (s : Slot) (x : List ℕ) (i : In s W.slots) (own : is_reserved W.opens x ≡ false) where
     pub name_set : {v w : Value} → s.frame.keeps x ≡ Free → ValueRel (named W) v w → Agree W (set h s.one x v) (set g s.two x w)
-    name_set free q = scopes.set_agrees s x i free own q r
+    name_set free q = scopes.set_agrees s x i (ap scopes.is_set free) own q r
+
+    pub constant_set : {v w : Value} → s.frame.keeps x ≡ Constant → ValueRel (named W) v w → Agree W (set h s.one x v) (set g s.two x w)
+    constant_set constant q = scopes.set_agrees s x i (ap scopes.is_set constant) own q r
+
+    pub constant_read : s.frame.keeps x ≡ Constant → BothRel W h g s x
+    constant_read keeps = kept.constant_both s x i own r keeps
 
     pub captured_set : {v w : Value} → s.frame.keeps x ≡ Captured → ValueRel (named W) v w → Assigned W (set h s.one x v) (put g s.place x w)
     captured_set held q = captured.set_captured_agrees s x i held own q r

@@ -13,6 +13,7 @@ use Rattle.object_heap.specs.Heap.{Contents, IsSound, put, set}
 use Rattle.object_heap.specs.Property.{Props, own_property, with_property}
 use Rattle.object_heap.proofs.Callers.{property_set, property_set_other, sound_put, sound_set, value_set}
 use Rattle.heap_relations.specs.Related.{Links, ObjectsRel, ValueRel}
+use Rattle.heap_relations.specs.Naming as naming
 use Rattle.heap_relations.specs.Naming.{constant, copied, absent, Agree, Assigned, captured, Captured, free, In, is_reserved, Kept, named, NameRel, pair, Slot, SlotRel, SlotsRel, World}
 use Rattle.heap_relations.proofs.Scopes.{change_slot, only_same, only_set, same_or_not, set_other}
 use Rattle.heap_relations.proofs.Worlds.{eq_sym, get_set}
@@ -51,6 +52,7 @@ set_captured_agrees {W = W} {h = h} {g = g} {v = v} {w = w} s x i kept own k r =
     by_case c d held absent = absurd (cc)
     by_case c d held (free m) = absurd (cc)
     by_case c d held (constant m) = absurd (cc)
+    by_case c d held (naming.held m) = absurd (cc)
     by_case c d held (copied q m) = absurd (cc)
     by_case c d held (captured {v = u} {p = p} scoped m may shown fixed) =
         let e = environment_at h.environments s.one in

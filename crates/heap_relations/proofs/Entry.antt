@@ -43,7 +43,7 @@ longer_slots {es = es} {fs = fs} g k left right h = record {
 -- ---- one more slot
 
 pub slot_more : {W : World} (s : Slot) → Larger W (with_slot W s)
-slot_more s = record { opens = refl; objects = λ p h. h; nodes = λ p h. h; opened = refl; fits = refl; before = refl; slots = λ t h. there h; bases = refl }
+slot_more s = record { opens = refl; objects = λ p h. h; nodes = λ p h. h; opened = refl; fits = refl; before = refl; slots = λ t h. there h; done = λ k h. h; bases = refl }
 
 -- a slot whose environments and scope object are younger than all that is named
 pub record IsNew (W : World) (s : Slot) (es fs : List Environment) (ps : List Object) : Type 0 where
@@ -185,8 +185,8 @@ entries W h g i outer names s r last past objects environments right bound round
 
 -- a pair of new environments, without a scope object
 pub new_environments : OpenedAgree
-new_environments W h g outer around names others keeps round known r o related never hidden =
-    let s = free_slot h g keeps round known in
+new_environments W h g outer around names others keeps round known pending born r o related never hidden =
+    let s = free_slot h g keeps round known pending born in
     let n = round_older r.slots o in
     let f = new_environment around others in
     let same = opened_there g around others n.1 in

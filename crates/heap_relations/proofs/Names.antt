@@ -12,7 +12,7 @@ use Rattle.object_heap.specs.Property.{own_property}
 use Rattle.js_values.specs.declared.value.Value.TheVariants as value
 use Rattle.object_heap.proofs.Callers.{lookup_on}
 use Rattle.heap_relations.specs.Related.{Links}
-use Rattle.heap_relations.specs.Naming.{are_below, Base, scope_name, constant, copied, Copy, is_copied, based, Fixed, InScope, is_sealed, is_unused, Itself, Nowhere, Place, Sealed, sealed, SealedRel, unbound, unused, absent, captured, env_id, FoundRel, Frame, free, In, inside, is_captured, is_free, is_reserved, Kept, named, NameRel, nowhere, outermost, resolve, resolved, Round, Slot, SlotRel, SlotsRel, World}
+use Rattle.heap_relations.specs.Naming.{are_below, Base, scope_name, constant, copied, held, Copy, is_copied, based, Fixed, InScope, is_sealed, is_unused, Itself, Nowhere, Place, Sealed, sealed, SealedRel, unbound, unused, absent, captured, env_id, FoundRel, Frame, free, In, inside, is_captured, is_free, is_reserved, Kept, named, NameRel, nowhere, outermost, resolve, resolved, Round, Slot, SlotRel, SlotsRel, World}
 
 -- one of these frames has the scope object of this number
 data Has (n : ℕ) : List Frame → Type 0 where
@@ -90,6 +90,7 @@ module _ {W : World} {es fs : List Environment} {ps : List Object} (r : SlotsRel
   sealed_value e (free v) = absurd (cc)
   sealed_value e (captured b v m n c) = absurd (cc)
   sealed_value e (constant v) = refl
+  sealed_value e (held v) = absurd (cc)
   sealed_value e (copied b v) = absurd (cc)
 
   sealed_of : {k : Kept} {o p : Option (EnvId × Value)} (b : Base) → SealedRel (named W) k o p → IsOf (b.frame ∷ []) (resolved k b.frame.number Itself)
@@ -116,6 +117,7 @@ module _ {W : World} {es fs : List Environment} {ps : List Object} (r : SlotsRel
       near absent up = of_more s.frame s.round (resolve s.round x) up
       near (free v) up = tt
       near (constant v) up = tt
+      near (held v) up = tt
       near (copied scoped v) up = nearest scoped refl (at.numbers scoped).0
       near (captured scoped v may shown fixed) up = nearest scoped refl (at.numbers scoped).0
 
@@ -153,6 +155,7 @@ module _ {W : World} {es fs : List Environment} {ps : List Object} (r : SlotsRel
       near e f absent up = out refl refl refl at.outer up
       near e f (free v) up = is_free s i e v
       near e f (constant v) up = is_sealed v
+      near e f (held v) up = is_sealed v
       near e f (copied scoped v) up =
           let o = at.own x e in
           let t = o.slot in

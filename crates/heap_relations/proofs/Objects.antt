@@ -163,7 +163,7 @@ longer_scopes k h = record {
 }
 
 pub one_more : {W : World} (a b : ℕ) → Larger W (with_object W a b)
-one_more a b = record { opens = refl; objects = λ p h. there h; nodes = λ p h. h; opened = refl; fits = refl; before = refl; slots = λ s h. h; bases = refl }
+one_more a b = record { opens = refl; objects = λ p h. there h; nodes = λ p h. h; opened = refl; fits = refl; before = refl; slots = λ s h. h; done = λ k h. h; bases = refl }
 
 -- objects that the one links name are related by the other
 pub record Within (L M : Links) (os ps : List Object) : Type 0 where

@@ -9,9 +9,9 @@ use Rattle.object_heap.specs.declared.property.Prop.{Prop}
 use Rattle.object_heap.specs.Chain.{object_at}
 use Rattle.object_heap.specs.Heap.{Contents, set}
 use Rattle.object_heap.proofs.Callers.{sound_set, value_set, value_set_other}
-use Rattle.heap_relations.specs.Related.{ValueRel}
+use Rattle.heap_relations.specs.Related.{Links, ValueRel}
 use Rattle.heap_relations.proofs.Bases.{base_kept}
-use Rattle.heap_relations.specs.Naming.{constant, copied, Base, BaseRel, Outward, absent, Agree, captured, Free, free, In, is_reserved, is_scope_name, Kept, named, NameRel, scope_name, Slot, SlotRel, SlotsRel, World}
+use Rattle.heap_relations.specs.Naming.{Constant, constant, copied, held, Base, BaseRel, Outward, absent, Agree, captured, Free, free, In, is_reserved, is_scope_name, Kept, named, NameRel, scope_name, Slot, SlotRel, SlotsRel, World}
 use Rattle.heap_relations.proofs.Worlds.{get_set, reserved_as, slot_scope}
 
 -- ---- one name of an environment takes a value
@@ -86,24 +86,40 @@ module _ {W : World} {es us fs vs : List Environment} {ps qs : List Object} (s :
 
 -- ---- a name that is not captured is assigned
 
--- a free name is bound on both sides
-bound_there : {W : World} {b : Bool} {known : Value} {k : Kept} {x y : Option Value} {p : Option Prop} (names : Bound) (n : List ℕ) (v : Value) → k ≡ Free → NameRel (named W) b known k x y p
+-- a name that may be set is bound on both sides
+abbrev pub is_set : Kept → Bool
+is_set Free = true
+is_set Constant = true
+is_set k = false
+
+set_name : {L : Links} {b : Bool} {known : Value} {v w : Value} {p : Option Prop} (k : Kept) → is_set k ≡ true → ValueRel L v w → NameRel L b known k (Some v) (Some w) p
+set_name Free e r = free r
+set_name Constant e r = held r
+set_name Kept.Absent e r = absurd (cc e)
+set_name Kept.Captured e r = absurd (cc e)
+set_name Kept.Copied e r = absurd (cc e)
+set_name Kept.Sealed e r = absurd (cc e)
+set_name Kept.Unused e r = absurd (cc e)
+
+bound_there : {W : World} {b : Bool} {known : Value} {k : Kept} {x y : Option Value} {p : Option Prop} (names : Bound) (n : List ℕ) (v : Value) → is_set k ≡ true → NameRel (named W) b known k x y p
     → value_of names n ≡ x → value_of (with_value_of names n v) n ≡ Some v
-bound_there names n v e absent q = absurd (cc)
+bound_there names n v e absent q = absurd (cc e)
 bound_there names n v e (free {v = u} w) q = value_set names n u v q
-bound_there names n v e (captured b w m c d) q = absurd (cc)
-bound_there names n v e (constant w) q = absurd (cc)
-bound_there names n v e (copied b w) q = absurd (cc)
+bound_there names n v e (held {v = u} w) q = value_set names n u v q
+bound_there names n v e (captured b w m c d) q = absurd (cc e)
+bound_there names n v e (constant w) q = absurd (cc e)
+bound_there names n v e (copied b w) q = absurd (cc e)
 
-bound_too : {W : World} {b : Bool} {known : Value} {k : Kept} {x y : Option Value} {p : Option Prop} (names : Bound) (n : List ℕ) (v : Value) → k ≡ Free → NameRel (named W) b known k x y p
+bound_too : {W : World} {b : Bool} {known : Value} {k : Kept} {x y : Option Value} {p : Option Prop} (names : Bound) (n : List ℕ) (v : Value) → is_set k ≡ true → NameRel (named W) b known k x y p
     → value_of names n ≡ y → value_of (with_value_of names n v) n ≡ Some v
-bound_too names n v e absent q = absurd (cc)
+bound_too names n v e absent q = absurd (cc e)
 bound_too names n v e (free {w = u} w) q = value_set names n u v q
-bound_too names n v e (captured b w m c d) q = absurd (cc)
-bound_too names n v e (constant w) q = absurd (cc)
-bound_too names n v e (copied b w) q = absurd (cc)
+bound_too names n v e (held {w = u} w) q = value_set names n u v q
+bound_too names n v e (captured b w m c d) q = absurd (cc e)
+bound_too names n v e (constant w) q = absurd (cc e)
+bound_too names n v e (copied b w) q = absurd (cc e)
 
-pub set_agrees : {W : World} {h g : Contents} {v w : Value} (s : Slot) (x : List ℕ) → In s W.slots → s.frame.keeps x ≡ Free → is_reserved W.opens x ≡ false → ValueRel (named W) v w
+pub set_agrees : {W : World} {h g : Contents} {v w : Value} (s : Slot) (x : List ℕ) → In s W.slots → is_set (s.frame.keeps x) ≡ true → is_reserved W.opens x ≡ false → ValueRel (named W) v w
     → Agree W h g → Agree W (set h s.one x v) (set g s.two x w)
 unfolding set
 set_agrees {W = W} {h = h} {g = g} {v = v} {w = w} s x i kept own k r =
@@ -120,7 +136,7 @@ set_agrees {W = W} {h = h} {g = g} {v = v} {w = w} s x i kept own k r =
     let new : SlotRel W s (with_bound e x v) (with_bound f x w) (object_at g.objects s.place) = record {
       outer = a.outer;
       names = λ y b. same_or_not y x
-          (λ m. rw m (rw (kept, bound_there e.names x v kept (a.names x own) refl, bound_too f.names x w kept (a.names x own) refl) (free k)))
+          (λ m. rw m (rw (bound_there e.names x v kept (a.names x own) refl, bound_too f.names x w kept (a.names x own) refl) (set_name (s.frame.keeps x) kept k)))
           (λ m. rw (set_other e.names x y v m, set_other f.names x y w m) (a.names y b));
       scopes = λ o d m. set_other f.names x (scope_name d) w (no_scope_name x d (reserved_as x (sym o) own)) ∙ a.scopes o d m;
       numbers = a.numbers;

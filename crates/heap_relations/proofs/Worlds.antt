@@ -10,7 +10,7 @@ use Rattle.object_heap.specs.Object.{Object}
 use Rattle.object_heap.specs.declared.property.Prop.{Prop}
 use Rattle.heap_relations.specs.Related.{Grows}
 use Rattle.object_heap.specs.Property.{own_property}
-use Rattle.heap_relations.specs.Naming.{copied, constant, Base, BaseRel, based, Outward, sealed, SealedRel, unbound, unused, absent, captured, Frame, free, here, In, inside, is_reserved, Kept, there, Larger, named, NameRel, outermost, Round, Slot, SlotRel, World}
+use Rattle.heap_relations.specs.Naming.{copied, constant, held, Base, BaseRel, based, Outward, sealed, SealedRel, unbound, unused, absent, captured, Frame, free, here, In, inside, is_reserved, Kept, there, Larger, named, NameRel, outermost, Round, Slot, SlotRel, World}
 use Rattle.heap_relations.proofs.Map.{value_up}
 
 pub in_cases : {A : Type 0} {x y : A} {l : List A} → In x (y ∷ l) → (x ≡ y) ⊎ In x l
@@ -40,7 +40,7 @@ pub reserved_as : {a b : Bool} (x : List ℕ) → a ≡ b → is_reserved b x �
 reserved_as x e h = ap (λ c. is_reserved c x) e ∙ h
 
 pub larger_same : {W : World} → Larger W W
-larger_same = record { opens = refl; objects = λ p h. h; nodes = λ p h. h; opened = refl; fits = refl; before = refl; slots = λ p h. h; bases = refl }
+larger_same = record { opens = refl; objects = λ p h. h; nodes = λ p h. h; opened = refl; fits = refl; before = refl; slots = λ p h. h; done = λ k h. h; bases = refl }
 
 pub larger_more : {U V W : World} → Larger U V → Larger V W → Larger U W
 larger_more e f = record {
@@ -51,6 +51,7 @@ larger_more e f = record {
   fits = e.fits ∙ f.fits;
   before = e.before ∙ f.before;
   slots = λ s h. f.slots s (e.slots s h);
+  done = λ k h. f.done k (e.done k h);
   bases = e.bases ∙ f.bases;
 }
 
@@ -79,6 +80,7 @@ module _ {V W : World} (l : Larger V W) where
   name_up (free v) = free (value_up grows _ _ v)
   name_up (captured s v a b c) = captured s (value_up grows _ _ v) a b c
   name_up (constant v) = constant (value_up grows _ _ v)
+  name_up (held v) = held (value_up grows _ _ v)
   name_up (copied s v) = copied s (value_up grows _ _ v)
 
   pub slot_up : {s : Slot} {e f : Environment} {o : Object} → SlotRel V s e f o → SlotRel W s e f o
@@ -118,4 +120,5 @@ slot_scope {W = W} {s = s} {e = e} {f = f} {o = o} {p = p} same h = record {
         by_case _ e (free v) = free v
         by_case _ e (captured b v m n c) = rw (same b, e) (captured b v m n c)
         by_case _ e (constant v) = constant v
+        by_case _ e (held v) = held v
         by_case _ e (copied b v) = rw (same b, e) (copied b v)

@@ -16,7 +16,7 @@ use Rattle.object_heap.specs.Heap.{Contents, IsFit, IsSound, add_property, close
 use Rattle.object_heap.specs.Object.{is_list, no_object, Object, target_of}
 use Rattle.object_heap.specs.Property.{own_property, same_value}
 use Rattle.heap_relations.specs.Related.{ObjectsRel, through, turned, AttemptRel, ChangeRel, ClassRel, EventRel, Maybe, ObjectIds, ObjectRel, PropRel, ValueRel}
-use Rattle.heap_relations.specs.Naming.{Agree, Assigned, Captured, CapturedRel, Copied, FoundRel, Frame, Free, In, is_reserved, Kept, Larger, Named, named, NameRel, Reaches, resolve, Round, scope_name, Slot, SlotRel, with_object, with_slot, World}
+use Rattle.heap_relations.specs.Naming.{Agree, Assigned, Captured, CapturedRel, Constant, Copied, FoundRel, Frame, Free, In, is_reserved, Kept, Larger, Named, named, NameRel, Reaches, resolve, Round, scope_name, Slot, SlotRel, with_object, with_slot, World}
 
 -- what is read of two objects that are named
 pub record ReadsAgree (W : World) (h g : Contents) (k l : ℕ) : Type 0 where
@@ -73,6 +73,7 @@ pub record NamesAgree (W : World) (h g : Contents) (s : Slot) (x : List ℕ) : T
   pub found : FoundRel W g.objects (lookup g.environments s.two) x (resolve (s.frame ∷ s.round) x) (lookup h.environments s.one x) (lookup g.environments s.two x)
   pub read : s.frame.keeps x ≡ Captured → CapturedRel W h g s x
   pub assign : s.frame.keeps x ≡ Free → (v w : Value) → ValueRel (named W) v w → Agree W (set h s.one x v) (set g s.two x w)
+  pub set_constant : s.frame.keeps x ≡ Constant → (v w : Value) → ValueRel (named W) v w → Agree W (set h s.one x v) (set g s.two x w)
   pub assign_captured : s.frame.keeps x ≡ Captured → (v w : Value) → ValueRel (named W) v w → Assigned W (set h s.one x v) (put g s.place x w)
 
 abbrev pub EnvironmentsAgree : Type 0
@@ -90,18 +91,18 @@ EntriesAgree =
     → Agree (with_slot W s) (opened h outer names) i
 
 -- the slot of the next environments, where there is no scope object
-abbrev pub free_slot : Contents → Contents → (List ℕ → Kept) → List Frame → (List ℕ → Value) → Slot
-free_slot h g keeps round known = record { one = length h.environments; two = length g.environments; frame = record { keeps = keeps; scoped = false; number = 0 }; round = round; place = 0; known = known }
+abbrev pub free_slot : Contents → Contents → (List ℕ → Kept) → List Frame → (List ℕ → Value) → Option (List ℕ) → ℕ → Slot
+free_slot h g keeps round known pending born = record { one = length h.environments; two = length g.environments; frame = record { keeps = keeps; scoped = false; number = 0 }; round = round; place = 0; known = known; pending = pending; born = born }
 
 -- two environments are opened, and on the right no variable is in a scope object
 abbrev pub OpenedAgree : Type 0
 OpenedAgree =
     (W : World) (h g : Contents) (outer around : Option EnvId) (names others : Bound) (keeps : List ℕ → Kept) (round : List Frame) (known : List ℕ → Value)
-    → Agree W h g → Round W round outer around
+    (pending : Option (List ℕ)) (born : ℕ) → Agree W h g → Round W round outer around
     → ((x : List ℕ) → is_reserved W.opens x ≡ false → (p : Option Prop) → NameRel (named W) false (known x) (keeps x) (value_of names x) (value_of others x) p)
     → ((x : List ℕ) → keeps x ≡ Copied → ⊥)
     → (W.opens ≡ true → (k : ℕ) → k < 2 ^ 64 → value_of others (scope_name k) ≡ None)
-    → Agree (with_slot W (free_slot h g keeps round known)) (opened h outer names) (opened g around others)
+    → Agree (with_slot W (free_slot h g keeps round known pending born)) (opened h outer names) (opened g around others)
 
 -- what is related stays so for a larger naming
 abbrev pub RelatedStay : Type 0

@@ -31,13 +31,15 @@ pair a b = record { one = a; two = b }
 
 -- how the right keeps a name that a piece of code may declare: it does not declare it, it has it too, or a scope object has
 -- it. A name that is never assigned, as a function expression's own one, is sealed, and a scope object may have a copy of it; so
--- are the names round a function that was rebuilt. Or the code has no such name.
+-- are the names round a function that was rebuilt. A constant name is at most assigned by the first statement of its scope, once.
+-- Or the code has no such name.
 pub data Kept : Type 0 where
   Absent : Kept
   Free : Kept
   Captured : Kept
   Copied : Kept
   Sealed : Kept
+  Constant : Kept
   Unused : Kept
 
 -- a function or a catch clause: how the right keeps each name, whether there is a scope object, and its number
@@ -52,7 +54,8 @@ are_below n [] = true
 are_below n (f ∷ fs) = (not f.scoped || nat_lt f.number n) && are_below n fs
 
 -- an environment on the left and its counterpart; of what code they are, and what code is round it; the place of the scope
--- object, if there is one; and the values of sealed and copied names on the left
+-- object, if there is one; and the values of sealed, copied and constant names on the left, those of constant names from when they are set.
+-- pending: the one that the first statement of the scope has to set; born: the objects that constant names hold are below this place.
 pub record Slot : Type 0 where
   pub one : ℕ
   pub two : ℕ
@@ -60,6 +63,8 @@ pub record Slot : Type 0 where
   pub round : List Frame
   pub place : ℕ
   pub known : List ℕ → Value
+  pub pending : Option (List ℕ)
+  pub born : ℕ
 
 -- the environments round a function that was rebuilt, which may be fewer on the right
 pub record Base : Type 0 where
@@ -73,7 +78,8 @@ pub record Before : Type 0 where
   pub two : List Line
 
 -- opens: whether the right has scope objects, so that no name of the page begins like theirs; opened: what a function's code is on the
--- right, in these frames, where the scopes inside are numbered from here on; fits: whether code may stand in them
+-- right, in these frames, where the scopes inside are numbered from here on; fits: whether code may stand in them; done: the environments on
+-- the left whose first statement has set its constant name
 pub record World : Type 0 where
   pub opens : Bool
   pub opened : ℕ → List Frame → Code → Code
@@ -82,6 +88,7 @@ pub record World : Type 0 where
   pub objects : List Pair
   pub nodes : List Pair
   pub slots : List Slot
+  pub done : List ℕ
   pub bases : List Base
 
 pub record Named (W : World) (a b : ℕ) : Type 0 where
@@ -119,14 +126,19 @@ pub record Larger (V W : World) : Type 0 where
   pub fits : V.fits ≡ W.fits
   pub before : V.before ≡ W.before
   pub slots : (s : Slot) → In s V.slots → In s W.slots
+  pub done : (k : ℕ) → In k V.done → In k W.done
   -- none joins
   pub bases : V.bases ≡ W.bases
 
 abbrev pub with_object : World → ℕ → ℕ → World
-with_object W a b = record { opens = W.opens; opened = W.opened; fits = W.fits; before = W.before; objects = pair a b ∷ W.objects; nodes = W.nodes; slots = W.slots; bases = W.bases }
+with_object W a b = record { opens = W.opens; opened = W.opened; fits = W.fits; before = W.before; objects = pair a b ∷ W.objects; nodes = W.nodes; slots = W.slots; done = W.done; bases = W.bases }
 
 abbrev pub with_slot : World → Slot → World
-with_slot W s = record { opens = W.opens; opened = W.opened; fits = W.fits; before = W.before; objects = W.objects; nodes = W.nodes; slots = s ∷ W.slots; bases = W.bases }
+with_slot W s = record { opens = W.opens; opened = W.opened; fits = W.fits; before = W.before; objects = W.objects; nodes = W.nodes; slots = s ∷ W.slots; done = W.done; bases = W.bases }
+
+-- the first statement of the scope of an environment has set its constant name
+abbrev pub with_done : World → ℕ → World
+with_done W k = record { opens = W.opens; opened = W.opened; fits = W.fits; before = W.before; objects = W.objects; nodes = W.nodes; slots = W.slots; done = k ∷ W.done; bases = W.bases }
 
 -- ---- names
 
@@ -158,6 +170,7 @@ resolved Free k outer = Itself
 resolved Captured k outer = InScope k
 resolved Copied k outer = Copy k
 resolved Sealed k outer = Fixed
+resolved Constant k outer = Fixed
 resolved Unused k outer = Nowhere
 
 -- for code in these frames
@@ -174,6 +187,7 @@ pub data NameRel (L : Links) (scoped : Bool) (known : Value) : Kept → Option V
   captured : {v : Value} {any : Option Value} {p : Prop} → scoped ≡ true → ValueRel L v p.value → p.writable ≡ true → p.enumerable ≡ true → p.configurable ≡ true
       → NameRel L scoped known Captured (Some v) any (Some p)
   constant : {w : Value} {p : Option Prop} → ValueRel L known w → NameRel L scoped known Sealed (Some known) (Some w) p
+  held : {v w : Value} {p : Option Prop} → ValueRel L v w → NameRel L scoped known Constant (Some v) (Some w) p
   copied : {any : Option Value} {p : Prop} → scoped ≡ true → ValueRel L known p.value → NameRel L scoped known Copied None any (Some p)
 
 -- the environment round it has the name, sealed

@@ -50,7 +50,7 @@ pub data EntryRel (L : Links) (known : Value) : Kept → Option Value → Option
 
 -- the slot of the two environments
 abbrev pub scoped_slot : Contents → Contents → (List ℕ → Kept) → ℕ → List Frame → (List ℕ → Value) → Slot
-scoped_slot h g keeps number round known = record { one = length h.environments; two = length g.environments; frame = record { keeps = keeps; scoped = true; number = number }; round = round; place = length g.objects; known = known }
+scoped_slot h g keeps number round known = record { one = length h.environments; two = length g.environments; frame = record { keeps = keeps; scoped = true; number = number }; round = round; place = length g.objects; known = known; pending = None; born = length h.objects }
 
 -- a function or a catch clause is entered on both sides, on the right with a scope object, whose variable has another value until
 -- then: undefined, or what was caught
@@ -72,7 +72,7 @@ own_frame x = record { keeps = λ y. if bytes_eq y x then Sealed else Absent; sc
 -- the slot of these environments of the next functions
 abbrev pub own_slot : Contents → Contents → List ℕ → List Frame → Slot
 own_slot h g x round =
-    record { one = length h.environments; two = length g.environments; frame = own_frame x; round = round; place = 0; known = λ y. value.Object (record { 0 = length h.objects }) }
+    record { one = length h.environments; two = length g.environments; frame = own_frame x; round = round; place = 0; known = λ y. value.Object (record { 0 = length h.objects }); pending = None; born = length h.objects }
 
 -- the next function, in an environment that binds its name
 abbrev pub with_own_function : Contents → Option EnvId → List ℕ → Code → Option ObjId → ℕ → Option ObjId → Contents

@@ -1,5 +1,5 @@
 -- What other crates cite of the shapes of objects.
-use Rattle.std.specs.Prelude.{◌≡◌, ℕ, true, List, ◌++◌}
+use Rattle.std.specs.Prelude.{◌≡◌, ℕ, ◌≤◌, true, List, ◌++◌}
 use Rattle.js_values.specs.declared.line.Line.{Line}
 use Rattle.page_meaning.specs.Store.{Store}
 use Rattle.object_shapes.specs.Links.{all_below}
@@ -27,3 +27,9 @@ lines_shaped = bound.lines_shaped
 -- two lists of places below a bound
 pub below_join : (n : ℕ) (xs ys : List ℕ) → all_below n xs ≡ true → all_below n ys ≡ true → all_below n (xs ++ ys) ≡ true
 below_join = lists.all_join
+
+pub below_parts : (n : ℕ) (xs ys : List ℕ) → all_below n (xs ++ ys) ≡ true → (all_below n xs ≡ true) × (all_below n ys ≡ true)
+below_parts n xs ys h = (lists.all_front n xs ys h, lists.all_back n xs ys h)
+
+pub below_more : (m n : ℕ) (ks : List ℕ) → m ≤ n → all_below m ks ≡ true → all_below n ks ≡ true
+below_more = lists.all_more
