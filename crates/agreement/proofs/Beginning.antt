@@ -1,6 +1,6 @@
 -- A page before its scripts agrees with itself: each built-in object names itself, and refers only to built-in ones (section 15).
-use Rattle.std.proofs.Common.{◌≡◌, refl, sym, subst, ℕ, zero, suc, ◌<◌, Bool, true, false, ◌&&◌, nat_eq, nat_lt, List, [], ◌∷◌, Option, Some, None, length, arith}
-use Rattle.agreement.specs.Opened.{HasTrees, function_stands, opened_code}
+use Rattle.std.proofs.Common.{◌≡◌, ap, ◌∙◌, refl, sym, subst, ℕ, zero, suc, ◌<◌, Bool, true, false, ◌&&◌, nat_eq, nat_lt, List, [], ◌∷◌, Option, Some, None, length, arith}
+use Rattle.agreement.specs.Opened.{Demand, HasTrees, function_stands, opened_code, opening}
 use Rattle.std.proofs.lemmas.Bool.{and_parts, ltb-true}
 use Rattle.std.proofs.lemmas.Bool.Decides.{nat_tests}
 use Rattle.js_core.specs.Tree as tree
@@ -20,8 +20,10 @@ use Rattle.heap_relations.specs.Naming.{here, In, named, Pair, pair, SlotsRel, t
 use Rattle.heap_relations.specs.Related.{array, ClassRel, Entries, entry, fault, math, Maybe, native, no_entries, none, null, num, object, ObjectIds, ObjectRel, ObjectsRel, plain, PropRel, some, text, truth, undefined, ValueRel, window}
 use Rattle.object_shapes.proofs.Callers.{pristine_shaped}
 use Rattle.object_shapes.specs.Links.{built_in_count}
-use Rattle.agreement.specs.Acts.{HasBuiltIns, StoreRel}
+use Rattle.agreement.specs.Acts.{HasBuiltIns, IsPlaced, StoreRel}
 use Rattle.agreement.specs.Trees.{code_fits, HasEqualTrees}
+use Rattle.agreement.proofs.Entries.{never_opens}
+use Rattle.agreement.proofs.Unopened.{code_same}
 
 -- ---- the naming
 
@@ -40,22 +42,37 @@ pristine_of opens opened fits = record {
   objects = same_below built_in_count;
   nodes = [];
   slots = [];
+  done = [];
   bases = [];
 }
 
--- with equal trees, whose functions pass this test
-abbrev pub pristine_world : (tree.Code → Bool) → World
-pristine_world asks = pristine_of false (λ n fs c. c) (λ n. code_fits asks)
+-- with equal trees
+abbrev pub pristine_world : World
+pristine_world = pristine_of false (λ n fs c. c) (λ n. code_fits)
 
-abbrev pub pristine_trees : (asks : tree.Code → Bool) → HasEqualTrees (pristine_world asks)
-pristine_trees asks = record { asks = asks; opens = refl; opened = λ n fs c. refl; fits = λ n fs c. refl }
+abbrev pub pristine_trees : HasEqualTrees pristine_world
+pristine_trees = record { opens = refl; opened = λ n fs c. refl; fits = λ n fs c. refl }
 
 -- with opened trees
-abbrev pub opened_world : (tree.Code → Bool) → World
-opened_world asks = pristine_of true (opened_code true) (function_stands (record { opens = true; asks = asks }))
+abbrev pub opened_world : World
+opened_world = pristine_of true (opened_code true) (function_stands opening)
 
-abbrev pub opened_trees : (asks : tree.Code → Bool) → HasTrees (opened_world asks)
-opened_trees asks = record { demand = record { opens = true; asks = asks }; opens = refl; opened = λ n fs c. refl; fits = λ n fs c. refl; bases = λ e. refl }
+abbrev pub opened_trees : HasTrees opened_world
+opened_trees = record { demand = opening; opens = refl; opened = λ n fs c. refl; fits = λ n fs c. refl; bases = λ e. refl; opening = λ e. refl }
+
+-- with equal trees, of which more may be asked
+abbrev pub asking_world : Demand → World
+asking_world d = pristine_of false (λ n fs c. c) (function_stands d)
+
+abbrev pub asking_trees : (d : Demand) → d.opens ≡ false → HasTrees (asking_world d)
+asking_trees d closed = record {
+  demand = d;
+  opens = sym closed;
+  opened = λ n fs c. code_same n fs c ∙ ap (λ o. opened_code o n fs c) (sym closed);
+  fits = λ n fs c. refl;
+  bases = λ e. never_opens closed e;
+  opening = λ e. never_opens closed e;
+}
 
 -- what is named below a place
 record IsSame (n a b : ℕ) : Type 0 where
@@ -172,6 +189,14 @@ pristine_there k h = subst (λ n. k < n) (sym all_there) h
 no_one : {A : Type 0} {x : A} → In x [] → ⊥
 no_one i = elim i [ ]
 
+-- none is a function of the page
+placed_kept : (W : World) (k : ℕ) (c : Class) → is_kept_class c ≡ true → IsPlaced W k c
+placed_kept W k (class.Page c env) e = absurd (cc e)
+placed_kept W k c e = tt
+
+kept_class : (k : ℕ) → is_kept_class (object_at pristine.heap.objects k).class ≡ true
+kept_class k = (and_parts (is_kept_class (object_at pristine.heap.objects k).class) _ (kept_at pristine.heap.objects k all_kept)).0
+
 module _ (opens : Bool) (opened : ℕ → List Frame → tree.Code → tree.Code) (fits : ℕ → List Frame → tree.Code → Bool) where
   both_at : (a b : ℕ) → a ≡ b → ObjectRel (named (pristine_of opens opened fits)) (object_at pristine.heap.objects a) (object_at pristine.heap.objects b)
   both_at a b e =
@@ -207,4 +232,5 @@ module _ (opens : Bool) (opened : ℕ → List Frame → tree.Code → tree.Code
     lines = record { more = []; one = refl; two = refl };
     built_ins = pristine_named opens opened fits;
     shaped = pristine_shaped;
+    kept = record { scopes = λ z i. absurd (no_one i); functions = λ k l n. placed_kept (pristine_of opens opened fits) k (object_at pristine.heap.objects k).class (kept_class k); done = λ j i. absurd (no_one i) };
   }

@@ -17,7 +17,6 @@ use Rattle.heap_relations.specs.Naming as naming
 use Rattle.heap_relations.specs.Naming.{Agree, Base, FoundRel, Frame, In, Kept, NameRel, Named, Nowhere, Place, Round, Slot, World, absent, based, captured, constant, copied, free, inside, is_captured, is_copied, is_free, is_reserved, is_sealed, is_unused, named, nowhere as unbound, outermost, resolve}
 use Rattle.heap_relations.specs.Related.{ClassRel, ValueRel, array, bound, event, fault, math, native, node, page, plain, window}
 use Rattle.agreement.specs.Acts.{StoreRel}
-use Rattle.agreement.specs.Trees.{HasEqualTrees}
 use Rattle.agreement.proofs.Reading.{each_with_itself, value_links_rel}
 
 -- ---- frames
@@ -46,6 +45,7 @@ module _ {W : World} {h g : Contents} (r : Agree W h g) (none_rebuilt : W.bases 
       by (free v) later e = absurd (cc e)
       by (captured scoped v may shown fixed) later e = absurd (cc e)
       by (constant v) later e = absurd (cc e)
+      by (naming.held v) later e = absurd (cc e)
       by (copied scoped v) later e = absurd (cc e)
 
   -- ---- values
@@ -90,12 +90,12 @@ standing (node n) is same = absurd (cc is)
 standing (event p) is same = absurd (cc is)
 
 -- what a name stands for round a function that names itself names itself
-pub bound_read : {W : World} {s : Store} {k : ℕ} {c : tree.Code} {env : Option EnvId} → StoreRel W s s → HasEqualTrees W → W.bases ≡ [] → Named W k k
+pub bound_read : {W : World} {s : Store} {k : ℕ} {c : tree.Code} {env : Option EnvId} → StoreRel W s s → W.opens ≡ false → W.bases ≡ [] → Named W k k
     → (object_at s.heap.objects k).class ≡ class.Page c env → (x : List ℕ) (found : EnvId × Value) → look_in s.heap.environments env x ≡ Some found
     → (j : ℕ) → In j (value_links found.1) → Named W j j
-bound_read {W = W} {s = s} g trees none_rebuilt n is x found at j i =
+bound_read {W = W} {s = s} g closed none_rebuilt n is x found at j i =
     let h = standing (heap.class_read g.heap n) is is in
-    let own : is_reserved W.opens x ≡ false = ap (λ o. is_reserved o x) trees.opens in
-    let never = never_nowhere g.heap none_rebuilt trees.opens h.frames h.frames x refl h.round in
-    let value = found_value g.heap none_rebuilt trees.opens found (heap.name_found g.heap x h.round own) never at at in
+    let own : is_reserved W.opens x ≡ false = ap (λ o. is_reserved o x) closed in
+    let never = never_nowhere g.heap none_rebuilt closed h.frames h.frames x refl h.round in
+    let value = found_value g.heap none_rebuilt closed found (heap.name_found g.heap x h.round own) never at at in
     each_with_itself (value_links found.1) j (value_links_rel value) i

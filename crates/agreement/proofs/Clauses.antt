@@ -22,12 +22,13 @@ use Rattle.heap_relations.specs.Scope as scope
 use Rattle.heap_relations.specs.Scope.{EntryRel}
 use Rattle.agreement.proofs.Acts.{bind_rel}
 use Rattle.agreement.proofs.Closures.{among_same, scope_field}
-use Rattle.agreement.proofs.Entries.{enters_round, one_name_same, opened_rel}
+use Rattle.agreement.proofs.Entries.{enters_ready, enters_round, one_name_same, opened_rel}
 use Rattle.agreement.proofs.Functions.{plain_one}
 use Rattle.agreement.proofs.Heap.{value_up}
 use Rattle.agreement.proofs.Linked.{names_below}
 use Rattle.agreement.proofs.Scoped.{by_assignment, enter_scoped, field, new_name_run, no_more_fields}
-use Rattle.agreement.specs.Acts.{Agrees}
+use Rattle.agreement.proofs.Unset.{unset_clause}
+use Rattle.agreement.specs.Acts.{Agrees, IsReady}
 use Rattle.agreement.specs.Opened.{HereRel, are_plain, clause_frame, clause_may_open, is_numbered, kept_in, opened_at}
 
 -- the parameter is the one field that there may be
@@ -49,43 +50,43 @@ opens_with (one o) e = o
 
 -- what names stand for in the block
 pub clause_around : {V : World} (around : Around) (n : ℕ) (fs : List Frame) (a b : Here) (x : List ℕ) (ss : tree.Stmts) → (h : HereRel V around fs a b)
-    → (in_clause around n (opened_fields h.trees.demand.opens (clause_fields x ss)) x).fields ≡ (λ y. opened_at h.trees.demand.opens (resolve (clause_frame (opened_fields h.trees.demand.opens (clause_fields x ss)) n x ∷ fs) y))
+    → (in_clause around n (opened_fields h.trees.demand.opens (clause_fields x ss)) x).fields ≡ (λ y. opened_at h.trees.demand.opens (resolve (clause_frame h.trees.demand (opened_fields h.trees.demand.opens (clause_fields x ss)) n x ss ∷ fs) y))
 clause_around around n fs a b x ss h =
     let opens = h.trees.demand.opens in
     let F = opened_fields opens (clause_fields x ss) in
     ap (λ f. field_inside F (x ∷ []) n f) h.fields
-    ∙ (λ i y. scope_field opens F (x ∷ []) n (λ z. is_among z (x ∷ [])) fs y (opens_with (clause_shape opens x ss)) (λ e. e) (λ e f. absurd (cc (sym e ∙ f))) i)
+    ∙ (λ i y. scope_field opens F (x ∷ []) n (λ z. is_among z (x ∷ [])) (λ z. h.trees.demand.boxes x ss) fs y (opens_with (clause_shape opens x ss)) (λ e. e) (λ e f. absurd (cc (sym e ∙ f))) i)
 
-not_copied : (b : Bool) → kept_in b b ≡ Copied → ⊥
+not_copied : (b : Bool) → kept_in b b false ≡ Copied → ⊥
 not_copied true e = cc e
 not_copied false e = cc e
 
 -- the parameter, and any other name
 clause_names : {V : World} {v w : Value} (x y : List ℕ) (n : ℕ) → ValueRel (named V) v w → is_scope_name y ≡ false
-    → EntryRel (named V) Undefined (kept_in (is_among y (x ∷ [])) (is_among y (x ∷ []))) (value_of ((x, v) ∷ []) y) (value_of ((scope_name n, w) ∷ []) y) (value_of ((x, w) ∷ []) y)
+    → EntryRel (named V) Undefined (kept_in (is_among y (x ∷ [])) (is_among y (x ∷ [])) false) (value_of ((x, v) ∷ []) y) (value_of ((scope_name n, w) ∷ []) y) (value_of ((x, w) ∷ []) y)
 clause_names {V = V} {v = v} {w = w} x y n r own = by_case (bytes_eq y x)
   where
     other : cond (bytes_eq y (scope_name n)) (Some w) None ≡ None
     other = ap (λ b. cond b (Some w) None) (heap.not_scope_name y n own)
 
-    by_case : (b : Bool) → EntryRel (named V) Undefined (kept_in (b || false) (b || false)) (cond b (Some v) None) (cond (bytes_eq y (scope_name n)) (Some w) None) (cond b (Some w) None)
+    by_case : (b : Bool) → EntryRel (named V) Undefined (kept_in (b || false) (b || false) false) (cond b (Some v) None) (cond (bytes_eq y (scope_name n)) (Some w) None) (cond b (Some w) None)
     by_case true = scope.captured r
     by_case false = rw other scope.absent
 
 pub clause_rel : {V : World} {v w : Value} (c d : Calls) (n : ℕ) (fs : List Frame) (a b : Here) (x : List ℕ) (opens : Bool) (ss us : tree.Stmts) (F : List (List ℕ)) → ClauseFields opens x F
-    → V.opens ≡ opens → Round V fs a.env b.env → ValueRel (named V) a.this b.this → clause_may_open opens n fs F x ≡ true → ValueRel (named V) v w
-    → ((W : World) → Larger V W → (g i : Here) → Round W (clause_frame F n x ∷ fs) g.env i.env → ValueRel (named W) g.this i.this → Agrees W (exec_all c g ss) (exec_all d i us))
+    → V.opens ≡ opens → Round V fs a.env b.env → IsReady V a.env → ValueRel (named V) a.this b.this → clause_may_open opens n fs F x ≡ true → ValueRel (named V) v w
+    → ((W : World) → Larger V W → (g i : Here) → Round W (unset_clause F n x ∷ fs) g.env i.env → IsReady W g.env → ValueRel (named W) g.this i.this → Agrees W (exec_all c g ss) (exec_all d i us))
     → Agrees V (bind (make_environment a.env ((x, v) ∷ [])) (λ e. exec_all c (in_scope a e) ss)) (exec_catch d b (opened_clause n F x us) (signal.Thrown w))
-clause_rel {V = V} {w = w} c d n fs a b x opens ss us _ none same o this may r go =
-    bind_rel (opened_rel (λ y. is_among y (x ∷ [])) fs a.env b.env ((x, _) ∷ []) ((x, w) ∷ []) (λ e k small. hidden opens (sym same ∙ e) may k) o (entry r no_entries) (one_name_same x _)) (λ W l p q m.
-    go W l (in_scope a p) (in_scope b q) (enters_round m) (value_up l this))
+clause_rel {V = V} {w = w} c d n fs a b x opens ss us _ none same o ready this may r go =
+    bind_rel (opened_rel (λ y. is_among y (x ∷ [])) (λ y. false) fs a.env b.env ((x, _) ∷ []) ((x, w) ∷ []) (λ e k small. hidden opens (sym same ∙ e) may k) o ready (entry r no_entries) (one_name_same x _)) (λ W l p q m.
+    go W l (in_scope a p) (in_scope b q) (enters_round m) (enters_ready m) (value_up l this))
   where
     hidden : (opens : Bool) → opens ≡ true → clause_may_open opens n fs [] x ≡ true → (k : ℕ) → value_of ((x, w) ∷ []) (scope_name k) ≡ None
     hidden true e m k = ap (λ t. cond t (Some w) None) (heap.no_scope_name x k (plain_one x m))
     hidden false e m k = absurd (cc e)
-clause_rel {V = V} {v = v} {w = w} c d n fs a b x opens ss us _ (one opened_there) same o this may r go =
+clause_rel {V = V} {v = v} {w = w} c d n fs a b x opens ss us _ (one opened_there) same o ready this may r go =
     enter_scoped d b.this x [] n (λ y. is_among y (x ∷ [])) fs a.env b.env ((x, v) ∷ []) ((scope_name n, w) ∷ []) w (then_field x (name (scope_name n)) no_fields) _ (λ p. exec_all c (in_scope a p) ss) (λ q. exec_all d (in_scope b q) us) _
-    (same ∙ opened_there) by_assignment o (parts opens opened_there may).0
+    (same ∙ opened_there) by_assignment o ready (parts opens opened_there may).0
     (λ k small. ap (λ t. cond t (Some w) None) (heap.scope_name_eq k n small (few (parts opens opened_there may).0)) ∙ as_if (nat_eq k n))
     (λ W l s t g. names_below g (entry {name = x} (value_up l r) no_entries))
     (λ W l s t g. record {
@@ -96,7 +97,7 @@ clause_rel {V = V} {v = v} {w = w} c d n fs a b x opens ss us _ (one opened_ther
       same = λ y own. clause_names x y n (value_up l r) own;
       own = λ y e. absurd (not_copied (is_among y (x ∷ [])) e);
     })
-    (λ W l p q m. go W l (in_scope a p) (in_scope b q) (enters_round m) (value_up l this))
+    (λ W l p q m. go W l (in_scope a p) (in_scope b q) (enters_round m) (enters_ready m) (value_up l this))
     (λ t u m e. ap (λ z. then_on z (on_value (λ y. exec_all d (in_scope b (env_id (length t.heap.environments))) us))) e)
   where
     parts : (opens : Bool) → opens ≡ true → clause_may_open opens n fs (x ∷ []) x ≡ true → (is_numbered n (x ∷ []) fs ≡ true) × (are_plain true (x ∷ []) ≡ true)

@@ -33,7 +33,7 @@ descriptor_rel there r = whole_rel object_prototype object_place there plain
     (entry (open_rel r.value) (entry (open_rel (truth_same r.writable)) (entry (open_rel (truth_same r.enumerable)) (entry (open_rel (truth_same r.configurable)) no_entries))))
 
 pub new_descriptor_rel : {V : World} {p q : Prop} → PropRel (named V) p q → Agrees V (new_descriptor p) (new_descriptor q)
-new_descriptor_rel {p = p} {q = q} r = made_rel (on_built_ins (λ U i there. make_rel (descriptor_object p) (descriptor_object q) (descriptor_fit p) (descriptor_fit q) (descriptor_rel there (prop_up i r)) refl (λ W l s t g. tt)))
+new_descriptor_rel {p = p} {q = q} r = made_rel (on_built_ins (λ U i there. make_rel (descriptor_object p) (descriptor_object q) (descriptor_fit p) (descriptor_fit q) (descriptor_rel there (prop_up i r)) refl refl (λ W l s t g. tt)))
 
 -- ---- what a descriptor asks for
 

@@ -1,5 +1,5 @@
 -- What an end leaves: the lines of exceptions, and of want of steps (the host's own rules on lines).
-use Rattle.std.proofs.Common.{◌≡◌, refl, ap, ◌∙◌, List, ◌++◌, codes, ℕ}
+use Rattle.std.proofs.Common.{inl, ◌≡◌, refl, ap, ◌∙◌, List, ◌++◌, codes, ℕ, arith}
 use Rattle.js_values.specs.declared.line.LineKind.{LineKind}
 use Rattle.js_values.specs.declared.line.LineKind.TheVariants.{Uncaught, Stopped as StoppedLine}
 use Rattle.js_values.specs.declared.value.Value.{Value}
@@ -15,6 +15,7 @@ use Rattle.heap_relations.specs.Naming.{Larger, named, World}
 use Rattle.heap_relations.specs.Related.{ClassRel, ValueRel, array, bound, event, fault, math, native, node, null, num, object, page, plain, text, truth, undefined, window}
 use Rattle.object_shapes.proofs.Callers as shapes
 use Rattle.agreement.specs.Acts.{OutcomeRel, SignalRel, StoreRel, break, continue, ended, return, stopped, thrown, value as given}
+use Rattle.agreement.proofs.Constants.{kept_same}
 use Rattle.agreement.proofs.Heap.{class_rel, line_added}
 use Rattle.agreement.proofs.Lines.{log_text_same}
 use Rattle.agreement.proofs.Properties.{get_at_rel}
@@ -51,7 +52,7 @@ uncaught_text_same {v = value.Object a} {w = value.Object b} g (object n) = text
 
 -- the same line more on both sides
 pub with_line_rel : {W : World} {s t : Store} {x y : List ℕ} (kind : LineKind) → StoreRel W s t → x ≡ y → StoreRel W (with_line kind x s) (with_line kind y t)
-with_line_rel {W = W} {s = s} {t = t} {x = x} {y = y} kind g e = record { heap = g.heap; lines = line_added W.before s.lines t.lines kind x y g.lines e; built_ins = g.built_ins; shaped = shapes.lines_shaped s _ g.shaped }
+with_line_rel {W = W} {s = s} {t = t} {x = x} {y = y} kind g e = record { heap = g.heap; lines = line_added W.before s.lines t.lines kind x y g.lines e; built_ins = g.built_ins; shaped = shapes.lines_shaped s _ g.shaped; kept = kept_same g.kept refl (omega arith) (λ j m n. inl refl) }
 
 -- pages that agree for a naming that is larger
 pub record LaterRel (V : World) (s t : Store) : Type 0 where

@@ -20,7 +20,8 @@ use Rattle.agreement.proofs.Closures.{scope_field}
 use Rattle.agreement.proofs.Declared.{all_among, body_among, declarations_passed, either_among, functions_declared, right_among, stmts_declared, stmts_passed}
 use Rattle.agreement.proofs.EntryNames.{argument_rel, arguments_bind, bound_declared, entry_value, first_rel, first_some, formal_bound}
 use Rattle.agreement.proofs.Hoisted.{DeclaredAt, as_field, as_variable}
-use Rattle.agreement.specs.Opened.{are_plain, around_of, function_frame, is_bound, is_numbered, is_round, may_open, opened_at, kept_in}
+use Rattle.agreement.proofs.Unset.{unset_frame}
+use Rattle.agreement.specs.Opened.{are_plain, around_of, is_bound, is_numbered, is_round, may_open, opened_at, kept_in}
 
 -- ---- what is asked of a function that is opened
 
@@ -169,8 +170,8 @@ module _ (n : ℕ) (gs : List Frame) (F : List (List ℕ)) (x : Option (List ℕ
     names_of = maybe_name (own_name (code x formals body)) ++ bound_names (code x formals body)
 
     -- what names stand for in the body
-    pub inside_fields : (inside_of n gs F (code x formals body)).fields ≡ (λ y. opened_at true (resolve (function_frame F n formals body ∷ gs) y))
-    inside_fields = λ i y. scope_field true F names_of n (is_bound formals body) gs y (λ e. refl)
+    pub inside_fields : (inside_of n gs F (code x formals body)).fields ≡ (λ y. opened_at true (resolve (unset_frame F n formals body ∷ gs) y))
+    inside_fields = λ i y. scope_field true F names_of n (is_bound formals body) (λ z. false) gs y (λ e. refl)
         (λ e. right_among y (maybe_name (own_name (code x formals body))) (bound_names (code x formals body)) (among_bound y e))
         (λ e f g. either_among y (maybe_name (own_name (code x formals body))) (bound_names (code x formals body)) e (λ k. a.own_plain y k) (λ k. absurd (cc (sym (bound_among y k) ∙ f)))) i
 
@@ -187,14 +188,14 @@ module _ (n : ℕ) (gs : List Frame) (F : List (List ℕ)) (x : Option (List ℕ
 
 pub declared_plain : (n : ℕ) (gs : List Frame) (x : Option (List ℕ)) (formals : List (List ℕ)) (body : tree.Stmts) → Asked n gs (own_name (code x formals body)) [] formals body
     → (y : List ℕ) → is_among y (function_names (functions_of body)) ≡ true
-    → DeclaredAt (function_frame [] n formals body) y ((inside_of n gs [] (code x formals body)).own y) ((inside_of n gs [] (code x formals body)).fields y)
+    → DeclaredAt (unset_frame [] n formals body) y ((inside_of n gs [] (code x formals body)).own y) ((inside_of n gs [] (code x formals body)).fields y)
 declared_plain n gs x formals body a y i =
     let b = declared_bound n gs [] x formals body a y i in
     rw (not_field n gs [] x formals body a y b refl) (as_variable (ap free_where b))
 
 pub declared_scoped : (n : ℕ) (gs : List Frame) (z : List ℕ) (zs : List (List ℕ)) (x : Option (List ℕ)) (formals : List (List ℕ)) (body : tree.Stmts) → Asked n gs (own_name (code x formals body)) (z ∷ zs) formals body
     → (y : List ℕ) → is_among y (function_names (functions_of body)) ≡ true
-    → DeclaredAt (function_frame (z ∷ zs) n formals body) y ((inside_of n gs (z ∷ zs) (code x formals body)).own y) ((inside_of n gs (z ∷ zs) (code x formals body)).fields y)
+    → DeclaredAt (unset_frame (z ∷ zs) n formals body) y ((inside_of n gs (z ∷ zs) (code x formals body)).own y) ((inside_of n gs (z ∷ zs) (code x formals body)).fields y)
 declared_scoped n gs z zs x formals body a y i = by_case (is_among y (z ∷ zs)) refl ((inside_of n gs (z ∷ zs) (code x formals body)).fields y) refl
   where
     b : is_bound formals body y ≡ true
@@ -203,6 +204,6 @@ declared_scoped n gs z zs x formals body a y i = by_case (is_among y (z ∷ zs))
     as_some : is_among y (z ∷ zs) ≡ true → (inside_of n gs (z ∷ zs) (code x formals body)).fields y ≡ Some n
     as_some e = rw e refl
 
-    by_case : (c : Bool) → is_among y (z ∷ zs) ≡ c → (o : Option ℕ) → (inside_of n gs (z ∷ zs) (code x formals body)).fields y ≡ o → DeclaredAt (function_frame (z ∷ zs) n formals body) y c o
-    by_case true e o q = subst (DeclaredAt (function_frame (z ∷ zs) n formals body) y true) (sym (as_some e) ∙ q) (as_field (λ j. kept_in (e j) (b j)) refl)
-    by_case false e o q = subst (DeclaredAt (function_frame (z ∷ zs) n formals body) y false) (sym (not_field n gs (z ∷ zs) x formals body a y b e) ∙ q) (as_variable (λ j. kept_in (e j) (b j)))
+    by_case : (c : Bool) → is_among y (z ∷ zs) ≡ c → (o : Option ℕ) → (inside_of n gs (z ∷ zs) (code x formals body)).fields y ≡ o → DeclaredAt (unset_frame (z ∷ zs) n formals body) y c o
+    by_case true e o q = subst (DeclaredAt (unset_frame (z ∷ zs) n formals body) y true) (sym (as_some e) ∙ q) (as_field (λ j. kept_in (e j) (b j) false) refl)
+    by_case false e o q = subst (DeclaredAt (unset_frame (z ∷ zs) n formals body) y false) (sym (not_field n gs (z ∷ zs) x formals body a y b e) ∙ q) (as_variable (λ j. kept_in (e j) (b j) false))

@@ -15,7 +15,6 @@ module _ {V W : World} (l : Larger V W) where
   -- these unfold, so that what is asked is seen to be the same
   abbrev pub equal_up : HasEqualTrees V → HasEqualTrees W
   equal_up h = record {
-    asks = h.asks;
     opens = sym l.opens ∙ h.opens;
     opened = λ n fs c. opened_up n fs c (h.opened n fs c);
     fits = λ n fs c. fits_up n fs c (h.fits n fs c);
@@ -28,4 +27,5 @@ module _ {V W : World} (l : Larger V W) where
     opened = λ n fs c. opened_up n fs c (h.opened n fs c);
     fits = λ n fs c. fits_up n fs c (h.fits n fs c);
     bases = λ e. sym l.bases ∙ h.bases e;
+    opening = h.opening;
   }

@@ -1,7 +1,6 @@
 -- A function of the page is entered on both sides (sections 10.4.3 and 10.5), where the right has it opened.
 use Rattle.std.proofs.Common.{◌≡◌, refl, sym, ap, subst, ◌∙◌, ℕ, ◌<◌, Bool, true, false, ◌||◌, ◌&&◌, List, [], ◌∷◌, ◌++◌, length, Option, Some, None, is_some, bytes_eq, if◌then◌else◌}
 use Rattle.agreement.proofs.Entries.{entry_names_same}
-use Rattle.agreement.specs.Trees.{free_where}
 use Rattle.agreement.specs.Acts.{StoreRel}
 use Rattle.page_meaning.specs.Act.{Calls}
 use Rattle.instrumenter.specs.Around.{literal_fields, next_number}
@@ -31,6 +30,7 @@ use Rattle.agreement.proofs.Declared.{left_among, right_among, either_among, fun
 use Rattle.agreement.proofs.ScopeValues.{Found, OwnSlot, known_of, literal_has, value_in, values_fresh, values_in, values_value}
 use Rattle.agreement.proofs.Scoped.{Filling, found_new}
 use Rattle.agreement.proofs.Undeclared.{body_avoid}
+use Rattle.agreement.specs.Trees.{bound_where}
 use Rattle.agreement.specs.Opened.{is_bound, is_round, is_sealed, kept_in}
 
 -- ---- the own name
@@ -41,6 +41,7 @@ sealed_is Kept.Absent e = absurd (cc e)
 sealed_is Kept.Free e = absurd (cc e)
 sealed_is Kept.Captured e = absurd (cc e)
 sealed_is Kept.Copied e = absurd (cc e)
+sealed_is Kept.Constant e = absurd (cc e)
 sealed_is Kept.Unused e = absurd (cc e)
 
 no_one : {A : Type 0} {x : A} {l : List A} → l ≡ [] → In x l → ⊥
@@ -214,18 +215,18 @@ module _ (n : ℕ) (gs : List Frame) (y : List ℕ) (ys : List (List ℕ)) (x : 
         in
         rw (left, right) (scope.copied o.1.1.1)
 
-    plain_entry : {p q : Option Value} (z : List ℕ) (u : Option Value) (b : Bool) → Maybe (ValueRel (named W)) p q → is_some p ≡ b → EntryRel (named W) (known_of r z) (free_where b) p q u
+    plain_entry : {p q : Option Value} (z : List ℕ) (u : Option Value) (b : Bool) → Maybe (ValueRel (named W)) p q → is_some p ≡ b → EntryRel (named W) (known_of r z) (bound_where b false) p q u
     plain_entry z u true (some m) e = scope.free m
     plain_entry z u false none e = scope.absent
     plain_entry z u true none e = absurd (cc e)
     plain_entry z u false (some m) e = absurd (cc e)
 
     entry_rel : (z : List ℕ) → is_scope_name z ≡ false
-        → EntryRel (named W) (known_of r z) (kept_in (is_among z (y ∷ ys)) (is_bound formals body z)) (value_of names z) (value_of others z) (value_of (values_in es k valued (y ∷ ys)) z)
+        → EntryRel (named W) (known_of r z) (kept_in (is_among z (y ∷ ys)) (is_bound formals body z) false) (value_of names z) (value_of others z) (value_of (values_in es k valued (y ∷ ys)) z)
     entry_rel z plain = by_case (is_among z (y ∷ ys)) refl (is_bound formals body z) refl
       where
         by_case : (c : Bool) → is_among z (y ∷ ys) ≡ c → (b : Bool) → is_bound formals body z ≡ b
-            → EntryRel (named W) (known_of r z) (kept_in c b) (value_of names z) (value_of others z) (value_of (values_in es k valued (y ∷ ys)) z)
+            → EntryRel (named W) (known_of r z) (kept_in c b false) (value_of names z) (value_of others z) (value_of (values_in es k valued (y ∷ ys)) z)
         by_case true i true b = rw (values_value es k valued (y ∷ ys) z i) (captured_entry z (value_of others z) b)
         by_case true i false b = rw (values_value es k valued (y ∷ ys) z i) (copied_entry z (value_of others z) i b)
         by_case false i b q =
@@ -233,12 +234,12 @@ module _ (n : ℕ) (gs : List Frame) (y : List ℕ) (ys : List (List ℕ)) (x : 
             (both_bind n gs (y ∷ ys) x formals body vs ws z h
             (ap (λ c. c || is_among z (variables_of (inner_body n gs (y ∷ ys) x formals body))) (heap.not_scope_name z n plain) ∙ inner_among n gs (y ∷ ys) x formals body z i)) (bound_is z ∙ q)
 
-    own_name_there : (z : List ℕ) → kept_in (is_among z (y ∷ ys)) (is_bound formals body z) ≡ Copied
-        → OwnName W (scoped_slot s.heap t.heap (λ u. kept_in (is_among u (y ∷ ys)) (is_bound formals body u)) n gs (known_of r)) z e
+    own_name_there : (z : List ℕ) → kept_in (is_among z (y ∷ ys)) (is_bound formals body z) false ≡ Copied
+        → OwnName W (scoped_slot s.heap t.heap (λ u. kept_in (is_among u (y ∷ ys)) (is_bound formals body u) false) n gs (known_of r)) z e
     own_name_there z copied = by_case (is_among z (y ∷ ys)) refl (is_bound formals body z) refl copied
       where
-        by_case : (c : Bool) → is_among z (y ∷ ys) ≡ c → (b : Bool) → is_bound formals body z ≡ b → kept_in c b ≡ Copied
-            → OwnName W (scoped_slot s.heap t.heap (λ u. kept_in (is_among u (y ∷ ys)) (is_bound formals body u)) n gs (known_of r)) z e
+        by_case : (c : Bool) → is_among z (y ∷ ys) ≡ c → (b : Bool) → is_bound formals body z ≡ b → kept_in c b false ≡ Copied
+            → OwnName W (scoped_slot s.heap t.heap (λ u. kept_in (is_among u (y ∷ ys)) (is_bound formals body u) false) n gs (known_of r)) z e
         by_case true i true b m = absurd (cc m)
         by_case true i false b m =
             let o = own_slot_of z r bases (own_held z i b).1 in

@@ -98,7 +98,7 @@ bind_to_now {s = s} {t = t} {this = this} {that = that} {vs = vs} {ws = ws} k g 
     let i = length_of a s in
     let j = length_of b t in
     then_rel (made_now k g (bound_object a this vs i) (bound_object b that ws j) (bound_fit a this vs i) (bound_fit b that ws j)
-    (bound_object_rel a b n h hs i j (length_of_same g a b n) g.built_ins) refl (refl, record { others = []; are = refl }, callable))
+    (bound_object_rel a b n h hs i j (length_of_same g a b n) g.built_ins) refl refl (refl, record { others = []; are = refl }, callable))
     (λ X j p q r. give_rel (object_value_rel p q r))
 
 -- where it is one

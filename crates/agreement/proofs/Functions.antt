@@ -1,17 +1,18 @@
 -- Functions of both pages, how they are made and entered (sections 10.4.3, 10.5, 13 and 13.2).
-use Rattle.std.proofs.Common.{◌≡◌, refl, sym, ap, ◌∙◌, ℕ, suc, ◌<◌, ◌&&◌, true, List, [], ◌∷◌, length, Option, Some, None, arith, ◌+◌, Bool, false, subst, nat_lt, length-append, not}
+use Rattle.std.proofs.Common.{◌≡◌, refl, sym, ap, ◌∙◌, ℕ, suc, ◌<◌, ◌&&◌, true, List, [], ◌∷◌, length, Option, Some, None, arith, ◌+◌, Bool, false, subst, nat_lt, length-append, not, bytes_eq, if◌then◌else◌}
 use Rattle.agreement.proofs.Declared.{tops_passed}
 use Rattle.instrumenter.specs.Counting.{stmt_scopes}
 use Rattle.object_heap.specs.Object.{settled}
 use Rattle.object_heap.proofs.Callers.{sound_made, sound_opened}
 use Rattle.object_heap.specs.Laws.{after_step, after_steps, binds, opens}
-use Rattle.object_heap.specs.Heap.{Contents, IsSound, made}
-use Rattle.heap_relations.specs.Scope.{own_frame, own_slot, with_own}
+use Rattle.object_heap.specs.Heap.{Contents, IsSound, made, opened}
+use Rattle.heap_relations.specs.Scope.{own_frame, own_slot, with_own, with_own_function}
+use Rattle.object_heap.specs.Environment.{Bound}
 use Rattle.agreement.proofs.Closures.{closed_code, declared_code}
 use Rattle.instrumenter.specs.Opening.{open_function, open_tops}
 use Rattle.instrumenter.specs.Fields.{expression_fields}
 use Rattle.instrumenter.specs.Around.{Around, opened_fields}
-use Rattle.agreement.specs.Opened.{HasTrees, HereRel, are_plain, expr_stands, function_stands, name_frame, opened_code, stmt_stands, stmts_stand, opened_at}
+use Rattle.agreement.specs.Opened.{Demand, HasTrees, HereRel, IsOpening, are_plain, expr_stands, function_stands, name_frame, opened_code, stmt_stands, stmts_stand, opened_at}
 use Rattle.std.proofs.lemmas.Bool.{and_parts, and_from, lt-ltb}
 use Rattle.code_table.specs.Declarations.{functions_of}
 use Rattle.js_core.specs.Tree as tree
@@ -29,11 +30,12 @@ use Rattle.page_meaning.specs.declared.signal.Signal.{Signal}
 use Rattle.scope_analysis.specs.Names.{is_among, own_name}
 use Rattle.heap_relations.proofs.Callers.{larger_more}
 use Rattle.heap_relations.proofs.Callers as heap
-use Rattle.heap_relations.specs.Naming.{Frame, Larger, Round, World, named, outermost, with_object, is_reserved, Itself}
+use Rattle.heap_relations.specs.Naming.{Absent, Constant, Frame, Larger, Round, Sealed, World, here, named, outermost, with_object, with_slot, is_reserved, Itself}
 use Rattle.heap_relations.specs.Related as related
 use Rattle.heap_relations.specs.Related.{ChangeRel, Each, Maybe, PropRel, ValueRel, entry, no_entries, none, page, some, undefined}
 use Rattle.agreement.proofs.Acts.{also_rel, asking_rel, bind_rel, choose_rel, on_built_ins}
-use Rattle.agreement.proofs.Entries.{bound_rel, enters_round, enters_up, one_name_same, opened_rel, own_name_free, never_opens}
+use Rattle.agreement.proofs.Constants.{not_done, kept_function, kept_opened, older_now, ready_up, set_up}
+use Rattle.agreement.proofs.Entries.{Enters, enters, bound_rel, enters_round, enters_up, one_name_same, opened_rel, own_name_free, never_opens}
 use Rattle.agreement.proofs.EqualTrees.{trees_up}
 use Rattle.agreement.proofs.Heap.{define_at_rel, named_up, own_rel, value_up}
 use Rattle.agreement.proofs.Made.{made_rel, object_place}
@@ -41,8 +43,9 @@ use Rattle.agreement.proofs.Properties.{put_in_rel}
 use Rattle.agreement.proofs.Values.{done_rel, give_rel, object_value_rel, raise_rel, unless_rel}
 use Rattle.object_shapes.proofs.Callers as shapes
 use Rattle.object_shapes.specs.Links.{built_in_count, all_below, value_links}
-use Rattle.agreement.specs.Acts.{ActRel, Agrees, Ids, SignalRel, StoreRel, break, continue, ended, return, thrown, value}
-use Rattle.agreement.specs.Trees.{frame_of}
+use Rattle.agreement.specs.Acts as acts
+use Rattle.agreement.specs.Acts.{ActRel, Agrees, AreKept, Ids, IsOlder, IsReady, SignalRel, StoreRel, break, continue, ended, return, scope_older, thrown, value}
+use Rattle.agreement.specs.Trees.{frame_of, free_where}
 
 -- ---- functions are made
 
@@ -56,8 +59,9 @@ window_place = omega arith
 
 pub make_function_rel : {V : World} (n : ℕ) (fs : List Frame) (x : Option (List ℕ)) (formals : List (List ℕ)) (body opened : tree.Stmts) (e f : Option EnvId) → (trees : HasTrees V)
     → code x formals opened ≡ opened_code trees.demand.opens n fs (code x formals body) → Round V fs e f
+    → ((W : World) → Larger V W → (s t : Store) → StoreRel W s t → IsOlder W (length s.heap.objects) x e)
     → function_stands trees.demand n fs (code x formals body) ≡ true → ActRel Ids V (make_function (code x formals body) e) (make_function (code x formals opened) f)
-make_function_rel n fs x formals body opened e f trees same o stands = record {
+make_function_rel n fs x formals body opened e f trees same o older stands = record {
   run = λ W l s t m g.
       let a = length s.heap.objects in
       let b = length t.heap.objects in
@@ -76,8 +80,13 @@ make_function_rel n fs x formals body opened e f trees same o stands = record {
         lines = g.lines;
         built_ins = λ k small. heap.named_up up (g.built_ins k small);
         shaped = shapes.function_shaped s (code x formals body) e g.heap.left g.shaped;
+        kept = kept_function g.kept b (code x formals body) e (λ i j n. (g.heap.objects.inside i j n).0) (older W l s t g);
       });
 }
+
+-- a function without a name is younger than what stands round it
+pub all_older : {V : World} {e : Option EnvId} → IsReady V e → (W : World) → Larger V W → (s t : Store) → StoreRel W s t → IsOlder W (length s.heap.objects) None e
+all_older h W l s t g = older_now g.kept (ready_up l h)
 
 -- ---- function expressions
 
@@ -88,22 +97,43 @@ plain_one x e = by_case (is_reserved true x) e
     by_case true e = absurd (cc e)
     by_case false e = refl
 
+pub not_reserved : (opens : Bool) (x : List ℕ) → are_plain opens (x ∷ []) ≡ true → is_reserved opens x ≡ false
+not_reserved true x e = plain_one x e
+not_reserved false x e = refl
+
 -- the heap after a function is made, and after its name is bound
 abbrev functions_after : Contents → tree.Code → Option EnvId → Contents
 functions_after h c env = after_steps h (function_steps c env (length h.objects))
 
-functions_sound : (h : Contents) (c : tree.Code) (env : Option EnvId) → IsSound h → IsSound (functions_after h c env)
+pub functions_sound : (h : Contents) (c : tree.Code) (env : Option EnvId) → IsSound h → IsSound (functions_after h c env)
 functions_sound h c env sound =
     let k = length h.objects in
     let one = sound_made h sound (function_object c env (k + 1)) (function_fit c env (k + 1)) in
     sound_made (made h (function_object c env (k + 1))) one (prototype_object k) (prototype_fit k)
 
--- a function that has a name, in the environment that binds it, where trees are opened
+never_constant : (b : Bool) → (if b then Sealed else Absent) ≡ Constant → ⊥
+never_constant true e = cc e
+never_constant false e = cc e
+
+-- what is kept where a function that has a name is made
+kept_own : {W : World} {s t : Store} → (g : StoreRel W s t) → (e f : Option EnvId) (x : List ℕ) (fs : List Frame) (formals : List (List ℕ)) (body : tree.Stmts) → Round W fs e f → IsReady W e
+    → AreKept (with_own W s.heap t.heap x fs) (with_heap s (with_own_function s.heap e x (code (Some x) formals body) (Some function_prototype) (length formals) (Some object_prototype)))
+kept_own {W = W} {s = s} {t = t} g e f x fs formals body o ready =
+    let a = length s.heap.objects in
+    let slot = own_slot s.heap t.heap x fs in
+    let names : Bound = (x, heap.scope_value a) ∷ [] in
+    let one : AreKept (with_slot W slot) (with_heap s (opened s.heap e names)) =
+    kept_opened g.kept g.heap slot e names refl (heap.round_there g.heap o).0 (older_now g.kept ready) (λ y k. absurd (never_constant (bytes_eq y x) k)) (λ y p k. absurd (never_constant (bytes_eq y x) k)) (λ p. omega arith) (not_done g.kept)
+    in
+    kept_function one (length t.heap.objects) (code (Some x) formals body) (Some (record { 0 = length s.heap.environments }))
+    (λ i j n. (g.heap.objects.inside i j (record { named = n.named })).0) (scope_older slot here (λ y p. absurd (cc p)) (omega arith) (λ y d k. refl))
+
+-- a function that has a name, in the environment that binds it, where such names are sealed
 own_rel_opened : {V : World} (n : ℕ) (fs : List Frame) (x : List ℕ) (formals : List (List ℕ)) (body opened : tree.Stmts) (e f : Option EnvId) → (trees : HasTrees V)
-    → code (Some x) formals opened ≡ opened_code trees.demand.opens n (own_frame x ∷ fs) (code (Some x) formals body) → Round V fs e f → is_reserved V.opens x ≡ false
+    → code (Some x) formals opened ≡ opened_code trees.demand.opens n (own_frame x ∷ fs) (code (Some x) formals body) → Round V fs e f → IsReady V e → is_reserved V.opens x ≡ false
     → function_stands trees.demand n (own_frame x ∷ fs) (code (Some x) formals body) ≡ true
     → Agrees V (close_over (code (Some x) formals body) e) (close_over (code (Some x) formals opened) f)
-own_rel_opened n fs x formals body opened e f trees same o own stands = record {
+own_rel_opened n fs x formals body opened e f trees same o ready own stands = record {
   run = λ W l s t m g.
       let a = length s.heap.objects in
       let b = length t.heap.objects in
@@ -133,6 +163,7 @@ own_rel_opened n fs x formals body opened e f trees same o own stands = record {
         lines = g.lines;
         built_ins = λ k small. heap.named_up up (g.built_ins k small);
         shaped = shaped3;
+        kept = rw left (kept_own g e f x fs formals body (heap.round_up l o) (ready_up l ready));
       });
 }
   where
@@ -148,27 +179,51 @@ own_rel_opened n fs x formals body opened e f trees same o own stands = record {
           length-append (made h (function_object c env (k + 1))).objects (settled (length (made h (function_object c env (k + 1))).objects) (prototype_object k) ∷ []),
         )
 
+never_sealed : (b : Bool) → free_where b ≡ Sealed → ⊥
+never_sealed true e = cc e
+never_sealed false e = cc e
+
+-- where the name of a function expression is not sealed, nothing is said of it
+free_older : {V : World} {gs : List Frame} {a b : EnvId} (x : List ℕ) → Enters V (frame_of (x ∷ [])) gs a b → (W : World) → Larger V W → (s t : Store) → StoreRel W s t → IsOlder W (length s.heap.objects) (Some x) (Some a)
+free_older {V = V} x m W l s t g = by m refl
+  where
+    by : {f : Frame} {gs : List Frame} {a b : EnvId} → Enters V f gs a b → f ≡ frame_of (x ∷ []) → IsOlder W (length s.heap.objects) (Some x) (Some a)
+    by (enters z i h) e =
+        let up = set_up l z h in
+        scope_older z (l.slots z i) up ((g.kept.scopes z (l.slots z i)).there up)
+        (λ y d k. absurd (never_sealed (is_among y (x ∷ [])) (ap (λ (u : Frame). u.keeps y) (sym e) ∙ k)))
+
+-- names are sealed where trees are opened
+names_closed : (d : Demand) → (d.opens ≡ true → IsOpening d) → d.names ≡ false → d.opens ≡ false
+names_closed d opening e = by_case d.opens refl
+  where
+    by_case : (b : Bool) → d.opens ≡ b → b ≡ false
+    by_case false q = refl
+    by_case true q = absurd (cc (sym e ∙ ap (λ (z : Demand). z.names) (opening q)))
+
 -- a function expression
 pub close_over_rel : {V : World} (around : Around) (n : ℕ) (fs : List Frame) (x : Option (List ℕ)) (formals : List (List ℕ)) (body : tree.Stmts) (a b : Here) → (h : HereRel V around fs a b)
     → expr_stands h.trees.demand n fs (tree.func (code x formals body)) ≡ true
     → Agrees V (close_over (code x formals body) a.env)
     (close_over (code x formals (open_function around n (opened_fields around.opens (expression_fields (code x formals body))) (own_name (code x formals body)) (code x formals body))) b.env)
 close_over_rel around n fs None formals body a b h f =
-    made_rel (make_function_rel n fs None formals body _ a.env b.env h.trees (closed_code around n h.trees.demand.opens fs None formals body h.opens h.fields) h.round f)
+    made_rel (make_function_rel n fs None formals body _ a.env b.env h.trees (closed_code around n h.trees.demand.opens h.trees.demand.names fs None formals body h.opens h.fields) h.round (all_older h.ready) f)
 close_over_rel {V = V} around n fs (Some x) formals body a b h f =
     let d = h.trees.demand in
-    let both = and_parts (are_plain d.opens (x ∷ [])) (function_stands d n (name_frame d.opens x ∷ fs) (code (Some x) formals body)) f in
-    by_case d.opens refl both.0 (closed_code around n d.opens fs (Some x) formals body h.opens h.fields) both.1
+    let both = and_parts (are_plain d.opens (x ∷ [])) (function_stands d n (name_frame d.names x ∷ fs) (code (Some x) formals body)) f in
+    by_case d.names refl (closed_code around n d.opens d.names fs (Some x) formals body h.opens h.fields) both.1
   where
-    by_case : (o : Bool) → o ≡ h.trees.demand.opens → are_plain o (x ∷ []) ≡ true → {opened : tree.Stmts} → code (Some x) formals opened ≡ opened_code h.trees.demand.opens n (name_frame o x ∷ fs) (code (Some x) formals body)
+    own : is_reserved V.opens x ≡ false
+    own = ap (λ q. is_reserved q x) h.trees.opens ∙ not_reserved h.trees.demand.opens x (and_parts (are_plain h.trees.demand.opens (x ∷ [])) (function_stands h.trees.demand n (name_frame h.trees.demand.names x ∷ fs) (code (Some x) formals body)) f).0
+
+    by_case : (o : Bool) → o ≡ h.trees.demand.names → {opened : tree.Stmts} → code (Some x) formals opened ≡ opened_code h.trees.demand.opens n (name_frame o x ∷ fs) (code (Some x) formals body)
         → function_stands h.trees.demand n (name_frame o x ∷ fs) (code (Some x) formals body) ≡ true
         → Agrees V (close_over (code (Some x) formals body) a.env) (close_over (code (Some x) formals opened) b.env)
-    by_case true o plain {opened = opened} same stands =
-        own_rel_opened n fs x formals body opened a.env b.env h.trees same h.round (subst (λ q. is_reserved q x ≡ false) (sym (h.trees.opens ∙ sym o)) (plain_one x plain)) stands
-    by_case false o plain {opened = opened} same stands =
-        let closed : V.opens ≡ false = h.trees.opens ∙ sym o in
-        bind_rel (opened_rel (λ y. is_among y (x ∷ [])) fs a.env b.env ((x, Undefined) ∷ []) ((x, Undefined) ∷ []) (never_opens closed) h.round (entry undefined no_entries) (one_name_same x Undefined)) (λ W l p q m.
-        bind_rel (make_function_rel n (frame_of (x ∷ []) ∷ fs) (Some x) formals body opened (Some p) (Some q) (trees_up l h.trees) same (enters_round m) stands) (λ X j k u v.
+    by_case true o {opened = opened} same stands = own_rel_opened n fs x formals body opened a.env b.env h.trees same h.round h.ready own stands
+    by_case false o {opened = opened} same stands =
+        let closed : V.opens ≡ false = h.trees.opens ∙ names_closed h.trees.demand h.trees.opening (sym o) in
+        bind_rel (opened_rel (λ y. is_among y (x ∷ [])) (λ y. false) fs a.env b.env ((x, Undefined) ∷ []) ((x, Undefined) ∷ []) (never_opens closed) h.round h.ready (entry undefined no_entries) (one_name_same x Undefined)) (λ W l p q m.
+        bind_rel (make_function_rel n (frame_of (x ∷ []) ∷ fs) (Some x) formals body opened (Some p) (Some q) (trees_up l h.trees) same (enters_round m) (free_older x m) stands) (λ X j k u v.
         bind_rel (bound_rel x (ap (λ q. is_reserved q x) (sym (larger_more l j).opens ∙ closed)) (enters_up j m) (own_name_free x) (object_value_rel k u v)) (λ Y i z w r. give_rel (object_value_rel k u (named_up i v)))))
 
 pub call_end_rel : {V W : World} {s r : Signal} → Larger V W → SignalRel V s r → SignalRel W (call_end s) (call_end r)
@@ -199,6 +254,9 @@ variable_place_rel x (some h) = done_rel
 own_global_rel : {W : World} {s t : Store} (x : List ℕ) → StoreRel W s t → Maybe (PropRel (named W)) (own_global x s) (own_global x t)
 own_global_rel x g = own_rel g window.0 window.0 (g.built_ins window.0 window_place) x
 
+ready_outermost : {V : World} → IsReady V None
+ready_outermost = acts.outermost
+
 -- what a script declares: its functions stay at its top, with their code opened
 pub declare_globals_rel : {V : World} (body : tree.Stmts) (k : Around) (n : ℕ) (trees : HasTrees V) → k.opens ≡ trees.demand.opens → k.fields ≡ (λ x. opened_at trees.demand.opens Itself)
     → stmts_stand trees.demand n [] body ≡ true → Agrees V (declare_globals (functions_of body)) (declare_globals (functions_of (open_tops k n body)))
@@ -210,7 +268,7 @@ declare_globals_rel (then_stmt (function (code (Some x) formals body)) ss) k n t
     let c = function (code (Some x) formals body) in
     let both = and_parts (stmt_stands trees.demand n [] c) (stmts_stand trees.demand (n + stmt_scopes c) [] ss) e in
     let one = and_parts (are_plain trees.demand.opens (x ∷ [])) (function_stands trees.demand n [] (code None formals body)) both.0 in
-    bind_rel (make_function_rel n [] None formals body _ None None trees (declared_code k n trees.demand.opens [] formals body same fields) outermost one.1) (λ W l i m o.
+    bind_rel (make_function_rel n [] None formals body _ None None trees (declared_code k n trees.demand.opens [] formals body same fields) outermost (all_older ready_outermost) one.1) (λ W l i m o.
     also_rel (asking_rel {R = λ W. Maybe (PropRel (named W))} (λ X j s t g. own_global_rel x g) (λ X j p q r. function_place_rel x r)) (λ X j v w r.
     also_rel (on_built_ins (λ U i there. put_in_rel window window (there window.0 window_place) x (object_value_rel _ m (named_up (larger_more j i) o)))) (λ Y i y z u.
     declare_globals_rel ss k (n + stmt_scopes c) (trees_up (larger_more l (larger_more j i)) trees) same fields both.1)))

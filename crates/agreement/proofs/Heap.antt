@@ -1,5 +1,5 @@
 -- What is read of two pages that agree, and what is done to both.
-use Rattle.std.proofs.Common.{◌≡◌, refl, sym, ap, ◌∙◌, ℕ, zero, suc, List, [], ◌∷◌, ◌++◌, length, Option, false, append_assoc}
+use Rattle.std.proofs.Common.{◌≡◌, inl, refl, sym, ap, ◌∙◌, ℕ, zero, suc, List, [], ◌∷◌, ◌++◌, length, Option, false, append_assoc, arith}
 use Rattle.js_values.specs.declared.ids.ObjId.{ObjId}
 use Rattle.js_values.specs.declared.line.Line.{Line}
 use Rattle.js_values.specs.declared.line.LineKind.{LineKind}
@@ -8,7 +8,8 @@ use Rattle.js_values.specs.declared.value.Value.{Value}
 use Rattle.object_heap.specs.Attempt.{Attempt}
 use Rattle.object_heap.specs.Chain.{get, get_property, object_at}
 use Rattle.object_heap.specs.Heap.{Contents, IsFit}
-use Rattle.object_heap.specs.Laws.{defines, deletes, makes, prevents, puts}
+use Rattle.object_heap.proofs.Callers.{kinds_steps}
+use Rattle.object_heap.specs.Laws.{IsSameKind, Step, after_step, defines, deletes, makes, prevents, puts}
 use Rattle.object_heap.specs.Object.{Object, target_of}
 use Rattle.object_heap.specs.Property.{own_property}
 use Rattle.object_heap.specs.declared.object.Class.{Class}
@@ -22,8 +23,9 @@ use Rattle.heap_relations.specs.Naming.{Agree, Before, Larger, Named, named, wit
 use Rattle.heap_relations.specs.Related.{AttemptRel, ChangeRel, ClassRel, Each, Maybe, ObjectIds, ObjectRel, PropRel, ValueRel, array, bound, event, fault, math, native, node, none, page, plain, some, window}
 use Rattle.object_shapes.proofs.Callers as shapes
 use Rattle.object_shapes.specs.Shapes.{HasShape, IsShaped}
+use Rattle.agreement.proofs.Constants.{define_rest, delete_rest, is_page, kept_other, kept_same, prevent_rest, put_rest}
 use Rattle.agreement.proofs.Linked.{object_new, some_below, value_below}
-use Rattle.agreement.specs.Acts.{ActRel, AddedRel, Equal, Ids, OutcomeRel, Relation, StoreRel, ended, stopped}
+use Rattle.agreement.specs.Acts.{ActRel, AddedRel, AreKept, Equal, Ids, OutcomeRel, Relation, StoreRel, ended, stopped}
 
 -- ---- larger namings
 
@@ -88,31 +90,43 @@ line_added b xs ys kind x y h e = record {
 pub put_line_rel : {V : World} (kind : LineKind) {f g : Store → List ℕ} → ((W : World) → Larger V W → (s t : Store) → StoreRel W s t → f s ≡ g t) → ActRel (Equal {A = Unit {0}}) V (put_line kind f) (put_line kind g)
 put_line_rel kind {f = f} {g = g} h = record {
   run = λ W l s t n r.
-      ended W heap.larger_same refl (record { heap = r.heap; lines = line_added W.before s.lines t.lines kind (f s) (g t) r.lines (h W l s t r); built_ins = r.built_ins; shaped = shapes.lines_shaped s _ r.shaped });
+      ended W heap.larger_same refl (record { heap = r.heap; lines = line_added W.before s.lines t.lines kind (f s) (g t) r.lines (h W l s t r); built_ins = r.built_ins; shaped = shapes.lines_shaped s _ r.shaped; kept = kept_same r.kept refl (omega arith) (λ j m n. inl refl) });
 }
 
+-- a step of the left keeps the kinds of objects
+kinds_kept : {W : World} {s t : Store} → StoreRel W s t → (step : Step) (j m : ℕ) → Named W j m → IsSameKind (object_at (after_step s.heap step).objects j).class (object_at s.heap.objects j).class
+kinds_kept {s = s} g step j m n = (kinds_steps s.heap (step ∷ []) j (heap.there g.heap n).0).0
+
 -- what is tried on both heaps leaves them in agreement, and throws the same
-tried : {W : World} {s t : Store} {n : ℕ} {x y : Attempt Contents} → StoreRel W s t → AttemptRel (Agree W) x y → IsShaped (with_heap s x.after)
+tried : {W : World} {s t : Store} {n : ℕ} {x y : Attempt Contents} → StoreRel W s t → AttemptRel (Agree W) x y → IsShaped (with_heap s x.after) → AreKept W (with_heap s x.after)
     → OutcomeRel (Equal {A = Option Throw}) W (Outcome.Ended x.thrown (with_heap s x.after) n) (Outcome.Ended y.thrown (with_heap t y.after) n)
-tried g h shaped = ended _ heap.larger_same h.thrown (record { heap = h.after; lines = g.lines; built_ins = g.built_ins; shaped = shaped })
+tried g h shaped kept = ended _ heap.larger_same h.thrown (record { heap = h.after; lines = g.lines; built_ins = g.built_ins; shaped = shaped; kept = kept })
 
 pub put_at_rel : {V : World} (a b : ObjId) (x : List ℕ) (v w : Value) → Named V a.0 b.0 → ValueRel (named V) v w → ActRel (Equal {A = Option Throw}) V (put_at a x v) (put_at b x w)
 put_at_rel a b x v w n r = record {
   run = λ W l s t m g. tried g (heap.put_tried g.heap (heap.named_up l n) x (heap.value_up l r))
-      (shapes.step_shaped s (puts a.0 x v) g.heap.left g.shaped (value_below g (heap.value_up l r)));
+      (shapes.step_shaped s (puts a.0 x v) g.heap.left g.shaped (value_below g (heap.value_up l r)))
+      (let rest = put_rest s.heap a.0 x v in kept_same g.kept rest.0 rest.1 (kinds_kept g (puts a.0 x v)));
 }
 
 pub define_at_rel : {V : World} (a b : ObjId) (x : List ℕ) (c d : Change) → Named V a.0 b.0 → ChangeRel (named V) c d → ActRel (Equal {A = Option Throw}) V (define_at a x c) (define_at b x d)
 define_at_rel a b x c d n r = record {
   run = λ W l s t m g. tried g (heap.define_tried g.heap (heap.named_up l n) x (heap.change_up l r))
-      (shapes.step_shaped s (defines a.0 x c) g.heap.left g.shaped (some_below g (heap.change_up l r).value));
+      (shapes.step_shaped s (defines a.0 x c) g.heap.left g.shaped (some_below g (heap.change_up l r).value))
+      (let rest = define_rest s.heap a.0 x c in kept_same g.kept rest.0 rest.1 (kinds_kept g (defines a.0 x c)));
 }
 
 pub delete_at_rel : {V : World} (a b : ObjId) (x : List ℕ) → Named V a.0 b.0 → ActRel (Equal {A = Option Throw}) V (delete_at a x) (delete_at b x)
-delete_at_rel a b x n = record { run = λ W l s t m g. tried g (heap.delete_tried g.heap (heap.named_up l n) x) (shapes.step_shaped s (deletes a.0 x) g.heap.left g.shaped tt) }
+delete_at_rel a b x n = record {
+  run = λ W l s t m g. tried g (heap.delete_tried g.heap (heap.named_up l n) x) (shapes.step_shaped s (deletes a.0 x) g.heap.left g.shaped tt)
+      (let rest = delete_rest s.heap a.0 x in kept_same g.kept rest.0 rest.1 (kinds_kept g (deletes a.0 x)));
+}
 
 pub prevent_at_rel : {V : World} (a b : ObjId) → Named V a.0 b.0 → ActRel (Equal {A = Option Throw}) V (prevent_at a) (prevent_at b)
-prevent_at_rel a b n = record { run = λ W l s t m g. tried g (heap.prevent_tried g.heap (heap.named_up l n)) (shapes.step_shaped s (prevents a.0) g.heap.left g.shaped tt) }
+prevent_at_rel a b n = record {
+  run = λ W l s t m g. tried g (heap.prevent_tried g.heap (heap.named_up l n)) (shapes.step_shaped s (prevents a.0) g.heap.left g.shaped tt)
+      (let rest = prevent_rest s.heap a.0 in kept_same g.kept rest.0 rest.1 (kinds_kept g (prevents a.0)));
+}
 
 -- new objects
 target_rel : {V : World} {c d : Class} → ClassRel (named V) c d → Maybe (ObjectIds (named V)) (target_of c) (target_of d)
@@ -128,9 +142,9 @@ target_rel (node h) = none
 target_rel (event h) = none
 
 -- in two pages that agree
-pub made_now : {W : World} {s t : Store} (n : ℕ) → StoreRel W s t → (o p : Object) (f : IsFit o) (g : IsFit p) → ObjectRel (named W) o p → o.closed ≡ false → HasShape s o o.class
+pub made_now : {W : World} {s t : Store} (n : ℕ) → StoreRel W s t → (o p : Object) (f : IsFit o) (g : IsFit p) → ObjectRel (named W) o p → o.closed ≡ false → is_page o.class ≡ false → HasShape s o o.class
     → OutcomeRel Ids W ((make o f).run s n) ((make p g).run t n)
-made_now {W = W} {s = s} {t = t} n h o p f g r not_closed shape =
+made_now {W = W} {s = s} {t = t} n h o p f g r not_closed other shape =
     let i = length s.heap.objects in
     let j = length t.heap.objects in
     ended (with_object W i j) (heap.larger_object i j) (heap.named_object i j) (record {
@@ -138,9 +152,10 @@ made_now {W = W} {s = s} {t = t} n h o p f g r not_closed shape =
       lines = h.lines;
       built_ins = λ k small. heap.named_up (heap.larger_object i j) (h.built_ins k small);
       shaped = shapes.step_shaped s (makes o f) h.heap.left h.shaped (object_new h o p r not_closed shape);
+      kept = kept_other h.kept j o other (λ c d n. (h.heap.objects.inside c d n).0);
     })
 
 -- an object that has its shape in whichever page it is made
-pub make_rel : {V : World} (o p : Object) (f : IsFit o) (g : IsFit p) → ObjectRel (named V) o p → o.closed ≡ false
+pub make_rel : {V : World} (o p : Object) (f : IsFit o) (g : IsFit p) → ObjectRel (named V) o p → o.closed ≡ false → is_page o.class ≡ false
     → ((W : World) → Larger V W → (s t : Store) → StoreRel W s t → HasShape s o o.class) → ActRel Ids V (make o f) (make p g)
-make_rel o p f g r not_closed shape = record { run = λ W l s t m h. made_now m h o p f g (heap.object_up l r) not_closed (shape W l s t h) }
+make_rel o p f g r not_closed other shape = record { run = λ W l s t m h. made_now m h o p f g (heap.object_up l r) not_closed other (shape W l s t h) }

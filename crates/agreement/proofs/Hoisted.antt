@@ -34,13 +34,14 @@ use Rattle.agreement.proofs.Closures.{declared_code, among_same}
 use Rattle.agreement.proofs.Dropped.{act_from}
 use Rattle.agreement.proofs.Entries.{Enters, enters, enters_up}
 use Rattle.agreement.proofs.EqualTrees.{trees_up}
-use Rattle.agreement.proofs.Functions.{make_function_rel, plain_one}
+use Rattle.agreement.proofs.Constants.{set_up}
+use Rattle.agreement.proofs.Functions.{all_older, make_function_rel, plain_one}
 use Rattle.agreement.proofs.Heap.{value_up}
 use Rattle.agreement.proofs.Made.{made_rel}
 use Rattle.agreement.proofs.Names.{bound, reserved_up, write_rel}
 use Rattle.agreement.proofs.ScopeObjects.{IsField, name_run, write_field_rel}
 use Rattle.agreement.proofs.Values.{done_rel, give_rel}
-use Rattle.agreement.specs.Acts.{Agrees, OutcomeRel, SignalRel, break, continue, ended, return, stopped, thrown, value as given}
+use Rattle.agreement.specs.Acts.{Agrees, OutcomeRel, SignalRel, break, continue, ended, return, scope, stopped, thrown, value as given}
 use Rattle.agreement.specs.Opened.{HasTrees, are_plain, function_stands, opened_at, opened_code, stmt_stands, stmts_stand}
 
 -- ---- acts that end with a value
@@ -82,12 +83,12 @@ one_declared_rel : {V : World} {f : Frame} {gs : List Frame} {p q : EnvId} {own 
     → code None formals opened ≡ opened_code trees.demand.opens n (f ∷ gs) (code None formals body) → function_stands trees.demand n (f ∷ gs) (code None formals body) ≡ true
     → Agrees V (bind (make_function (code None formals body) (Some p)) (λ j. bind (bind_name p x (Object j)) (λ u. done)))
     (exec d (record { env = Some q; this = that }) (declared_stmt own o x (func (code None formals opened))))
-one_declared_rel d that n x formals body opened trees (as_field keeps scoped) (enters s i) own opens same stands = record {
+one_declared_rel d that n x formals body opened trees (as_field keeps scoped) (enters s i ready) own opens same stands = record {
   run = λ W l t u m g.
       let b : Here = record { env = Some (env_id s.two); this = that } in
       let k = l.slots s i in
       let field : IsField W x s = record { there = k; held = keeps; own = reserved_up x l own } in
-      let mk = make_function_rel n (s.frame ∷ s.round) None formals body opened (Some (env_id s.one)) (Some (env_id s.two)) (trees_up l trees) same (inside s k) stands in
+      let mk = make_function_rel n (s.frame ∷ s.round) None formals body opened (Some (env_id s.one)) (Some (env_id s.two)) (trees_up l trees) same (inside s k) (all_older (scope s k (set_up l s ready))) stands in
       let both = also_rel {f = λ v. done} {g = λ v. done} (also_rel {f = assigned (write x (reference.Environment (env_id s.one)))} {g = assigned (put_member (scope_value s.place) x)} (made_rel mk)
       (λ X j v w r. also_rel (write_field_rel x s (record { there = j.slots s k; held = keeps; own = reserved_up x j field.own }) r) (λ Y z a c e. give_rel (value_up z r)))) (λ X j v w r. done_rel)
       in
@@ -97,12 +98,12 @@ one_declared_rel d that n x formals body opened trees (as_field keeps scoped) (e
       in
       rw right (both.run W larger_same t u m g);
 }
-one_declared_rel d that n x formals body opened trees (as_variable keeps) (enters s i) own opens same stands = record {
+one_declared_rel d that n x formals body opened trees (as_variable keeps) (enters s i ready) own opens same stands = record {
   run = λ W l t u m g.
       let b : Here = record { env = Some (env_id s.two); this = that } in
       let k = l.slots s i in
       let plain = reserved_up x l own in
-      let mk = make_function_rel n (s.frame ∷ s.round) None formals body opened (Some (env_id s.one)) (Some (env_id s.two)) (trees_up l trees) same (inside s k) stands in
+      let mk = make_function_rel n (s.frame ∷ s.round) None formals body opened (Some (env_id s.one)) (Some (env_id s.two)) (trees_up l trees) same (inside s k) (all_older (scope s k (set_up l s ready))) stands in
       let both = also_rel {f = λ v. done} {g = λ v. done} (also_rel {f = write x (reference.Environment (env_id s.one))} {g = write x (reference.Environment (env_id s.two))} (made_rel mk)
       (λ X j v w r. write_rel x (bound s (j.slots s k) keeps (reserved_up x j plain)) r)) (λ X j v w r. done_rel)
       in

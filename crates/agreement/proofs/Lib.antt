@@ -5,6 +5,7 @@ pub mod Bindings
 pub mod Called
 pub mod Callers
 pub mod Calling
+pub mod Constants
 pub mod Clauses
 pub mod Closures
 pub mod Declared
@@ -18,7 +19,13 @@ pub mod Entries
 pub mod EntryNames
 pub mod EqualTrees
 pub mod Expressions
+pub mod FirstSets
+pub mod FirstStatements
 pub mod Fitting
+pub mod FormNames
+pub mod FormPieces
+pub mod FormScopes
+pub mod FormStands
 pub mod FunctionEntry
 pub mod FunctionRows
 pub mod Functions
@@ -48,6 +55,8 @@ pub mod ScopeValues
 pub mod Scoped
 pub mod StandsPieces
 pub mod StandsScopes
+pub mod Spared
+pub mod SparedCalls
 pub mod Statements
 pub mod StringRows
 pub mod Targets
@@ -55,6 +64,7 @@ pub mod Tasks
 pub mod TextRows
 pub mod Undeclared
 pub mod Unopened
+pub mod Unset
 pub mod ValueRows
 pub mod Values
 pub mod VisitRows

@@ -44,9 +44,9 @@ new_list_object_rel there = whole_rel array_prototype array_place there array (e
 
 pub new_plain_rel : {V : World} → ActRel Ids V new_plain new_plain
 new_plain_rel = on_built_ins (λ U i there. make_rel (new_object class.Plain (Some object_prototype)) (new_object class.Plain (Some object_prototype))
-    (new_fit class.Plain (Some object_prototype)) (new_fit class.Plain (Some object_prototype)) (whole_rel object_prototype object_place there plain no_entries) refl (λ W l s t g. tt))
+    (new_fit class.Plain (Some object_prototype)) (new_fit class.Plain (Some object_prototype)) (whole_rel object_prototype object_place there plain no_entries) refl refl (λ W l s t g. tt))
 
 pub new_list_rel : {V : World} → ActRel Ids V new_list new_list
 new_list_rel = on_built_ins (λ U i there. make_rel (new_object class.List (Some array_prototype)) (new_object class.List (Some array_prototype))
-    (new_fit class.List (Some array_prototype)) (new_fit class.List (Some array_prototype)) (new_list_object_rel there) refl
+    (new_fit class.List (Some array_prototype)) (new_fit class.List (Some array_prototype)) (new_list_object_rel there) refl refl
     (λ W l s t g. (refl, record { count = 0; writable = true; others = []; are = refl })))

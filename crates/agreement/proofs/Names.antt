@@ -1,5 +1,5 @@
 -- References to names of both pages (sections 8.7 and 10.2.2.1).
-use Rattle.std.proofs.Common.{◌≡◌, refl, ap, subst, ◌∙◌, ℕ, ◌<◌, Bool, true, false, not, List, Option, Some, None, arith}
+use Rattle.std.proofs.Common.{◌≡◌, refl, sym, ap, subst, ◌∙◌, ℕ, ◌<◌, Bool, true, false, not, List, Option, Some, None, arith}
 use Rattle.std.proofs.lemmas.Bool.{and_parts}
 use Rattle.js_values.specs.declared.ids.EnvId.{EnvId}
 use Rattle.js_values.specs.declared.throw.Throw.TheVariants.{NotDefined}
@@ -18,11 +18,12 @@ use Rattle.page_meaning.specs.declared.reference.Reference.TheVariants.{Environm
 use Rattle.heap_relations.proofs.Callers.{larger_same}
 use Rattle.heap_relations.proofs.Callers as heap
 use Rattle.heap_relations.specs.Naming as naming
-use Rattle.heap_relations.specs.Naming.{FoundRel, Frame, Free, In, Itself, Kept, Larger, named, Place, resolve, Slot, World, env_id, inside, is_captured, is_copied, is_free, is_reserved, is_sealed, is_unused, nowhere as unbound}
+use Rattle.heap_relations.specs.Naming.{FoundRel, Frame, Free, In, Itself, Kept, Larger, named, Place, resolve, Round, Slot, World, env_id, inside, is_captured, is_copied, is_free, is_reserved, is_sealed, is_unused, nowhere as unbound}
 use Rattle.heap_relations.specs.Related.{Maybe, ValueRel, none, some, undefined}
 use Rattle.object_heap.specs.Laws.{binds}
 use Rattle.object_shapes.proofs.Callers as shapes
 use Rattle.object_shapes.specs.Links.{built_in_count}
+use Rattle.agreement.proofs.Constants.{kept_set, ready_up}
 use Rattle.agreement.proofs.Linked.{value_below}
 use Rattle.agreement.specs.Acts.{ActRel, Agrees, Continues, Equal, OutcomeRel, SignalRel, StoreRel, ended}
 use Rattle.instrumenter.specs.Around.{Around}
@@ -52,7 +53,7 @@ reference_up l global = global
 reference_up l nowhere = nowhere
 
 abbrev pub here_up : {V W : World} {k : Around} {fs : List Frame} {a b : Here} → Larger V W → HereRel V k fs a b → HereRel W k fs a b
-here_up l h = record { trees = trees_up l h.trees; opens = h.opens; fields = h.fields; round = heap.round_up l h.round; this = value_up l h.this }
+here_up l h = record { trees = trees_up l h.trees; opens = h.opens; fields = h.fields; own = h.own; round = heap.round_up l h.round; ready = ready_up l h.ready; this = value_up l h.this }
 
 -- ---- the object that has the globals
 
@@ -145,6 +146,7 @@ bind_name_rel {v = v} s x i free own r = record {
     lines = g.lines;
     built_ins = g.built_ins;
     shaped = shapes.step_shaped u (binds s.one x v) g.heap.left g.shaped (value_below g (value_up l r));
+    kept = kept_set g.kept g.heap s (l.slots s i) x v (λ c. absurd (cc (sym free ∙ c)));
   });
 }
 
@@ -178,13 +180,16 @@ module _ {W : World} {s t : Store} (n : ℕ) (g : StoreRel W s t) (x : List ℕ)
   reached_rel (is_sealed {e = c} {f = d} r) e i j = both_values c d i j r
   reached_rel is_unused e i j = absurd (cc e)
 
+pub read_round_rel : {V : World} (fs : List Frame) (a b : Here) (x : List ℕ) → Round V fs a.env b.env → is_reserved V.opens x ≡ false → is_reached false (resolve fs x) ≡ true
+    → Agrees V (read_name a x) (read_name b x)
+read_round_rel fs a b x o own e = record {
+  run = λ W l s t n g.
+      reached_rel n g x (read x) give (λ d u m. refl) (bind_rel (outside_rel x) (λ X j r q p. read_rel x p)) (λ X j v w r. give_rel r) a.env b.env (heap.name_found g.heap x (heap.round_up l o) (reserved_up x l own)) e refl refl;
+}
+
 pub read_name_rel : {V : World} (k : Around) (fs : List Frame) (a b : Here) (x : List ℕ) → (h : HereRel V k fs a b) → name_stands h.trees.demand false fs x ≡ true → is_reached false (resolve fs x) ≡ true
     → Agrees V (read_name a x) (read_name b x)
-read_name_rel k fs a b x h f e = record {
-  run = λ W l s t n g.
-      let i = here_up l h in
-      reached_rel n g x (read x) give (λ d u m. refl) (bind_rel (outside_rel x) (λ X j r q p. read_rel x p)) (λ X j v w r. give_rel r) a.env b.env (heap.name_found g.heap x i.round (own_name false x i f)) e refl refl;
-}
+read_name_rel k fs a b x h f e = read_round_rel fs a b x h.round (own_name false x h f) e
 
 type_of_rel : {V : World} {r q : Reference} (x : List ℕ) → ReferenceRel x V r q → Agrees V (type_of_reference x r) (type_of_reference x q)
 type_of_rel x (bound s i free own) = also_rel (bound_rel s x i free own) (λ W l v w r. give_type_rel r)

@@ -184,7 +184,7 @@ plain_rel : {V : World} {p q : Option ObjId} → Maybe (ObjectIds (named V)) p q
 plain_rel h = record { class = plain; proto = h; extensible = refl; closed = refl; props = no_entries }
 
 new_with_rel : {V : World} {p q : Option ObjId} {v w : Value} → Maybe (ObjectIds (named V)) p q → ValueRel (named V) v w → Agrees V (new_with p v) (new_with q w)
-new_with_rel {p = p} {q = q} h k = bind_rel (make_rel (new_object class.Plain p) (new_object class.Plain q) (new_fit class.Plain p) (new_fit class.Plain q) (plain_rel h) refl (λ W l s t g. tt))
+new_with_rel {p = p} {q = q} h k = bind_rel (make_rel (new_object class.Plain p) (new_object class.Plain q) (new_fit class.Plain p) (new_fit class.Plain q) (plain_rel h) refl refl (λ W l s t g. tt))
     (λ W l a b n. with_given_rel (value_up l k) a b n)
 
 pub create_rel : {V : World} {p q v w : Value} → ValueRel (named V) p q → ValueRel (named V) v w → Agrees V (create p v) (create q w)

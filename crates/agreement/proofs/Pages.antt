@@ -3,8 +3,8 @@ use Rattle.std.proofs.Common.{◌≡◌, refl, true, List, [], ◌∷◌, sym, a
 use Rattle.page_meaning.specs.Pristine.{pristine}
 use Rattle.instrumenter.specs.Opening.{open_from, open_script, open_tops}
 use Rattle.instrumenter.specs.Counting.{stmts_scopes}
-use Rattle.agreement.proofs.Unopened.{equal_trees, stmts_use, tops_same, unopened}
-use Rattle.agreement.specs.Opened.{HasTrees, function_stands, opened_code, scripts_stand, stmts_stand}
+use Rattle.agreement.proofs.Unopened.{equal_trees, stmts_use, tops_same}
+use Rattle.agreement.specs.Opened.{HasTrees, equal, function_stands, opened_code, opening, scripts_stand, stmts_stand}
 use Rattle.std.proofs.lemmas.Bool.{and_from, and_parts}
 use Rattle.js_core.specs.Tree as tree
 use Rattle.page_meaning.specs.Laws.{LoadsSound}
@@ -13,18 +13,18 @@ use Rattle.page_meaning.specs.Store.{Store}
 use Rattle.page_meaning.specs.Tasks.{Script, after_task}
 use Rattle.heap_relations.specs.Naming.{World}
 use Rattle.agreement.specs.Acts.{StoreRel, AddedRel}
-use Rattle.agreement.specs.Laws.{FittingPagesAgree, PagesAgree, OpenedPagesAgree}
-use Rattle.agreement.specs.Trees.{any_code, scripts_fit, stmts_fit, code_fits}
-use Rattle.agreement.proofs.Beginning.{pristine_stores, pristine_trees, opened_trees, pristine_world}
+use Rattle.agreement.specs.Laws.{PagesAgree, OpenedPagesAgree, StandingPagesAgree}
+use Rattle.agreement.specs.Trees.{scripts_fit, stmts_fit, code_fits}
+use Rattle.agreement.proofs.Beginning.{asking_trees, asking_world, pristine_stores, pristine_trees, opened_trees, pristine_world}
 use Rattle.agreement.proofs.Ends.{LaterRel}
 use Rattle.agreement.proofs.EqualTrees.{trees_up, equal_up}
-use Rattle.agreement.proofs.Fitting.{any_script_fits}
+use Rattle.agreement.proofs.Fitting.{script_fits}
 use Rattle.agreement.proofs.Tasks.{after_script_rel, at_once, later_up, run_all_rel, top_around}
 
 -- all scripts fit in no frames
-all_scripts_fit : (bodies : List tree.Stmts) → scripts_fit any_code bodies ≡ true
+all_scripts_fit : (bodies : List tree.Stmts) → scripts_fit bodies ≡ true
 all_scripts_fit [] = refl
-all_scripts_fit (body ∷ bodies) = and_from (stmts_fit any_code [] body) (scripts_fit any_code bodies) (any_script_fits body) (all_scripts_fit bodies)
+all_scripts_fit (body ∷ bodies) = and_from (stmts_fit [] body) (scripts_fit bodies) (script_fits body) (all_scripts_fit bodies)
 
 -- the scripts of the right, which are opened or not
 abbrev pub scripts_opened : Bool → ℕ → List tree.Stmts → List tree.Stmts
@@ -47,32 +47,39 @@ scripts_same : (n : ℕ) (bodies : List tree.Stmts) → scripts_opened false n b
 scripts_same n [] = refl
 scripts_same n (body ∷ bodies) = λ i. tops_same n body i ∷ scripts_same (n + stmts_scopes body) bodies i
 
-scripts_use : (asks : tree.Code → Bool) (n : ℕ) (bodies : List tree.Stmts) → scripts_fit asks bodies ≡ true → scripts_stand (unopened asks) n bodies ≡ true
-scripts_use asks n [] h = refl
-scripts_use asks n (body ∷ bodies) h =
-    let both = and_parts (stmts_fit asks [] body) (scripts_fit asks bodies) h in
-    and_from (stmts_stand (unopened asks) n [] body) (scripts_stand (unopened asks) (n + stmts_scopes body) bodies) (sym (stmts_use asks n [] body) ∙ both.0) (scripts_use asks (n + stmts_scopes body) bodies both.1)
-
-pub fitting_pages_agree : LoadsSound → FittingPagesAgree
-fitting_pages_agree sound asks scripts es fit =
-    let equal = pristine_trees asks in
-    let begun = pristine_stores false (λ n fs c. c) (λ n. code_fits asks) (sound []) in
-    let opened = after_scripts_rel 1 scripts (equal_trees equal) (scripts_use asks 1 scripts fit) begun in
-    let loaded : LaterRel (pristine_world asks) (load_of scripts) (load_of scripts) = subst (λ bodies. LaterRel (pristine_world asks) (load_of scripts) (after_scripts bodies pristine)) (scripts_same 1 scripts) opened in
-    let trees = equal_up loaded.larger equal in
-    let after = run_all_rel {V = loaded.world} {s = load_of scripts} {t = load_of scripts} es (equal_trees trees) loaded.stores in
-    record {
-      world = after.world;
-      trees = equal_up after.larger trees;
-      asked = refl;
-      none_rebuilt = sym (loaded.larger.bases ∙ after.larger.bases);
-      stores = after.stores;
-    }
+scripts_use : (n : ℕ) (bodies : List tree.Stmts) → scripts_fit bodies ≡ true → scripts_stand equal n bodies ≡ true
+scripts_use n [] h = refl
+scripts_use n (body ∷ bodies) h =
+    let both = and_parts (stmts_fit [] body) (scripts_fit bodies) h in
+    and_from (stmts_stand equal n [] body) (scripts_stand equal (n + stmts_scopes body) bodies) (sym (stmts_use n [] body) ∙ both.0) (scripts_use (n + stmts_scopes body) bodies both.1)
 
 pub pages_agree : LoadsSound → PagesAgree
 pages_agree sound scripts es =
-    let h = fitting_pages_agree sound any_code scripts es (all_scripts_fit scripts) in
-    record { world = h.world; trees = h.trees; stores = h.stores }
+    let begun = pristine_stores false (λ n fs c. c) (λ n. code_fits) (sound []) in
+    let opened = after_scripts_rel 1 scripts (equal_trees pristine_trees) (scripts_use 1 scripts (all_scripts_fit scripts)) begun in
+    let loaded : LaterRel pristine_world (load_of scripts) (load_of scripts) = subst (λ bodies. LaterRel pristine_world (load_of scripts) (after_scripts bodies pristine)) (scripts_same 1 scripts) opened in
+    let trees = equal_up loaded.larger pristine_trees in
+    let after = run_all_rel {V = loaded.world} {s = load_of scripts} {t = load_of scripts} es (equal_trees trees) loaded.stores in
+    record { world = after.world; trees = equal_up after.larger trees; stores = after.stores }
+
+-- ---- trees of which more is asked
+
+pub standing_pages_agree : LoadsSound → StandingPagesAgree
+standing_pages_agree sound d scripts es closed stand =
+    let world = asking_world d in
+    let trees = asking_trees d closed in
+    let begun = pristine_stores false (λ n fs c. c) (function_stands d) (sound []) in
+    let same : scripts_opened d.opens 1 scripts ≡ scripts = ap (λ o. scripts_opened o 1 scripts) closed ∙ scripts_same 1 scripts in
+    let loaded : LaterRel world (load_of scripts) (load_of scripts) = subst (λ bodies. LaterRel world (load_of scripts) (after_scripts bodies pristine)) same (after_scripts_rel 1 scripts trees stand begun) in
+    let then_trees = trees_up loaded.larger trees in
+    let after = run_all_rel {V = loaded.world} {s = load_of scripts} {t = load_of scripts} es then_trees loaded.stores in
+    record {
+      world = after.world;
+      trees = trees_up after.larger then_trees;
+      demanded = refl;
+      none_rebuilt = sym (loaded.larger.bases ∙ after.larger.bases);
+      stores = after.stores;
+    }
 
 -- ---- opened trees
 
@@ -81,9 +88,9 @@ scripts_are n [] = refl
 scripts_are n (body ∷ bodies) = ap (λ rest. open_script n body ∷ rest) (scripts_are (n + stmts_scopes body) bodies)
 
 pub opened_pages_agree : LoadsSound → OpenedPagesAgree
-opened_pages_agree sound asks scripts es stand =
-    let trees = opened_trees asks in
-    let loaded = after_scripts_rel 1 scripts trees stand (pristine_stores true (opened_code true) (function_stands (record { opens = true; asks = asks })) (sound [])) in
+opened_pages_agree sound scripts es stand =
+    let trees = opened_trees in
+    let loaded = after_scripts_rel 1 scripts trees stand (pristine_stores true (opened_code true) (function_stands opening) (sound [])) in
     let after = run_all_rel {V = loaded.world} {s = load_of scripts} {t = load_of (scripts_opened true 1 scripts)} es (trees_up loaded.larger trees) loaded.stores in
     let lines = subst (λ b. AddedRel b (run_of scripts es).lines (run_of (scripts_opened true 1 scripts) es).lines) (sym (loaded.larger.before ∙ after.larger.before)) after.stores.lines in
     lines.one ∙ sym lines.two ∙ ap (λ bodies. (run_of bodies es).lines) (scripts_are 1 scripts)

@@ -8,13 +8,12 @@ use Rattle.instrumenter.specs.Counting.{scripts_scopes, stmts_scopes}
 use Rattle.instrumenter.specs.Opened.{IsPlainScript}
 use Rattle.page_meaning.specs.Laws.{LoadsSound}
 use Rattle.agreement.specs.Laws.{PlainPagesAgree}
-use Rattle.agreement.specs.Opened.{Demand, scripts_stand, stmts_stand}
-use Rattle.agreement.specs.Trees.{any_code}
+use Rattle.agreement.specs.Opened.{opening, Demand, scripts_stand, stmts_stand}
 use Rattle.agreement.proofs.OpenedStands.{plain_scripts_stand}
 use Rattle.agreement.proofs.Pages.{opened_pages_agree}
 
 abbrev demand : Demand
-demand = record { opens = true; asks = any_code }
+demand = opening
 
 plain_scripts_all_stand : (n : ℕ) (scripts : List tree.Stmts) → All IsPlainScript scripts → n + scripts_scopes scripts < 2 ^ 64
     → scripts_stand demand n scripts ≡ true
@@ -28,4 +27,4 @@ plain_scripts_all_stand n (body ∷ bodies) all few =
 
 pub plain_pages_agree : LoadsSound → PlainPagesAgree
 plain_pages_agree sound scripts es all few =
-    sym (opened_pages_agree sound any_code scripts es (plain_scripts_all_stand 1 scripts all few))
+    sym (opened_pages_agree sound scripts es (plain_scripts_all_stand 1 scripts all few))

@@ -1,7 +1,5 @@
--- What a naming tells of an object: a page's function passes the test, and what an object refers to is named as the object is.
-use Rattle.std.proofs.Common.{◌≡◌, sym, subst, ◌∙◌, ℕ, ◌<◌, Bool, true, List, [], ◌∷◌, Option, length}
-use Rattle.std.proofs.lemmas.Bool.{and_parts}
-use Rattle.std.specs.Option.{ForSome}
+-- What a naming tells of an object: a page's function fits its frames, and what an object refers to is named as the object is.
+use Rattle.std.proofs.Common.{◌≡◌, subst, ℕ, true, List, [], ◌∷◌, Option}
 use Rattle.js_core.specs.Tree as tree
 use Rattle.js_values.specs.declared.ids.EnvId.{EnvId}
 use Rattle.js_values.specs.declared.ids.ObjId.{ObjId}
@@ -17,17 +15,16 @@ use Rattle.heap_relations.proofs.Callers as heap
 use Rattle.heap_relations.specs.Naming.{Frame, In, Named, named, Round, World, here, there}
 use Rattle.heap_relations.specs.Related.{ClassRel, Each, Entries, Maybe, ObjectIds, ObjectRel, PropRel, ValueRel, array, bound, each, entry, event, fault, math, native, no_entries, no_more, node, none, null, num, object, page, plain, some, text, truth, undefined, window}
 use Rattle.agreement.specs.Acts.{StoreRel}
-use Rattle.agreement.specs.Trees.{HasEqualTrees, code_fits}
 
 -- ---- functions
 
 -- a function fits its frames, and stands in them
-record Fitting (W : World) (c : tree.Code) (env : Option EnvId) : Type 0 where
-  frames : List Frame
-  number : ℕ
-  fits : W.fits number frames c ≡ true
-  others : Option EnvId
-  round : Round W frames env others
+pub record Fitting (W : World) (c : tree.Code) (env : Option EnvId) : Type 0 where
+  pub frames : List Frame
+  pub number : ℕ
+  pub fits : W.fits number frames c ≡ true
+  pub others : Option EnvId
+  pub round : Round W frames env others
 
 function_fits : {W : World} {d e : Class} {c : tree.Code} {env : Option EnvId} → ClassRel (named W) d e → d ≡ class.Page c env → Fitting W c env
 function_fits plain is = absurd (cc is)
@@ -50,16 +47,10 @@ function_fits window is = absurd (cc is)
 function_fits (node n) is = absurd (cc is)
 function_fits (event p) is = absurd (cc is)
 
-asked : (asks : tree.Code → Bool) (fs : List Frame) (c : tree.Code) → code_fits asks fs c ≡ true → asks c ≡ true
-asked asks fs (tree.code x formals body) h = (and_parts _ _ h).0
-
--- a page's function passes the test, and its environment is there
-pub function_read : {W : World} {s t : Store} {k l : ℕ} {c : tree.Code} {env : Option EnvId} → StoreRel W s t → (trees : HasEqualTrees W)
-    → Named W k l
-    → (object_at s.heap.objects k).class ≡ class.Page c env → (trees.asks c ≡ true) × ForSome env (λ e. e.0 < length s.heap.environments)
-function_read {c = c} g trees n is =
-    let h = function_fits (heap.class_read g.heap n) is in
-    (asked trees.asks h.frames c (sym (trees.fits h.number h.frames c) ∙ h.fits), (heap.round_there g.heap h.round).0)
+-- so does a page's function that is named
+pub function_read : {W : World} {s t : Store} {k l : ℕ} {c : tree.Code} {env : Option EnvId} → StoreRel W s t → Named W k l
+    → (object_at s.heap.objects k).class ≡ class.Page c env → Fitting W c env
+function_read g n is = function_fits (heap.class_read g.heap n) is
 
 -- ---- links
 

@@ -24,6 +24,7 @@ use Rattle.heap_relations.proofs.Callers as heap
 use Rattle.heap_relations.specs.Naming.{Captured, FoundRel, Frame, In, InScope, Larger, Place, Slot, World, env_id, is_captured, is_copied, is_free, is_reserved, is_sealed, is_unused, named, nowhere as unbound, resolve, scope_name}
 use Rattle.heap_relations.specs.Related.{ValueRel}
 use Rattle.instrumenter.specs.Around.{Around}
+use Rattle.agreement.proofs.Constants.{kept_set}
 use Rattle.agreement.proofs.Linked.{value_below}
 use Rattle.agreement.proofs.Names.{GoesOn, here_up, own_name, reserved_up, value_at}
 use Rattle.agreement.specs.Acts.{ActRel, Agrees, Continues, OutcomeRel, Relation, SignalRel, StoreRel, ended, value as given}
@@ -155,5 +156,6 @@ write_field_rel {v = v} {w = w} x z i h = record {
         lines = g.lines;
         built_ins = g.built_ins;
         shaped = shapes.step_shaped s (binds z.one x v) g.heap.left g.shaped (value_below g (heap.value_up l h));
+        kept = kept_set g.kept g.heap z j.there x v (λ c. absurd (cc (sym j.held ∙ c)));
       }));
 }

@@ -26,16 +26,17 @@ use Rattle.page_meaning.specs.declared.reference.Reference.TheVariants as refere
 use Rattle.page_meaning.specs.declared.signal.Signal.TheVariants as signal
 use Rattle.heap_relations.proofs.Callers as heap
 use Rattle.heap_relations.proofs.Callers.{larger_same, scope_value}
-use Rattle.heap_relations.specs.Naming.{Copied, Frame, Larger, OwnName, Round, World, are_below, env_id, is_scope_name, named, scope_name, with_slot}
+use Rattle.heap_relations.specs.Naming.{Constant, Copied, Frame, Larger, OwnName, Round, World, are_below, env_id, is_scope_name, named, scope_name, with_slot}
 use Rattle.heap_relations.specs.Scope.{AreFresh, EntryRel, IsFillable, entered, filled, scoped_slot}
 use Rattle.object_shapes.proofs.Callers as shapes
 use Rattle.object_shapes.specs.Links.{all_below, bound_links}
 use Rattle.instrumenter.specs.Around.{var_of}
 use Rattle.scope_analysis.specs.Names.{is_among}
 use Rattle.agreement.proofs.Acts.{outcome_up}
+use Rattle.agreement.proofs.Constants.{kept_opened, not_done, older_now, ready_up}
 use Rattle.agreement.proofs.Entries.{Enters, enters}
 use Rattle.agreement.proofs.Made.{object_place}
-use Rattle.agreement.specs.Acts.{Agrees, StoreRel}
+use Rattle.agreement.specs.Acts.{Agrees, IsReady, StoreRel}
 use Rattle.agreement.specs.Opened.{is_numbered, kept_in, scope_frame}
 
 -- ---- an object literal, whose values need no more than the environments
@@ -86,14 +87,20 @@ begins_run d b z fs vs _ t n q old by_assignment found have fresh =
 
 -- ---- both enter
 
+never_constant : (b c : Bool) → kept_in b c false ≡ Constant → ⊥
+never_constant true true e = cc e
+never_constant true false e = cc e
+never_constant false true e = cc e
+never_constant false false e = cc e
+
 -- what the literal has in these pages, where the left binds names, and the right others
 pub record Filling (W : World) (s t : Store) (d : Calls) (this : Value) (fields : List (List ℕ)) (n : ℕ) (bound : List ℕ → Bool) (fs : List Frame) (e f : Option EnvId) (names others : Bound) (lit : tree.Fields) : Type 0 where
   pub values : Bound
   pub known : List ℕ → Value
   pub have : FieldsHave d (record { env = Some (env_id (length t.heap.environments)); this = this }) (opened t.heap f others).environments lit values
   pub fresh : AreFresh [] values
-  pub same : (x : List ℕ) → is_scope_name x ≡ false → EntryRel (named W) (known x) (kept_in (is_among x fields) (bound x)) (value_of names x) (value_of others x) (value_of values x)
-  pub own : (x : List ℕ) → kept_in (is_among x fields) (bound x) ≡ Copied → OwnName W (scoped_slot s.heap t.heap (λ y. kept_in (is_among y fields) (bound y)) n fs known) x e
+  pub same : (x : List ℕ) → is_scope_name x ≡ false → EntryRel (named W) (known x) (kept_in (is_among x fields) (bound x) false) (value_of names x) (value_of others x) (value_of values x)
+  pub own : (x : List ℕ) → kept_in (is_among x fields) (bound x) false ≡ Copied → OwnName W (scoped_slot s.heap t.heap (λ y. kept_in (is_among y fields) (bound y) false) n fs known) x e
 
 -- a name that a new environment binds
 pub found_new : (h : Contents) → IsSound h → (f : Option EnvId) (others : Bound) (z : List ℕ) (old : Value) → value_of others z ≡ Some old
@@ -115,20 +122,20 @@ new_name_run d this h f others z v sound there u m same =
     (ap (λ es. look_in es (Some k) z) same ∙ found_new h sound f others z v there)
 
 pub enter_scoped : {V : World} (d : Calls) (this : Value) (y : List ℕ) (ys : List (List ℕ)) (n : ℕ) (bound : List ℕ → Bool) (fs : List Frame) (e f : Option EnvId) (names others : Bound) (old : Value) (lit : tree.Fields) (begin : tree.Stmt)
-    (L R : EnvId → Act) (Q : Act) → V.opens ≡ true → Begins (scope_name n) lit begin → Round V fs e f → is_numbered n (y ∷ ys) fs ≡ true
+    (L R : EnvId → Act) (Q : Act) → V.opens ≡ true → Begins (scope_name n) lit begin → Round V fs e f → IsReady V e → is_numbered n (y ∷ ys) fs ≡ true
     → ((k : ℕ) → k < 2 ^ 64 → value_of others (scope_name k) ≡ (if nat_eq k n then Some old else None))
     → ((W : World) → Larger V W → (s t : Store) → StoreRel W s t → all_below (length s.heap.objects) (bound_links names) ≡ true)
     → ((W : World) → Larger V W → (s t : Store) → StoreRel W s t → Filling W s t d this (y ∷ ys) n bound fs e f names others lit)
-    → ((W : World) → Larger V W → (p q : EnvId) → Enters W (scope_frame (y ∷ ys) n bound) fs p q → Agrees W (L p) (R q))
+    → ((W : World) → Larger V W → (p q : EnvId) → Enters W (scope_frame (y ∷ ys) n bound (λ z. false)) fs p q → Agrees W (L p) (R q))
     → ((t u : Store) (m : ℕ) → (exec d (record { env = Some (env_id (length t.heap.environments)); this = this }) begin).run (with_heap t (opened t.heap f others)) m ≡ Ended nothing u m
     → Q.run t m ≡ (R (env_id (length t.heap.environments))).run u m)
     → Agrees V (bind (make_environment e names) L) Q
-enter_scoped {V = V} d this y ys n bound fs e f names others old lit begin L R Q opened_there begins o numbered hidden below filling go rest = record {
+enter_scoped {V = V} d this y ys n bound fs e f names others old lit begin L R Q opened_there begins o ready numbered hidden below filling go rest = record {
   run = λ W l s t m g.
       let z = filling W l s t g in
       let parts = and_parts (nat_lt n 18446744073709551616) (are_below n fs) numbered in
       let small : n < 2 ^ 64 = omega (arith, ltb-true n 18446744073709551616 parts.0) in
-      let slot = scoped_slot s.heap t.heap (λ x. kept_in (is_among x (y ∷ ys)) (bound x)) n fs z.known in
+      let slot = scoped_slot s.heap t.heap (λ x. kept_in (is_among x (y ∷ ys)) (bound x) false) n fs z.known in
       let up = heap.larger_slot {W = W} slot in
       let p = env_id (length s.heap.environments) in
       let q = env_id (length t.heap.environments) in
@@ -140,14 +147,16 @@ enter_scoped {V = V} d this y ys n bound fs e f names others old lit begin L R Q
       in
       let right : Q.run t m ≡ (R q).run after m = rest t after m ran in
       let stores : StoreRel (with_slot W slot) (with_heap s (opened s.heap e names)) after = record {
-        heap = heap.scope_entered W s.heap t.heap e f names others (Some object_prototype) (λ x. kept_in (is_among x (y ∷ ys)) (bound x)) n fs z.values old z.known g.heap (sym l.opens ∙ opened_there) (heap.round_up l o) small parts.1
+        heap = heap.scope_entered W s.heap t.heap e f names others (Some object_prototype) (λ x. kept_in (is_among x (y ∷ ys)) (bound x) false) n fs z.values old z.known g.heap (sym l.opens ∙ opened_there) (heap.round_up l o) small parts.1
             (λ a i. prototype_there a i (heap.there g.heap (g.built_ins object_prototype.0 object_place)).1) z.fresh z.same z.own hidden;
         lines = g.lines;
         built_ins = λ k few. heap.named_up up (g.built_ins k few);
         shaped = shapes.step_shaped s (opens e names) g.heap.left g.shaped (below W l s t g);
+        kept = kept_opened g.kept g.heap slot e names refl (heap.round_there g.heap (heap.round_up l o)).0 (older_now g.kept (ready_up l ready))
+            (λ x c. absurd (never_constant (is_among x (y ∷ ys)) (bound x) c)) (λ x p c. absurd (never_constant (is_among x (y ∷ ys)) (bound x) c)) (λ p. omega arith) (not_done g.kept);
       }
       in
-      rw right (outcome_up up ((go (with_slot W slot) (heap.larger_more l up) p q (enters slot (heap.named_slot W slot))).run (with_slot W slot) larger_same (with_heap s (opened s.heap e names)) after m stores));
+      rw right (outcome_up up ((go (with_slot W slot) (heap.larger_more l up) p q (enters slot (heap.named_slot W slot) (λ x p. absurd (cc p)))).run (with_slot W slot) larger_same (with_heap s (opened s.heap e names)) after m stores));
 }
   where
     prototype_there : {k : ℕ} (a : ObjId) → Some object_prototype ≡ Some a → object_prototype.0 < k → a.0 < k

@@ -19,7 +19,8 @@ use Rattle.instrumenter.proofs.Callers.{Among, Each, Fails, Leaving, Missing, St
 use Rattle.scope_chains.proofs.Callers.{entry_bound}
 use Rattle.heap_relations.specs.Naming.{Absent, Frame, Place, Sealed, are_below, is_scope_name, resolve, resolved}
 use Rattle.heap_relations.specs.Scope.{own_frame}
-use Rattle.agreement.specs.Opened.{are_plain, clause_frame, clause_may_open, frames_round, function_frame, is_bound, is_numbered, is_round, is_sealed, kept_in, may_open, may_use, number_in, opened_at, scope_frame}
+use Rattle.agreement.proofs.Unset.{unset_clause, unset_frame}
+use Rattle.agreement.specs.Opened.{are_plain, clause_may_open, frames_round, is_bound, is_numbered, is_round, is_sealed, kept_in, may_open, may_use, number_in, opened_at, scope_frame}
 use Rattle.agreement.proofs.StandsPieces.{Allowed, Piece, inner, plain_name, still_below, with_uses}
 
 each_pair : (P Q R : Use → Type 0) → ((u : Use) → P u → Q u → R u) → (us : List Use) → Each P us → Each Q us → Each R us
@@ -30,20 +31,20 @@ each_pair P Q R so (u ∷ us) h k = (so u h.0 k.0, each_pair P Q R so us h.1 k.1
 
 -- what is bound in it may be assigned, and no other name is a field that is assigned
 assigned_in : (field bound : Bool) (n : ℕ) (outer : Place) → (bound ≡ false → (field ≡ false) × (may_use true true outer ≡ true))
-    → may_use true true (resolved (kept_in field bound) n outer) ≡ true
+    → may_use true true (resolved (kept_in field bound false) n outer) ≡ true
 assigned_in true true n outer h = refl
 assigned_in false true n outer h = refl
 assigned_in true false n outer h = cc (h refl).0
 assigned_in false false n outer h = (h refl).1
 
-read_in : (field bound : Bool) (n : ℕ) (outer : Place) → may_use true false outer ≡ true → may_use true false (resolved (kept_in field bound) n outer) ≡ true
+read_in : (field bound : Bool) (n : ℕ) (outer : Place) → may_use true false outer ≡ true → may_use true false (resolved (kept_in field bound false) n outer) ≡ true
 read_in true true n outer h = refl
 read_in false true n outer h = refl
 read_in true false n outer h = refl
 read_in false false n outer h = h
 
 below_inside : (fields : List (List ℕ)) (n : ℕ) (bound : List ℕ → Bool) (fs : List Frame) → are_below n fs ≡ true
-    → are_below (next_number fields n) (scope_frame fields n bound ∷ fs) ≡ true
+    → are_below (next_number fields n) (scope_frame fields n bound (λ y. false) ∷ fs) ≡ true
 below_inside [] n bound fs h = h
 below_inside (x ∷ xs) n bound fs h = and_from (nat_lt n (suc n)) (are_below (suc n) fs) (lt-ltb n (suc n) (omega arith)) (still_below n (suc n) fs (omega arith) h)
 
@@ -57,7 +58,7 @@ numbered (x ∷ xs) n k fs few below = and_from (nat_lt n 18446744073709551616) 
 
 -- the piece in the frame of a scope with these fields
 inside : {us : List Use} {k n : ℕ} {fs : List Frame} (any : (Node → Bool) → Bool) (fields : List (List ℕ)) (bound : List ℕ → Bool) (vs : List Use)
-    → Each (Allowed (scope_frame fields n bound ∷ fs)) vs → Piece any us (count_of fields + k) n fs → Piece any vs k (next_number fields n) (scope_frame fields n bound ∷ fs)
+    → Each (Allowed (scope_frame fields n bound (λ y. false) ∷ fs)) vs → Piece any us (count_of fields + k) n fs → Piece any vs k (next_number fields n) (scope_frame fields n bound (λ y. false) ∷ fs)
 inside {k = k} {n = n} {fs = fs} any fields bound vs allowed h = record {
   plain = h.plain;
   deletes = h.deletes;
@@ -164,7 +165,7 @@ module _ (own x : Option (List ℕ)) (formals : List (List ℕ)) (body : tree.St
       (each_among (λ z. Among z names) (declared_names body) (λ z there. among_right z (maybe_name own) (formals ++ declared_names body) (among_right z formals (declared_names body) there))) in
       false_from_ne_true (is_among y fields) (λ there. never_both (is_among y names) (each_at (λ z. Among z names) fields y named there) away)
 
-  use_allowed : (u : Use) → Leaving (Allowed fs) names u → Unassigned own u → Allowed (function_frame fields n formals body ∷ fs) u
+  use_allowed : (u : Use) → Leaving (Allowed fs) names u → Unassigned own u → Allowed (unset_frame fields n formals body ∷ fs) u
   use_allowed u leaves kept assigns =
       assigned_in (is_among u.name fields) (is_bound formals body u.name) (number_in fields n) (resolve fs u.name) (λ e.
       let free : Missing u.name (formals ++ declared_names body) =
@@ -174,9 +175,9 @@ module _ (own x : Option (List ℕ)) (formals : List (List ℕ)) (body : tree.St
       (no_field u.name away, leaves away assigns))
 
   body_allowed : Each (Leaving (Allowed fs) names) (stmts_uses body) → assigns_maybe own (stmts_uses body) ≡ false
-      → Each (Allowed (function_frame fields n formals body ∷ fs)) (stmts_uses body)
+      → Each (Allowed (unset_frame fields n formals body ∷ fs)) (stmts_uses body)
   body_allowed leave kept =
-      each_pair (Leaving (Allowed fs) names) (Unassigned own) (Allowed (function_frame fields n formals body ∷ fs)) use_allowed (stmts_uses body) leave
+      each_pair (Leaving (Allowed fs) names) (Unassigned own) (Allowed (unset_frame fields n formals body ∷ fs)) use_allowed (stmts_uses body) leave
       (unassigned own (stmts_uses body) kept)
 
   opens : is_numbered n fields fs ≡ true → Each Plain (maybe_name own) → Each Plain formals → Each Plain (declared_names body)
@@ -207,7 +208,7 @@ module _ (own x : Option (List ℕ)) (formals : List (List ℕ)) (body : tree.St
 pub record Opens (n : ℕ) (fs : List Frame) (x own : Option (List ℕ)) (fields formals : List (List ℕ)) (body : tree.Stmts) : Type 0 where
   pub plain : are_plain true (maybe_name x) ≡ true
   pub opens : may_open true n fs own fields formals body ≡ true
-  pub piece : Piece (λ t. stmts_any t body) (stmts_uses body) (stmts_scopes body) (next_number fields n) (function_frame fields n formals body ∷ fs)
+  pub piece : Piece (λ t. stmts_any t body) (stmts_uses body) (stmts_scopes body) (next_number fields n) (unset_frame fields n formals body ∷ fs)
 
 module _ (x : Option (List ℕ)) (formals : List (List ℕ)) (body : tree.Stmts) where
   identifiers_plain : list_any identifiers.is_reserved (maybe_name x ++ formals) ≡ false → Each Plain (maybe_name x) × Each Plain formals
@@ -263,7 +264,7 @@ module _ (x : Option (List ℕ)) (formals : List (List ℕ)) (body : tree.Stmts)
 
 pub record ClauseOpens (n : ℕ) (fs : List Frame) (x : List ℕ) (ss : tree.Stmts) : Type 0 where
   pub opens : clause_may_open true n fs (clause_fields x ss) x ≡ true
-  pub piece : Piece (λ t. stmts_any t ss) (stmts_uses ss) (stmts_scopes ss) (next_number (clause_fields x ss) n) (clause_frame (clause_fields x ss) n x ∷ fs)
+  pub piece : Piece (λ t. stmts_any t ss) (stmts_uses ss) (stmts_scopes ss) (next_number (clause_fields x ss) n) (unset_clause (clause_fields x ss) n x ∷ fs)
 
 pub clause_opens : (x : List ℕ) (ss : tree.Stmts) {n : ℕ} {fs : List Frame}
     → Piece (λ t. catch_any t (one_catch x ss)) (catch_uses (one_catch x ss)) (catch_scopes (one_catch x ss)) n fs → ClauseOpens n fs x ss
@@ -271,7 +272,7 @@ clause_opens x ss {n = n} {fs = fs} h = record {
   opens = and_from _ _ (numbered (clause_fields x ss) n (stmts_scopes ss) fs h.few h.below)
       (and_from _ true (plain_name x (left_of (identifiers.is_reserved x) false (left_of _ _ h.plain))) refl);
   piece = inside (λ t. stmts_any t ss) (clause_fields x ss) (λ y. is_among y (x ∷ [])) (stmts_uses ss)
-      (each_so (Staying (Allowed fs) x) (Allowed (clause_frame (clause_fields x ss) n x ∷ fs)) stays (stmts_uses ss) (staying_to (Allowed fs) x (stmts_uses ss) h.allowed))
+      (each_so (Staying (Allowed fs) x) (Allowed (unset_clause (clause_fields x ss) n x ∷ fs)) stays (stmts_uses ss) (staying_to (Allowed fs) x (stmts_uses ss) h.allowed))
       (inner _ (λ t. stmts_any t ss) h);
 }
   where
@@ -279,7 +280,7 @@ clause_opens x ss {n = n} {fs = fs} h = record {
     no_other true y e = e
     no_other false y e = refl
 
-    stays : (u : Use) → Staying (Allowed fs) x u → Allowed (clause_frame (clause_fields x ss) n x ∷ fs) u
+    stays : (u : Use) → Staying (Allowed fs) x u → Allowed (unset_clause (clause_fields x ss) n x ∷ fs) u
     stays u out assigns =
         assigned_in (is_among u.name (clause_fields x ss)) (is_among u.name (x ∷ [])) (number_in (clause_fields x ss) n) (resolve fs u.name)
         (λ e. (no_other (is_captured x (stmts_uses ss)) u.name e, out (left_of (bytes_eq u.name x) false e) assigns))

@@ -27,11 +27,12 @@ use Rattle.heap_relations.proofs.Callers.{larger_more, larger_same}
 use Rattle.heap_relations.specs.Naming.{Larger, World, outermost, Itself}
 use Rattle.heap_relations.specs.Related.{no_more, undefined}
 use Rattle.object_shapes.specs.Links.{built_in_count}
-use Rattle.agreement.specs.Acts.{AddedRel, Agrees, CallsRel, HasBuiltIns, StoreRel}
+use Rattle.agreement.specs.Acts as acts
+use Rattle.agreement.specs.Acts.{AddedRel, Agrees, HasBuiltIns, StoreRel}
 use Rattle.agreement.specs.Laws.{EventsAgree}
-use Rattle.agreement.specs.Opened.{HasTrees, HereRel, opened_at, stmt_stands, stmts_stand}
+use Rattle.agreement.specs.Opened.{HasTrees, HereRel, opened_at, stmt_stands, stmts_stand, PageCallsRel}
 use Rattle.agreement.proofs.Acts.{also_rel, bind_rel, on_built_ins, ret_rel}
-use Rattle.agreement.proofs.Called.{calls_up}
+use Rattle.agreement.proofs.SparedCalls.{page_calls_up}
 use Rattle.agreement.proofs.Calling.{calls_at_rel}
 use Rattle.agreement.proofs.EqualTrees.{trees_up}
 use Rattle.agreement.proofs.Ends.{LaterRel, finished_rel}
@@ -57,10 +58,10 @@ top_fields false = refl
 -- it unfolds, so that what is asked is seen
 abbrev pub top_rel : {V : World} (trees : HasTrees V) → HasBuiltIns V → HereRel V (top_around trees.demand.opens) [] top top
 top_rel trees there =
-    record { trees = trees; opens = refl; fields = top_fields trees.demand.opens; round = outermost; this = object_value_rel window window (there window.0 window_place) }
+    record { trees = trees; opens = refl; fields = top_fields trees.demand.opens; own = λ e x. refl; round = outermost; ready = acts.outermost; this = object_value_rel window window (there window.0 window_place) }
 
 -- the functions at the top of a script do nothing where they stand
-tops_rel : {V : World} (c d : Calls) (k : Around) (n : ℕ) (a b : Here) (ss : tree.Stmts) → CallsRel V c d → (h : HereRel V k [] a b) → stmts_stand h.trees.demand n [] ss ≡ true
+tops_rel : {V : World} (c d : Calls) (k : Around) (n : ℕ) (a b : Here) (ss : tree.Stmts) → PageCallsRel V c d → (h : HereRel V k [] a b) → stmts_stand h.trees.demand n [] ss ≡ true
     → Agrees V (exec_all c a ss) (exec_all d b (open_tops k n ss))
 tops_rel c d k n a b no_stmts calls h f = done_rel
 tops_rel c d k n a b (then_stmt (function (code x formals body)) ss) calls h f =
@@ -70,21 +71,21 @@ tops_rel c d k n a b (then_stmt (function (code x formals body)) ss) calls h f =
 tops_rel c d k n a b (then_stmt s ss) calls h f =
     let both = and_parts (stmt_stands h.trees.demand n [] s) (stmts_stand h.trees.demand (n + stmt_scopes s) [] ss) f in
     act_as _ (λ t m. append_run d b (open_stmt k n s) (open_tops k (n + stmt_scopes s) ss) t m)
-    (also_dropped_rel _ _ (exec_rel c d k n [] a b s calls h both.0) (λ W l. tops_rel c d k (n + stmt_scopes s) a b ss (calls_up l calls) (here_up l h) both.1))
+    (also_dropped_rel _ _ (exec_rel c d k n [] a b s calls h both.0) (λ W l. tops_rel c d k (n + stmt_scopes s) a b ss (page_calls_up l calls) (here_up l h) both.1))
 
 -- a script, and on the right the same opened
-pub run_script_rel : {V : World} (c d : Calls) (n : ℕ) (body : tree.Stmts) → CallsRel V c d → (trees : HasTrees V)
+pub run_script_rel : {V : World} (c d : Calls) (n : ℕ) (body : tree.Stmts) → PageCallsRel V c d → (trees : HasTrees V)
     → stmts_stand trees.demand n [] body ≡ true → Agrees V (run_script c body) (run_script d (open_tops (top_around trees.demand.opens) n body))
 run_script_rel c d n body calls trees f =
     let k = top_around trees.demand.opens in
     also_rel (declare_globals_rel body k n trees refl (top_fields trees.demand.opens) f) (λ W l v w r.
     also_rel (subst (λ xs. Agrees W (global_variables (variables_of body)) (global_variables xs)) (sym (tops_variables k n body (λ x. refl))) (global_variables_rel (variables_of body))) (λ X j x y q. on_built_ins (λ Y i there.
     let up = larger_more l (larger_more j i) in
-    bind_rel (tops_rel c d k n top top body (calls_up up calls) (top_rel (trees_up up trees) there) f) (λ Z k s t e. ret_rel (λ S m. call_end_rel m e)))))
+    bind_rel (tops_rel c d k n top top body (page_calls_up up calls) (top_rel (trees_up up trees) there) f) (λ Z k s t e. ret_rel (λ S m. call_end_rel m e)))))
 
 -- a call of what a global name holds
-pub name_task_rel : {V : World} (c d : Calls) (x : List ℕ) → CallsRel V c d → Agrees V (task_of c (Name x)) (task_of d (Name x))
-name_task_rel c d x calls = also_rel (read_global_rel top top x refl refl) (λ W l f g r. calls.call W l r undefined no_more)
+pub name_task_rel : {V : World} (c d : Calls) (x : List ℕ) → PageCallsRel V c d → Agrees V (task_of c (Name x)) (task_of d (Name x))
+name_task_rel c d x calls = also_rel (read_global_rel top top x refl refl) (λ W l f g r. calls.calls.call W l r undefined no_more)
 
 pub after_script_rel : {V : World} {s t : Store} (n : ℕ) (body : tree.Stmts) → (trees : HasTrees V) → stmts_stand trees.demand n [] body ≡ true → StoreRel V s t
     → LaterRel V (after_task (Script body) s) (after_task (Script (open_tops (top_around trees.demand.opens) n body)) t)

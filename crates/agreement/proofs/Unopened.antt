@@ -10,7 +10,9 @@ use Rattle.instrumenter.specs.Around.{Around, append, before_for, before_for_in,
 use Rattle.instrumenter.specs.Fields.{clause_fields}
 use Rattle.instrumenter.specs.Opening.{open_cases, open_catch, open_declarations, open_declarators, open_expr, open_exprs, open_fields, open_function, open_holes, open_init, open_maybe, open_maybe_body, open_stmt, open_stmts, open_tops}
 use Rattle.heap_relations.specs.Naming.{Copy, Fixed, Frame, InScope, Itself, Nowhere, Place, World, resolve}
-use Rattle.agreement.specs.Opened.{Demand, HasTrees, around_of, cases_stand, catch_stands, declarator_stands, declarators_stand, deletes_no_field, expr_stands, exprs_stand, fields_stand, frames_round, function_stands, holes_stand, init_stands, are_plain, maybe_body_stands, maybe_stands, may_use, opened_code, stmt_stands, stmts_stand, target_stands}
+use Rattle.agreement.specs.Opened.{HasTrees, are_sure, around_of, begins_with_set, body_stands, equal, is_bound, is_constant, cases_stand, catch_stands, declarator_stands, declarators_stand, deletes_no_field, expr_stands, exprs_stand, fields_stand, frames_round, function_stands, holes_stand, init_stands, are_plain, maybe_body_stands, maybe_stands, may_use, opened_code, stmt_stands, stmts_stand, target_stands}
+use Rattle.agreement.proofs.Spared.{unspared_same}
+use Rattle.agreement.proofs.Unset.{unset_body}
 use Rattle.agreement.specs.Trees.{HasEqualTrees, cases_fit, catch_fits, code_fits, declarator_fits, declarators_fit, entry_frame, expr_fits, exprs_fit, fields_fit, holes_fit, init_fits, is_reached, maybe_body_fits, maybe_fits, own_frames, stmt_fits, stmts_fit, target_fits}
 
 -- no scope is opened, and no name is a field
@@ -30,7 +32,7 @@ closed_function {a = a} n own c h = record {
   own = λ x. refl;
 }
 
-closed_clause : {a : Around} (n : ℕ) (x : List ℕ) → IsClosed a → IsClosed (in_clause a n [] x)
+pub closed_clause : {a : Around} (n : ℕ) (x : List ℕ) → IsClosed a → IsClosed (in_clause a n [] x)
 closed_clause {a = a} n x h = record {
   opens = h.opens;
   fields = λ y. none_or_none (is_among y (x ∷ [])) (a.fields y) (h.fields y);
@@ -202,19 +204,16 @@ tops_same n (then_stmt s ss) = top_same n s ss (tops_same (n + stmt_scopes s) ss
 
 -- ---- what may stand where, if nothing is opened
 
-abbrev pub unopened : (tree.Code → Bool) → Demand
-unopened asks = record { opens = false; asks = asks }
-
-reached_use : (assigns : Bool) (p : Place) → is_reached assigns p ≡ may_use false assigns p
+pub reached_use : (assigns : Bool) (p : Place) → is_reached assigns p ≡ may_use false assigns p
 reached_use assigns Itself = refl
 reached_use assigns (InScope n) = refl
 reached_use assigns (Copy n) = refl
 reached_use assigns Fixed = refl
 reached_use assigns Nowhere = refl
 
-target_use : (asks : tree.Code → Bool) (fs : List Frame) (e : tree.Expr) (b c : Bool) → b ≡ c → target_fits fs e b ≡ target_stands (unopened asks) fs e c
-target_use asks fs (name x) b c h = reached_use true (resolve fs x)
-target_use asks fs e b c h = h
+target_use : (fs : List Frame) (e : tree.Expr) (b c : Bool) → b ≡ c → target_fits fs e b ≡ target_stands equal fs e c
+target_use fs (name x) b c h = reached_use true (resolve fs x)
+target_use fs e b c h = h
 
 -- deleting is not asked about
 deleted : (fs : List Frame) (op : UnaryOp) (e : tree.Expr) {b c : Bool} → b ≡ c → b ≡ (deletes_no_field false op fs e && c)
@@ -229,102 +228,106 @@ all_plain : (xs : List (List ℕ)) → are_plain false xs ≡ true
 all_plain [] = refl
 all_plain (x ∷ xs) = all_plain xs
 
-func_stands : (x : Option (List ℕ)) (a b c d : Bool) → a ≡ b → c ≡ d → (a && c) ≡ (are_plain false (maybe_name x) && (b && (true && d)))
-func_stands x a b c d h k = rw (all_plain (maybe_name x)) (at_two ◌&&◌ h k)
+func_stands : (x : Option (List ℕ)) (c d : Bool) → c ≡ d → c ≡ (are_plain false (maybe_name x) && (true && (true && d)))
+func_stands x c d k = rw (all_plain (maybe_name x)) k
 
-module _ (asks : tree.Code → Bool) where
-  mutual
-    pub expr_use : (n : ℕ) (fs : List Frame) (e : tree.Expr) → expr_fits asks fs e ≡ expr_stands (unopened asks) n fs e
-    expr_use n fs (name x) = reached_use false (resolve fs x)
-    expr_use n fs (num k) = refl
-    expr_use n fs (text x) = refl
-    expr_use n fs (bool b) = refl
-    expr_use n fs null = refl
-    expr_use n fs this = refl
-    expr_use n fs (list es) = holes_use _ fs es
-    expr_use n fs (literal es) = fields_use _ fs es
-    expr_use n fs (func (code x formals body)) =
-        func_stands x _ _ _ _ refl (ap (λ gs. stmts_fit asks (entry_frame formals body ∷ gs) body) (own_round x fs) ∙ stmts_use _ _ body)
-    expr_use n fs (member e x) = expr_use _ fs e
-    expr_use n fs (index a b) = at_two ◌&&◌ (expr_use _ fs a) (expr_use _ fs b)
-    expr_use n fs (call e es) = at_two ◌&&◌ (expr_use _ fs e) (exprs_use _ fs es)
-    expr_use n fs (construct e es) = at_two ◌&&◌ (expr_use _ fs e) (exprs_use _ fs es)
-    expr_use n fs (unary op a) = deleted fs op a (expr_use _ fs a)
-    expr_use n fs (update up prefix a) = target_use asks fs a _ _ (expr_use _ fs a)
-    expr_use n fs (binary op a b) = at_two ◌&&◌ (expr_use _ fs a) (expr_use _ fs b)
-    expr_use n fs (logical_and a b) = at_two ◌&&◌ (expr_use _ fs a) (expr_use _ fs b)
-    expr_use n fs (logical_or a b) = at_two ◌&&◌ (expr_use _ fs a) (expr_use _ fs b)
-    expr_use n fs (conditional a b c) = at_two ◌&&◌ (expr_use _ fs a) (at_two ◌&&◌ (expr_use _ fs b) (expr_use _ fs c))
-    expr_use n fs (assign op a b) = at_two ◌&&◌ (target_use asks fs a _ _ (expr_use _ fs a)) (expr_use _ fs b)
-    expr_use n fs (comma es) = exprs_use _ fs es
+-- the body of a function
+body_use : (n : ℕ) (fs : List Frame) (formals : List (List ℕ)) (body : tree.Stmts) {b : Bool} → b ≡ stmts_stand equal n fs body
+    → b ≡ (are_sure (λ x. false) formals body && body_stands (begins_with_set (is_constant equal formals body) body) equal n fs body)
+body_use n fs formals body h = h ∙ sym (unset_body formals (is_bound formals body) body equal n fs)
 
-    exprs_use : (n : ℕ) (fs : List Frame) (es : tree.Exprs) → exprs_fit asks fs es ≡ exprs_stand (unopened asks) n fs es
-    exprs_use n fs no_exprs = refl
-    exprs_use n fs (then_expr e es) = at_two ◌&&◌ (expr_use _ fs e) (exprs_use _ fs es)
+mutual
+  pub expr_use : (n : ℕ) (fs : List Frame) (e : tree.Expr) → expr_fits fs e ≡ expr_stands equal n fs e
+  expr_use n fs (name x) = reached_use false (resolve fs x)
+  expr_use n fs (num k) = refl
+  expr_use n fs (text x) = refl
+  expr_use n fs (bool b) = refl
+  expr_use n fs null = refl
+  expr_use n fs this = refl
+  expr_use n fs (list es) = holes_use _ fs es
+  expr_use n fs (literal es) = fields_use _ fs es
+  expr_use n fs (func (code x formals body)) =
+      func_stands x _ _ (body_use _ _ formals body (ap (λ gs. stmts_fit (entry_frame formals body ∷ gs) body) (own_round x fs) ∙ stmts_use _ _ body))
+  expr_use n fs (member e x) = expr_use _ fs e
+  expr_use n fs (index a b) = at_two ◌&&◌ (expr_use _ fs a) (expr_use _ fs b)
+  expr_use n fs (call e es) = at_two ◌&&◌ (expr_use _ fs e ∙ unspared_same equal (λ k. refl) n fs e) (exprs_use _ fs es)
+  expr_use n fs (construct e es) = at_two ◌&&◌ (expr_use _ fs e) (exprs_use _ fs es)
+  expr_use n fs (unary op a) = deleted fs op a (expr_use _ fs a)
+  expr_use n fs (update up prefix a) = target_use fs a _ _ (expr_use _ fs a)
+  expr_use n fs (binary op a b) = at_two ◌&&◌ (expr_use _ fs a) (expr_use _ fs b)
+  expr_use n fs (logical_and a b) = at_two ◌&&◌ (expr_use _ fs a) (expr_use _ fs b)
+  expr_use n fs (logical_or a b) = at_two ◌&&◌ (expr_use _ fs a) (expr_use _ fs b)
+  expr_use n fs (conditional a b c) = at_two ◌&&◌ (expr_use _ fs a) (at_two ◌&&◌ (expr_use _ fs b) (expr_use _ fs c))
+  expr_use n fs (assign op a b) = at_two ◌&&◌ (target_use fs a _ _ (expr_use _ fs a)) (expr_use _ fs b)
+  expr_use n fs (comma es) = exprs_use _ fs es
 
-    maybe_use : (n : ℕ) (fs : List Frame) (e : tree.MaybeExpr) → maybe_fits asks fs e ≡ maybe_stands (unopened asks) n fs e
-    maybe_use n fs no_expr = refl
-    maybe_use n fs (one_expr e) = expr_use _ fs e
+  exprs_use : (n : ℕ) (fs : List Frame) (es : tree.Exprs) → exprs_fit fs es ≡ exprs_stand equal n fs es
+  exprs_use n fs no_exprs = refl
+  exprs_use n fs (then_expr e es) = at_two ◌&&◌ (expr_use _ fs e) (exprs_use _ fs es)
 
-    holes_use : (n : ℕ) (fs : List Frame) (es : tree.Holes) → holes_fit asks fs es ≡ holes_stand (unopened asks) n fs es
-    holes_use n fs no_holes = refl
-    holes_use n fs (then_hole e es) = at_two ◌&&◌ (maybe_use _ fs e) (holes_use _ fs es)
+  maybe_use : (n : ℕ) (fs : List Frame) (e : tree.MaybeExpr) → maybe_fits fs e ≡ maybe_stands equal n fs e
+  maybe_use n fs no_expr = refl
+  maybe_use n fs (one_expr e) = expr_use _ fs e
 
-    fields_use : (n : ℕ) (fs : List Frame) (es : tree.Fields) → fields_fit asks fs es ≡ fields_stand (unopened asks) n fs es
-    fields_use n fs no_fields = refl
-    fields_use n fs (then_field x e es) = at_two ◌&&◌ (expr_use _ fs e) (fields_use _ fs es)
+  holes_use : (n : ℕ) (fs : List Frame) (es : tree.Holes) → holes_fit fs es ≡ holes_stand equal n fs es
+  holes_use n fs no_holes = refl
+  holes_use n fs (then_hole e es) = at_two ◌&&◌ (maybe_use _ fs e) (holes_use _ fs es)
 
-    stmt_use : (n : ℕ) (fs : List Frame) (s : tree.Stmt) → stmt_fits asks fs s ≡ stmt_stands (unopened asks) n fs s
-    stmt_use n fs (var ds) = declarators_use _ fs ds
-    stmt_use n fs (function (code x formals body)) = func_stands x _ _ _ _ refl (stmts_use _ _ body)
-    stmt_use n fs (expr e) = expr_use _ fs e
-    stmt_use n fs empty = refl
-    stmt_use n fs (block ss) = stmts_use _ fs ss
-    stmt_use n fs (if_else e a b) = at_two ◌&&◌ (expr_use _ fs e) (at_two ◌&&◌ (stmts_use _ fs a) (maybe_body_use _ fs b))
-    stmt_use n fs (do_while body e) = at_two ◌&&◌ (stmts_use _ fs body) (expr_use _ fs e)
-    stmt_use n fs (while e body) = at_two ◌&&◌ (expr_use _ fs e) (stmts_use _ fs body)
-    stmt_use n fs (for i t s body) =
-        at_two ◌&&◌ (init_use _ fs i) (at_two ◌&&◌ (maybe_use _ fs t) (at_two ◌&&◌ (maybe_use _ fs s) (stmts_use _ fs body)))
-    stmt_use n fs (for_in declared t e body) =
-        at_two ◌&&◌ (target_use asks fs t _ _ (expr_use _ fs t)) (at_two ◌&&◌ (expr_use _ fs e) (stmts_use _ fs body))
-    stmt_use n fs continue = refl
-    stmt_use n fs break = refl
-    stmt_use n fs (return e) = maybe_use _ fs e
-    stmt_use n fs (throw e) = expr_use _ fs e
-    stmt_use n fs (try b c l) = at_two ◌&&◌ (stmts_use _ fs b) (at_two ◌&&◌ (catch_use _ fs c) (maybe_body_use _ fs l))
-    stmt_use n fs (switch e cs) = at_two ◌&&◌ (expr_use _ fs e) (cases_use _ fs cs)
+  fields_use : (n : ℕ) (fs : List Frame) (es : tree.Fields) → fields_fit fs es ≡ fields_stand equal n fs es
+  fields_use n fs no_fields = refl
+  fields_use n fs (then_field x e es) = at_two ◌&&◌ (expr_use _ fs e) (fields_use _ fs es)
 
-    pub stmts_use : (n : ℕ) (fs : List Frame) (ss : tree.Stmts) → stmts_fit asks fs ss ≡ stmts_stand (unopened asks) n fs ss
-    stmts_use n fs no_stmts = refl
-    stmts_use n fs (then_stmt s ss) = at_two ◌&&◌ (stmt_use _ fs s) (stmts_use _ fs ss)
+  stmt_use : (n : ℕ) (fs : List Frame) (s : tree.Stmt) → stmt_fits fs s ≡ stmt_stands equal n fs s
+  stmt_use n fs (var ds) = declarators_use _ fs ds
+  stmt_use n fs (function (code x formals body)) = func_stands x _ _ (body_use _ _ formals body (stmts_use _ _ body))
+  stmt_use n fs (expr e) = expr_use _ fs e
+  stmt_use n fs empty = refl
+  stmt_use n fs (block ss) = stmts_use _ fs ss
+  stmt_use n fs (if_else e a b) = at_two ◌&&◌ (expr_use _ fs e) (at_two ◌&&◌ (stmts_use _ fs a) (maybe_body_use _ fs b))
+  stmt_use n fs (do_while body e) = at_two ◌&&◌ (stmts_use _ fs body) (expr_use _ fs e)
+  stmt_use n fs (while e body) = at_two ◌&&◌ (expr_use _ fs e) (stmts_use _ fs body)
+  stmt_use n fs (for i t s body) =
+      at_two ◌&&◌ (init_use _ fs i) (at_two ◌&&◌ (maybe_use _ fs t) (at_two ◌&&◌ (maybe_use _ fs s) (stmts_use _ fs body)))
+  stmt_use n fs (for_in declared t e body) =
+      at_two ◌&&◌ (target_use fs t _ _ (expr_use _ fs t)) (at_two ◌&&◌ (expr_use _ fs e) (stmts_use _ fs body))
+  stmt_use n fs continue = refl
+  stmt_use n fs break = refl
+  stmt_use n fs (return e) = maybe_use _ fs e
+  stmt_use n fs (throw e) = expr_use _ fs e
+  stmt_use n fs (try b c l) = at_two ◌&&◌ (stmts_use _ fs b) (at_two ◌&&◌ (catch_use _ fs c) (maybe_body_use _ fs l))
+  stmt_use n fs (switch e cs) = at_two ◌&&◌ (expr_use _ fs e) (cases_use _ fs cs)
 
-    maybe_body_use : (n : ℕ) (fs : List Frame) (ss : tree.MaybeStmts) → maybe_body_fits asks fs ss ≡ maybe_body_stands (unopened asks) n fs ss
-    maybe_body_use n fs no_body = refl
-    maybe_body_use n fs (one_body ss) = stmts_use _ fs ss
+  pub stmts_use : (n : ℕ) (fs : List Frame) (ss : tree.Stmts) → stmts_fit fs ss ≡ stmts_stand equal n fs ss
+  stmts_use n fs no_stmts = refl
+  stmts_use n fs (then_stmt s ss) = at_two ◌&&◌ (stmt_use _ fs s) (stmts_use _ fs ss)
 
-    declarators_use : (n : ℕ) (fs : List Frame) (ds : tree.Declarators) → declarators_fit asks fs ds ≡ declarators_stand (unopened asks) n fs ds
-    declarators_use n fs no_declarators = refl
-    declarators_use n fs (then_declarator x e ds) = at_two ◌&&◌ (declarator_use _ fs x e) (declarators_use _ fs ds)
+  maybe_body_use : (n : ℕ) (fs : List Frame) (ss : tree.MaybeStmts) → maybe_body_fits fs ss ≡ maybe_body_stands equal n fs ss
+  maybe_body_use n fs no_body = refl
+  maybe_body_use n fs (one_body ss) = stmts_use _ fs ss
 
-    declarator_use : (n : ℕ) (fs : List Frame) (x : List ℕ) (e : tree.MaybeExpr) → declarator_fits asks fs x e ≡ declarator_stands (unopened asks) n fs x e
-    declarator_use n fs x no_expr = refl
-    declarator_use n fs x (one_expr e) = at_two ◌&&◌ (reached_use true (resolve fs x)) (expr_use _ fs e)
+  declarators_use : (n : ℕ) (fs : List Frame) (ds : tree.Declarators) → declarators_fit fs ds ≡ declarators_stand equal n fs ds
+  declarators_use n fs no_declarators = refl
+  declarators_use n fs (then_declarator x e ds) = at_two ◌&&◌ (declarator_use _ fs x e) (declarators_use _ fs ds)
 
-    init_use : (n : ℕ) (fs : List Frame) (t : tree.ForInit) → init_fits asks fs t ≡ init_stands (unopened asks) n fs t
-    init_use n fs no_init = refl
-    init_use n fs (init_var ds) = declarators_use _ fs ds
-    init_use n fs (init_expr e) = expr_use _ fs e
+  declarator_use : (n : ℕ) (fs : List Frame) (x : List ℕ) (e : tree.MaybeExpr) → declarator_fits fs x e ≡ declarator_stands equal n fs x e
+  declarator_use n fs x no_expr = refl
+  declarator_use n fs x (one_expr e) = at_two ◌&&◌ (reached_use true (resolve fs x)) (expr_use _ fs e)
 
-    catch_use : (n : ℕ) (fs : List Frame) (c : tree.MaybeCatch) → catch_fits asks fs c ≡ catch_stands (unopened asks) n fs c
-    catch_use n fs no_catch = refl
-    catch_use n fs (one_catch x ss) = stmts_use _ _ ss
+  init_use : (n : ℕ) (fs : List Frame) (t : tree.ForInit) → init_fits fs t ≡ init_stands equal n fs t
+  init_use n fs no_init = refl
+  init_use n fs (init_var ds) = declarators_use _ fs ds
+  init_use n fs (init_expr e) = expr_use _ fs e
 
-    cases_use : (n : ℕ) (fs : List Frame) (cs : tree.Cases) → cases_fit asks fs cs ≡ cases_stand (unopened asks) n fs cs
-    cases_use n fs no_cases = refl
-    cases_use n fs (then_case e ss cs) = at_two ◌&&◌ (maybe_use _ fs e) (at_two ◌&&◌ (stmts_use _ fs ss) (cases_use _ fs cs))
+  catch_use : (n : ℕ) (fs : List Frame) (c : tree.MaybeCatch) → catch_fits fs c ≡ catch_stands equal n fs c
+  catch_use n fs no_catch = refl
+  catch_use n fs (one_catch x ss) = stmts_use _ _ ss
 
-  pub function_use : (n : ℕ) (fs : List Frame) (c : tree.Code) → code_fits asks fs c ≡ function_stands (unopened asks) n fs c
-  function_use n fs (code x formals body) = at_two ◌&&◌ refl (stmts_use _ _ body)
+  cases_use : (n : ℕ) (fs : List Frame) (cs : tree.Cases) → cases_fit fs cs ≡ cases_stand equal n fs cs
+  cases_use n fs no_cases = refl
+  cases_use n fs (then_case e ss cs) = at_two ◌&&◌ (maybe_use _ fs e) (at_two ◌&&◌ (stmts_use _ fs ss) (cases_use _ fs cs))
+
+pub function_use : (n : ℕ) (fs : List Frame) (c : tree.Code) → code_fits fs c ≡ function_stands equal n fs c
+function_use n fs (code x formals body) = (body_use _ _ formals body (stmts_use _ _ body))
 
 -- ---- equal trees
 
@@ -338,9 +341,10 @@ never e = absurd (cc e)
 
 abbrev pub equal_trees : {W : World} → HasEqualTrees W → HasTrees W
 equal_trees h = record {
-  demand = unopened h.asks;
+  demand = equal;
   opens = h.opens;
   opened = λ n fs c. h.opened n fs c ∙ code_same n fs c;
-  fits = λ n fs c. h.fits n fs c ∙ function_use h.asks n fs c;
+  fits = λ n fs c. h.fits n fs c ∙ function_use n fs c;
   bases = λ e. never e;
+  opening = λ e. never e;
 }

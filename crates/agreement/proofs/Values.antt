@@ -58,7 +58,7 @@ pub object_value_rel : {V : World} (a b : ObjId) → Named V a.0 b.0 → ValueRe
 object_value_rel a b n = object n
 
 pub raise_rel : {V : World} (t : Throw) → Agrees V (raise t) (raise t)
-raise_rel t = on_built_ins (λ U i there. bind_rel (make_rel (error_object t) (error_object t) (error_fit t) (error_fit t) (error_rel t there) refl
+raise_rel t = on_built_ins (λ U i there. bind_rel (make_rel (error_object t) (error_object t) (error_fit t) (error_fit t) (error_rel t there) refl refl
     (λ W l s u g. record { kind = kind_of t; is = refl }))
     (λ W l a b n. ret_rel (λ X j. thrown (object_value_rel a b (named_up j n)))))
 

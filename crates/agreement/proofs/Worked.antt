@@ -3,8 +3,7 @@ use Rattle.std.proofs.Common.{◌≡◌, refl, true, false, [], ◌∷◌, Some,
 use Rattle.std.specs.Prelude.{codes}
 use Rattle.js_core.specs.Tree as tree
 use Rattle.js_core.specs.Tree.{name, func, call, update, assign, no_exprs, then_expr, one_expr, code, var, function, expr, return, try, no_stmts, then_stmt, no_body, no_declarators, then_declarator, one_catch, throw}
-use Rattle.agreement.specs.Opened.{scripts_stand}
-use Rattle.agreement.specs.Trees.{any_code}
+use Rattle.agreement.specs.Opened.{opening, scripts_stand}
 
 -- (function(a){var n=a;function f(){n++;}return f;})
 abbrev counter : tree.Stmts
@@ -22,5 +21,5 @@ keeper =
 abbrev script : tree.Stmts
 script = then_stmt (expr (func (code None (codes "a" ∷ []) counter))) (then_stmt (expr (func (code (Some (codes "g")) [] keeper))) no_stmts)
 
-pub may_be_opened : scripts_stand (record { opens = true; asks = any_code }) 1 (script ∷ []) ≡ true
+pub may_be_opened : scripts_stand opening 1 (script ∷ []) ≡ true
 may_be_opened = refl

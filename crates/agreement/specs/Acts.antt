@@ -1,15 +1,22 @@
 -- When two acts agree: in pages that agree they end alike, after as many steps, and leave pages that agree for a larger naming.
-use Rattle.std.specs.Prelude.{◌≡◌, ℕ, ◌<◌, List, ◌++◌}
+use Rattle.std.specs.Prelude.{◌≡◌, ℕ, ◌<◌, ◌≤◌, true, List, ◌++◌, Option, Some, None, length, ⊤}
+use Rattle.code_table.specs.Declarations.{name_of}
+use Rattle.js_values.specs.declared.ids.EnvId.{EnvId}
 use Rattle.js_values.specs.declared.ids.ObjId.{ObjId}
 use Rattle.js_values.specs.declared.line.Line.{Line}
 use Rattle.js_values.specs.declared.value.Value.{Value}
+use Rattle.js_values.specs.declared.value.Value.TheVariants as values
+use Rattle.object_heap.specs.Chain.{object_at}
+use Rattle.object_heap.specs.Environment.{environment_at, value_of}
+use Rattle.object_heap.specs.declared.object.Class.{Class}
+use Rattle.object_heap.specs.declared.object.Class.TheVariants as class
 use Rattle.page_meaning.specs.Act.{Act, ActOf, Calls, Outcome, Ended, Stopped}
 use Rattle.page_meaning.specs.Store.{Store}
 use Rattle.page_meaning.specs.declared.signal.Signal.{Signal}
 use Rattle.page_meaning.specs.declared.signal.Signal.TheVariants as signal
-use Rattle.heap_relations.specs.Naming.{Agree, Before, Larger, Named, named, World}
+use Rattle.heap_relations.specs.Naming.{Agree, Base, Before, Constant, env_id, In, Larger, Named, named, Sealed, Slot, World}
 use Rattle.heap_relations.specs.Related.{Each, ValueRel}
-use Rattle.object_shapes.specs.Links.{built_in_count}
+use Rattle.object_shapes.specs.Links.{all_below, built_in_count, value_links}
 use Rattle.object_shapes.specs.Shapes.{IsShaped}
 
 -- what is built in stands at the same places
@@ -22,12 +29,57 @@ pub record AddedRel (b : Before) (xs ys : List Line) : Type 0 where
   pub one : xs ≡ b.one ++ more
   pub two : ys ≡ b.two ++ more
 
--- two pages agree: their heaps do, and they have put out the same lines. The objects of the left have their shapes
+-- ---- closures on the left
+
+-- the first statement of the scope does not have to set the name, or has set it
+abbrev pub HasSet : World → Slot → List ℕ → Type 0
+HasSet W z x = z.pending ≡ Some x → In z.one W.done
+
+-- so it is of each name
+abbrev pub IsSet : World → Slot → Type 0
+IsSet W z = (x : List ℕ) → HasSet W z x
+
+-- what is round a function: nothing, a scope that is set, or what is round one that was rebuilt
+pub data IsReady (W : World) : Option EnvId → Type 0 where
+  outermost : IsReady W None
+  scope : (z : Slot) → In z W.slots → IsSet W z → IsReady W (Some (env_id z.one))
+  rebuilt : (b : Base) → In b W.bases → IsReady W b.one
+
+-- the name of a function expression, if it is sealed in this scope, stands for the function at the place
+abbrev pub IsOwn : ℕ → Option (List ℕ) → Slot → Type 0
+IsOwn k name z = (x : List ℕ) → name ≡ Some x → z.frame.keeps x ≡ Sealed → z.known x ≡ values.Object (record { 0 = k })
+
+-- and what its constant names hold is older than the place, where a function of this name is
+pub data IsOlder (W : World) (k : ℕ) (name : Option (List ℕ)) : Option EnvId → Type 0 where
+  outermost_older : IsOlder W k name None
+  scope_older : (z : Slot) → In z W.slots → IsSet W z → z.born ≤ k → IsOwn k name z → IsOlder W k name (Some (env_id z.one))
+  rebuilt_older : (b : Base) → In b W.bases → IsOlder W k name b.one
+
+-- a scope has its constant names from when they are set, they hold older objects, and so do those round it
+pub record IsKept (W : World) (s : Store) (z : Slot) : Type 0 where
+  pub round : IsOlder W z.born None (environment_at s.heap.environments z.one).outer
+  pub older : (x : List ℕ) → z.frame.keeps x ≡ Constant → all_below z.born (value_links (z.known x)) ≡ true
+  pub held : (x : List ℕ) → HasSet W z x → z.frame.keeps x ≡ Constant → value_of (environment_at s.heap.environments z.one).names x ≡ Some (z.known x)
+  pub there : IsSet W z → z.born ≤ length s.heap.objects
+
+-- a function of the page stands where all is set and older
+abbrev pub IsPlaced : World → ℕ → Class → Type 0
+IsPlaced W k (class.Page c env) = IsOlder W k (name_of c) env
+IsPlaced W k c = ⊤
+
+pub record AreKept (W : World) (s : Store) : Type 0 where
+  pub scopes : (z : Slot) → In z W.slots → IsKept W s z
+  pub functions : (k l : ℕ) → Named W k l → IsPlaced W k (object_at s.heap.objects k).class
+  pub done : (j : ℕ) → In j W.done → j < length s.heap.environments
+
+-- two pages agree: their heaps do, and they have put out the same lines. The objects of the left have their shapes, and its scopes and
+-- functions keep what is constant
 pub record StoreRel (W : World) (s t : Store) : Type 0 where
   pub heap : Agree W s.heap t.heap
   pub lines : AddedRel W.before s.lines t.lines
   pub built_ins : HasBuiltIns W
   pub shaped : IsShaped s
+  pub kept : AreKept W s
 
 -- what is related for each naming
 abbrev pub Relation : Type 0 → Type 1

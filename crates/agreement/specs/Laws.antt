@@ -1,6 +1,6 @@
 -- Two pages that agree go on agreeing.
-use Rattle.std.specs.Prelude.{◌≡◌, Bool, true, List, drop, length, ◌+◌, ◌<◌, ◌^◌}
-use Rattle.agreement.specs.Opened.{scripts_stand}
+use Rattle.std.specs.Prelude.{◌≡◌, Bool, true, false, List, drop, length, ◌+◌, ◌<◌, ◌^◌}
+use Rattle.agreement.specs.Opened.{AgreesStanding, Demand, opening, scripts_stand}
 use Rattle.instrumenter.specs.Counting.{scripts_scopes}
 use Rattle.instrumenter.specs.Opened.{IsPlainScript}
 use Rattle.instrumenter.specs.Opening.{open_scripts}
@@ -16,7 +16,7 @@ use Rattle.page_meaning.specs.Store.{Store}
 use Rattle.heap_relations.specs.Naming.{named, World}
 use Rattle.heap_relations.specs.Related.{Each, ValueRel}
 use Rattle.agreement.specs.Acts.{Agrees, CallsRel, StoreRel}
-use Rattle.agreement.specs.Trees.{AgreesAsking, AgreesWithItself, HasEqualTrees, scripts_fit}
+use Rattle.agreement.specs.Trees.{AgreesWithItself, HasEqualTrees}
 
 -- each built-in function, where what it calls agrees: on related values it does the same in pages that agree, and they agree after it
 abbrev pub RowsAgree : Type 0
@@ -35,17 +35,17 @@ EventsAgree =
 abbrev pub PagesAgree : Type 0
 PagesAgree = (scripts : List tree.Stmts) (es : List Event) → AgreesWithItself (run_of scripts es)
 
--- where each script fits in no frames, with functions that pass a test, those that the page holds pass it
-abbrev pub FittingPagesAgree : Type 0
-FittingPagesAgree =
-    (asks : tree.Code → Bool) (scripts : List tree.Stmts) (es : List Event)
-    → scripts_fit asks scripts ≡ true → AgreesAsking asks (run_of scripts es)
+-- where each script stands, and nothing is opened, so do the functions that the page holds
+abbrev pub StandingPagesAgree : Type 0
+StandingPagesAgree =
+    (d : Demand) (scripts : List tree.Stmts) (es : List Event)
+    → d.opens ≡ false → scripts_stand d 1 scripts ≡ true → AgreesStanding d (run_of scripts es)
 
 -- a page and the same with its scopes opened put out the same lines, where its scripts may be opened
 abbrev pub OpenedPagesAgree : Type 0
 OpenedPagesAgree =
-    (asks : tree.Code → Bool) (scripts : List tree.Stmts) (es : List Event)
-    → scripts_stand (record { opens = true; asks = asks }) 1 scripts ≡ true → lines_of_run scripts es ≡ lines_of_run (open_scripts scripts) es
+    (scripts : List tree.Stmts) (es : List Event)
+    → scripts_stand opening 1 scripts ≡ true → lines_of_run scripts es ≡ lines_of_run (open_scripts scripts) es
 
 -- so it is of each page of plain scripts whose scope objects have numbers that the program can count to
 abbrev pub PlainPagesAgree : Type 0

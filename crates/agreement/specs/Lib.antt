@@ -1,4 +1,5 @@
 pub mod Acts
+pub mod Formed
 pub mod Laws
 pub mod Opened
 pub mod Trees

@@ -2,11 +2,11 @@
 
 ghost use Rattle.agreement.specs.Laws.{
   EventsAgree,
-  FittingPagesAgree,
   OpenedPagesAgree,
   PagesAgree,
   PlainPagesAgree,
   RowsAgree,
+  StandingPagesAgree,
 };
 
 use page_meaning::laws::law_heaps_stay_sound;
@@ -28,9 +28,9 @@ pub fn law_pages_agree()
     law_heaps_stay_sound();
 }
 
-/// A page whose scripts fit agrees with itself, and its functions pass the test.
-pub fn law_fitting_pages_agree()
-    ensures { FittingPagesAgree }
+/// A page whose scripts stand where nothing is opened agrees with itself, and its functions stand so.
+pub fn law_standing_pages_agree()
+    ensures { StandingPagesAgree }
 {
     law_heaps_stay_sound();
 }

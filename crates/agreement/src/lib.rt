@@ -4,6 +4,6 @@
 mod laws;
 
 pub use laws::{
-    law_events_agree, law_fitting_pages_agree, law_opened_pages_agree, law_pages_agree,
-    law_plain_pages_agree, law_rows_agree,
+    law_events_agree, law_opened_pages_agree, law_pages_agree, law_plain_pages_agree,
+    law_rows_agree, law_standing_pages_agree,
 };

@@ -1,5 +1,0 @@
-use Rattle.agreement.proofs.Pages.{fitting_pages_agree}
-use Rattle.agreement.proofs.laws.law_fitting_pages_agree.Goals as goal
-
-pub returns : goal.returns
-returns c = fitting_pages_agree c.law_heaps_stay_sound.ensures.loaded
