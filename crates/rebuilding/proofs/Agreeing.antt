@@ -11,10 +11,11 @@ use Rattle.object_heap.specs.declared.object.Class.{Class}
 use Rattle.object_heap.specs.declared.object.Class.TheVariants as class
 use Rattle.page_meaning.specs.Kept.{none_more}
 use Rattle.page_meaning.specs.Store.{Store}
-use Rattle.heap_relations.specs.Naming.{Base, BaseRel, In, Named, named, SlotsRel, World}
-use Rattle.heap_relations.specs.Related.{ObjectRel, ObjectsRel}
-use Rattle.agreement.specs.Acts.{HasBuiltIns, StoreRel}
-use Rattle.agreement.specs.Trees.{any_code, code_fits}
+use Rattle.heap_relations.specs.Naming.{Base, BaseRel, Frame, In, Named, named, Round, Slot, SlotsRel, World, based, outermost}
+use Rattle.heap_relations.specs.Naming as naming
+use Rattle.heap_relations.specs.Related.{ClassRel, ObjectRel, ObjectsRel, array, bound, event, fault, math, native, node, page, plain, window}
+use Rattle.agreement.specs.Acts.{HasBuiltIns, IsOlder, IsPlaced, StoreRel, outermost_older, rebuilt_older}
+use Rattle.agreement.specs.Trees.{code_fits}
 use Rattle.agreement.proofs.Callers.{built_in_itself}
 use Rattle.heap_walker.specs.Still.{Still}
 use Rattle.heap_walker.specs.Things.{bound_value, IsWalk, needs_of}
@@ -52,6 +53,24 @@ round_of c h s things sites k a b (rebuilt.page {code = own} {env = from} {round
     subst (λ d. IsRoundOf c h.environments k (needs d env) (name_of d) round) same
     (subst (λ e. IsRoundOf c h.environments k (needs own e) (name_of own) round) same_env
     (subst (λ e. IsRoundOf c h.environments k (needs own from) (name_of own) e) where_same r))
+
+-- where there are no scopes, a function stands outermost, or was rebuilt
+placed_round : {W : World} {d e : Class} → ((z : Slot) → In z W.slots → ⊥) → (k : ℕ) → ClassRel (named W) d e → IsPlaced W k d
+placed_round {W = W} none k (page h) = by h.round
+  where
+    by : {fs : List Frame} {e f : Option EnvId} {name : Option (List ℕ)} → Round W fs e f → IsOlder W k name e
+    by outermost = outermost_older
+    by (naming.inside z i) = absurd (none z i)
+    by (based b i) = rebuilt_older b i
+placed_round none k plain = tt
+placed_round none k array = tt
+placed_round none k native = tt
+placed_round none k (bound n v vs) = tt
+placed_round none k fault = tt
+placed_round none k math = tt
+placed_round none k window = tt
+placed_round none k (node n) = tt
+placed_round none k (event p) = tt
 
 module _ (c : Scene) (s : Store) (things : List ℕ) (h : Contents) (sites : List ℕ) (still : Still s) (walk : IsWalk s things)
     (is : IsRebuilt c s things h sites) where
@@ -110,7 +129,7 @@ module _ (c : Scene) (s : Store) (things : List ℕ) (h : Contents) (sites : Lis
       rw (p.one, p.two, q.one, q.two) (left ∙ sym right)
 
   code_fits_at : (n : ℕ) → n < length things → (source : Code) (env : Option EnvId)
-      → (object_at s.heap.objects (nth things n)).class ≡ class.Page source env → code_fits any_code (round_frame source ∷ []) source ≡ true
+      → (object_at s.heap.objects (nth things n)).class ≡ class.Page source env → code_fits (round_frame source ∷ []) source ≡ true
   code_fits_at n below source env e =
       fits_at_rest source (rest_at s things still walk n below source env e)
 
@@ -165,6 +184,11 @@ module _ (c : Scene) (s : Store) (things : List ℕ) (h : Contents) (sites : Lis
     lines = record { more = []; one = none_more s.lines; two = refl };
     built_ins = built_ins_named;
     shaped = still.shaped;
+    kept = record {
+      scopes = λ t i. elim i [ ];
+      functions = λ a b i. placed_round (λ t j. elim j [ ]) a (object_rel a b (pair_is things sites a b i.named)).class;
+      done = λ j i. elim i [ ];
+    };
   }
 
 -- ---- the two pages

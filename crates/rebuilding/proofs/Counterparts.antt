@@ -20,7 +20,7 @@ use Rattle.scope_analysis.specs.FreeUses.{needed_variables}
 use Rattle.scope_analysis.specs.Names.{is_among}
 use Rattle.heap_relations.specs.Naming.{based, Named, named, World}
 use Rattle.heap_relations.specs.Related.{array, bound, ClassRel, Each, each, Entries, entry, fault, Maybe, no_entries, no_more, none, null, num, object, ObjectIds, ObjectRel, page, plain, PropRel, some, text, truth, undefined, ValueRel}
-use Rattle.agreement.specs.Trees.{any_code, code_fits}
+use Rattle.agreement.specs.Trees.{code_fits}
 use Rattle.heap_walker.specs.Still.{IsFunctionAtRest, Still}
 use Rattle.heap_walker.specs.Things.{bound_value, bound_values, class_links, is_in, IsWalk, needs_links}
 use Rattle.rebuild_plan.specs.Compact.{moved_props, moved_proto, moved_value, moved_values, place_of}
@@ -141,7 +141,7 @@ module _ (s : Store) (h : Contents) (things sites : List ℕ) (walk : IsWalk s t
   class_rel : (c : Scene) (n : ℕ) → n < length things → (a b : Class) → (object_at s.heap.objects (nth things n)).class ≡ a
       → (object_at h.objects (nth sites n)).class ≡ b
       → ((j : ℕ) → is_in j (class_links s a) ≡ true → IsKnown things j)
-      → ((source : Code) (env : Option EnvId) → a ≡ class.Page source env → code_fits any_code (round_frame source ∷ []) source ≡ true)
+      → ((source : Code) (env : Option EnvId) → a ≡ class.Page source env → code_fits (round_frame source ∷ []) source ≡ true)
       → ClassIsRebuilt c h.environments s things sites (nth sites n) a b → ClassRel (named W) a b
   class_rel c n below a b one two known fits rebuilt.plain = plain
   class_rel c n below a b one two known fits rebuilt.list = array
@@ -165,7 +165,7 @@ module _ (s : Store) (h : Contents) (things sites : List ℕ) (walk : IsWalk s t
 
   pub thing_rel : (c : Scene) (n : ℕ) → n < length things → Still s
       → ((source : Code) (env : Option EnvId) → (object_at s.heap.objects (nth things n)).class ≡ class.Page source env
-      → code_fits any_code (round_frame source ∷ []) source ≡ true)
+      → code_fits (round_frame source ∷ []) source ≡ true)
       → IsRebuiltAs c h.environments s things sites (nth sites n) (object_at s.heap.objects (nth things n)) (object_at h.objects (nth sites n))
       → ObjectRel (named (rebuilt_world s h things sites)) (object_at s.heap.objects (nth things n)) (object_at h.objects (nth sites n))
   thing_rel c n below still fits is =

@@ -15,7 +15,7 @@ use Rattle.scope_analysis.specs.Nodes.{stmts_any}
 use Rattle.scope_analysis.specs.Uses.{crossing, is_assigned, leaving_function, stmts_uses}
 use Rattle.scope_analysis.specs.declared.name_use.Use.{Use}
 use Rattle.heap_relations.specs.Naming.{Absent, Fixed, Frame, Itself, Sealed, Unused, resolve, resolved}
-use Rattle.agreement.specs.Trees.{any_code, code_fits, entry_frame, is_reached}
+use Rattle.agreement.specs.Trees.{code_fits, entry_frame, is_reached}
 use Rattle.rebuilding.specs.Frames.{is_own, is_sealed, round_frame}
 use Rattle.rebuilding.proofs.Entries.{binds, entry_binds}
 use Rattle.rebuilding.proofs.Pieces.{stmts_stand}
@@ -155,7 +155,7 @@ module _ (x : Option (List ℕ)) (formals : List (List ℕ)) (body : tree.Stmts)
 -- ---- the whole function
 
 pub fits_round_in_form : (c : tree.Code) → IsTrue (in_form (wrapped c)) → early_rule (wrapped c) ≡ None
-    → code_fits any_code (round_frame c ∷ []) c ≡ true
+    → code_fits (round_frame c ∷ []) c ≡ true
 fits_round_in_form (code x formals body) formed early =
     let c = code x formals body in
     let plain = declares_none x formals body formed in
@@ -166,5 +166,5 @@ fits_round_in_form (code x formals body) formed early =
 
 -- what a page at rest knows of each of its functions is enough
 pub fits_at_rest : {s : Store} {k : ℕ} {env : Option EnvId} (c : tree.Code) → IsFunctionAtRest s k c env
-    → code_fits any_code (round_frame c ∷ []) c ≡ true
+    → code_fits (round_frame c ∷ []) c ≡ true
 fits_at_rest c h = fits_round_in_form c h.formed h.orderly

@@ -15,7 +15,7 @@ use Rattle.object_heap.specs.declared.object.Class.{Class}
 use Rattle.object_heap.specs.declared.object.Class.TheVariants as class
 use Rattle.page_meaning.specs.Store.{Store}
 use Rattle.heap_relations.specs.Naming.{Base, here, In, Pair, pair, there, World}
-use Rattle.agreement.specs.Trees.{any_code, code_fits, HasEqualTrees}
+use Rattle.agreement.specs.Trees.{code_fits, HasEqualTrees}
 use Rattle.heap_walker.specs.Things.{is_in}
 use Rattle.rebuild_plan.specs.Compact.{place_of, placed}
 use Rattle.rebuilding.specs.Frames.{round_frame}
@@ -55,16 +55,17 @@ abbrev pub rebuilt_world : Store → Contents → List ℕ → List ℕ → Worl
 rebuilt_world s h things sites = record {
   opens = false;
   opened = λ n fs c. c;
-  fits = λ n. code_fits any_code;
+  fits = λ n. code_fits;
   before = record { one = s.lines; two = [] };
   objects = same_below built_in_count ++ pairs things sites;
   nodes = [];
   slots = [];
+  done = [];
   bases = bases_of s.heap.objects h.objects things sites;
 }
 
 pub rebuilt_trees : (s : Store) (h : Contents) (things sites : List ℕ) → HasEqualTrees (rebuilt_world s h things sites)
-rebuilt_trees s h things sites = record { asks = any_code; opens = refl; opened = λ n fs c. refl; fits = λ n fs c. refl }
+rebuilt_trees s h things sites = record { opens = refl; opened = λ n fs c. refl; fits = λ n fs c. refl }
 
 -- ---- what is in lists
 

@@ -7,17 +7,17 @@ use Rattle.scope_analysis.specs.Form.{is_declaration}
 use Rattle.scope_analysis.specs.Nodes.{cases_any, catch_any, declarators_any, expr_any, exprs_any, fields_any, holes_any, init_any, maybe_expr_any, maybe_stmts_any, stmt_any, stmts_any}
 use Rattle.scope_analysis.specs.Uses.{cases_uses, catch_uses, declarator_uses, declarators_uses, expr_uses, exprs_uses, fields_uses, holes_uses, init_uses, maybe_expr_uses, maybe_stmts_uses, stmt_uses, stmts_uses, target_uses}
 use Rattle.heap_relations.specs.Naming.{Frame}
-use Rattle.agreement.specs.Trees.{any_code, cases_fit, catch_fits, declarator_fits, declarators_fit, expr_fits, exprs_fit, fields_fit, holes_fit, init_fits, maybe_body_fits, maybe_fits, stmt_fits, stmts_fit, target_fits}
+use Rattle.agreement.specs.Trees.{cases_fit, catch_fits, declarator_fits, declarators_fit, expr_fits, exprs_fit, fields_fit, holes_fit, init_fits, maybe_body_fits, maybe_fits, stmt_fits, stmts_fit, target_fits}
 use Rattle.rebuilding.proofs.Uses.{Apt, inside_clause, inside_function, left, one, rest, right}
 
-target_stands : {fs : List Frame} (e : tree.Expr) (declares : Bool) → (Apt fs (expr_uses e) declares → expr_fits any_code fs e ≡ true)
-    → Apt fs (target_uses e (expr_uses e)) declares → target_fits fs e (expr_fits any_code fs e) ≡ true
+target_stands : {fs : List Frame} (e : tree.Expr) (declares : Bool) → (Apt fs (expr_uses e) declares → expr_fits fs e ≡ true)
+    → Apt fs (target_uses e (expr_uses e)) declares → target_fits fs e (expr_fits fs e) ≡ true
 target_stands (name x) declares f h = one h
 target_stands e declares f h = f h
 
 mutual
   pub expr_stands : {fs : List Frame} (callee : Bool) (e : tree.Expr) → Apt fs (expr_uses e) (expr_any is_declaration callee e)
-      → expr_fits any_code fs e ≡ true
+      → expr_fits fs e ≡ true
   expr_stands callee (name x) h = one h
   expr_stands callee (num n) h = refl
   expr_stands callee (text x) h = refl
@@ -49,27 +49,27 @@ mutual
   expr_stands callee (comma es) h = exprs_stand es h
 
   pub exprs_stand : {fs : List Frame} (es : tree.Exprs) → Apt fs (exprs_uses es) (exprs_any is_declaration es)
-      → exprs_fit any_code fs es ≡ true
+      → exprs_fit fs es ≡ true
   exprs_stand no_exprs h = refl
   exprs_stand (then_expr e es) h = and_from _ _ (expr_stands false e (left _ _ h)) (exprs_stand es (right _ _ h))
 
   pub maybe_stands : {fs : List Frame} (e : tree.MaybeExpr) → Apt fs (maybe_expr_uses e) (maybe_expr_any is_declaration e)
-      → maybe_fits any_code fs e ≡ true
+      → maybe_fits fs e ≡ true
   maybe_stands no_expr h = refl
   maybe_stands (one_expr e) h = expr_stands false e h
 
   pub holes_stand : {fs : List Frame} (es : tree.Holes) → Apt fs (holes_uses es) (holes_any is_declaration es)
-      → holes_fit any_code fs es ≡ true
+      → holes_fit fs es ≡ true
   holes_stand no_holes h = refl
   holes_stand (then_hole e es) h = and_from _ _ (maybe_stands e (left _ _ h)) (holes_stand es (right _ _ h))
 
   pub fields_stand : {fs : List Frame} (es : tree.Fields) → Apt fs (fields_uses es) (fields_any is_declaration es)
-      → fields_fit any_code fs es ≡ true
+      → fields_fit fs es ≡ true
   fields_stand no_fields h = refl
   fields_stand (then_field x e es) h = and_from _ _ (expr_stands false e (left _ _ h)) (fields_stand es (right _ _ h))
 
   pub stmt_stands : {fs : List Frame} (s : tree.Stmt) → Apt fs (stmt_uses s) (stmt_any is_declaration s)
-      → stmt_fits any_code fs s ≡ true
+      → stmt_fits fs s ≡ true
   stmt_stands (var ds) h = declarators_stand ds h
   stmt_stands (function c) h = absurd (true≢false h.plain)
   stmt_stands (expr e) h = expr_stands false e h
@@ -99,41 +99,41 @@ mutual
   stmt_stands (switch e cs) h = and_from _ _ (expr_stands false e (left _ _ h)) (cases_stand cs (right _ _ h))
 
   pub stmts_stand : {fs : List Frame} (ss : tree.Stmts) → Apt fs (stmts_uses ss) (stmts_any is_declaration ss)
-      → stmts_fit any_code fs ss ≡ true
+      → stmts_fit fs ss ≡ true
   stmts_stand no_stmts h = refl
   stmts_stand (then_stmt s ss) h = and_from _ _ (stmt_stands s (left _ _ h)) (stmts_stand ss (right _ _ h))
 
   pub maybe_body_stands : {fs : List Frame} (ss : tree.MaybeStmts) → Apt fs (maybe_stmts_uses ss) (maybe_stmts_any is_declaration ss)
-      → maybe_body_fits any_code fs ss ≡ true
+      → maybe_body_fits fs ss ≡ true
   maybe_body_stands no_body h = refl
   maybe_body_stands (one_body ss) h = stmts_stand ss h
 
   pub declarators_stand : {fs : List Frame} (ds : tree.Declarators) → Apt fs (declarators_uses ds) (declarators_any is_declaration ds)
-      → declarators_fit any_code fs ds ≡ true
+      → declarators_fit fs ds ≡ true
   declarators_stand no_declarators h = refl
   declarators_stand (then_declarator x e ds) h =
       and_from _ _ (declarator_stands x e (left _ _ h)) (declarators_stand ds (right _ _ h))
 
   -- without an initialiser it is no use, and fits always
   pub declarator_stands : {fs : List Frame} (x : List ℕ) (e : tree.MaybeExpr) → Apt fs (declarator_uses x e) (maybe_expr_any is_declaration e)
-      → declarator_fits any_code fs x e ≡ true
+      → declarator_fits fs x e ≡ true
   declarator_stands x no_expr h = refl
   declarator_stands x (one_expr e) h = and_from _ _ (one h) (expr_stands false e (rest h))
 
   pub init_stands : {fs : List Frame} (i : tree.ForInit) → Apt fs (init_uses i) (init_any is_declaration i)
-      → init_fits any_code fs i ≡ true
+      → init_fits fs i ≡ true
   init_stands no_init h = refl
   init_stands (init_var ds) h = declarators_stand ds h
   init_stands (init_expr e) h = expr_stands false e h
 
   -- a catch clause is a frame more, and adds nothing to the height
   pub catch_stands : {fs : List Frame} (c : tree.MaybeCatch) → Apt fs (catch_uses c) (catch_any is_declaration c)
-      → catch_fits any_code fs c ≡ true
+      → catch_fits fs c ≡ true
   catch_stands no_catch h = refl
   catch_stands (one_catch x ss) h = stmts_stand ss (inside_clause x ss h)
 
   pub cases_stand : {fs : List Frame} (cs : tree.Cases) → Apt fs (cases_uses cs) (cases_any is_declaration cs)
-      → cases_fit any_code fs cs ≡ true
+      → cases_fit fs cs ≡ true
   cases_stand no_cases h = refl
   cases_stand (then_case e ss cs) h =
       and_from _ _ (maybe_stands e (left _ _ h))
