@@ -3,9 +3,11 @@ pub mod AskedTrees
 pub mod Assigning
 pub mod Formed
 pub mod FormParts
+pub mod LowTrees
 pub mod NeededNames
 pub mod Pieces
 pub mod Reached
+pub mod Remaking
 pub mod Resting
 pub mod Tests
 pub mod Trees

@@ -92,7 +92,7 @@ all_among ks (x ∷ xs) y h = by (bytes_eq y x) refl h (all_among (insert_key by
     by true same k later = stay_among (insert_key bytes_eq ks x) xs y (joins ks x y same)
     by false other k later = later k
 
-all_pass : (p : List ℕ → Bool) (ks xs : List (List ℕ)) → list_all p ks ≡ true → list_all p xs ≡ true → list_all p (insert_all bytes_eq ks xs) ≡ true
+pub all_pass : (p : List ℕ → Bool) (ks xs : List (List ℕ)) → list_all p ks ≡ true → list_all p xs ≡ true → list_all p (insert_all bytes_eq ks xs) ≡ true
 all_pass p ks [] h e = h
 all_pass p ks (x ∷ xs) h e =
     let parts = and_parts (p x) (list_all p xs) e in

@@ -5,7 +5,6 @@ use Rattle.std.specs.Option.{option_map}
 use Rattle.std.specs.Prelude.{unwrap_or}
 use Rattle.agreement.proofs.Callers.{bound_read, linked_read}
 use Rattle.agreement.specs.Acts.{StoreRel}
-use Rattle.agreement.specs.Trees.{HasEqualTrees}
 use Rattle.heap_relations.specs.Naming.{In, Named, World, here, there}
 use Rattle.heap_walker.specs.Things.{Reach, bound_value, bound_values, class_links, is_in, link, links, needs_links, root, roots}
 use Rattle.js_core.specs.Tree as tree
@@ -63,7 +62,7 @@ some_built_in = omega arith
 
 -- ---- what needed variables hold
 
-module _ {W : World} {s : Store} (g : StoreRel W s s) (trees : HasEqualTrees W) (none_rebuilt : W.bases ≡ []) where
+module _ {W : World} {s : Store} (g : StoreRel W s s) (closed : W.opens ≡ false) (none_rebuilt : W.bases ≡ []) where
   needed_named : {c : tree.Code} {env : Option EnvId} (j : ℕ) → Named W j j → (object_at s.heap.objects j).class ≡ class.Page c env
       → (xs : List (List ℕ)) (k : ℕ) → In k (needs_links (bound_values s env xs)) → Named W k k
   needed_named j n is [] k i = elim i [ ]
@@ -75,7 +74,7 @@ module _ {W : World} {s : Store} (g : StoreRel W s s) (trees : HasEqualTrees W) 
           → In k (value_links (unwrap_or (option_map (λ found. found.1) o) Undefined)) ⊎ In k (needs_links (bound_values s env xs)) → Named W k k
       by o at later (inr h) = later h
       by None at later (inl h) = elim h [ ]
-      by (Some found) at later (inl h) = bound_read g trees none_rebuilt n is x found at k h
+      by (Some found) at later (inl h) = bound_read g closed none_rebuilt n is x found at k h
 
   -- ---- what can be reached
 

@@ -1,7 +1,8 @@
 -- What holds of each function in a script of a form page, wherever it stands: alone in a call that binds its needed variables, it is a script of
 -- a form page, too.
-use Rattle.std.specs.Prelude.{◌≡◌, Bool, true, false, not, ◌&&◌, Option, Some, None}
+use Rattle.std.specs.Prelude.{◌≡◌, ◌+◌, Bool, true, false, not, ◌&&◌, nat_le, Option, Some, None}
 use Rattle.heap_walker.specs.Still.{wrapped}
+use Rattle.js_core.specs.Height.{code_height}
 use Rattle.js_core.specs.Tree as tree
 use Rattle.js_core.specs.Tree.{code, func, function}
 use Rattle.js_grammar.specs.Syntax.{IsSyntax}
@@ -9,6 +10,7 @@ use Rattle.page_rest.specs.Trees.{keeps_code}
 use Rattle.scope_analysis.specs.EarlyRules.{early_rule}
 use Rattle.scope_analysis.specs.Form.{in_form}
 use Rattle.scope_analysis.specs.FormScripts.{IsFormScript}
+use Rattle.scope_analysis.specs.Limits.{function_height_limit}
 use Rattle.scope_analysis.specs.Nodes.{Node, expression, statement, stmts_any}
 
 abbrev pub is_no : {A : Type 0} → Option A → Bool
@@ -21,6 +23,13 @@ is_formed c = in_form (wrapped c) && is_no (early_rule (wrapped c))
 -- it keeps the rules on trees, too
 abbrev pub is_asked : tree.Code → Bool
 is_asked c = keeps_code c && is_formed c
+
+-- and, as an expression, it is no higher than a function of a form page
+abbrev pub is_low : tree.Code → Bool
+is_low c = nat_le (code_height c + 1) function_height_limit
+
+abbrev pub is_asked_low : tree.Code → Bool
+is_asked_low c = is_asked c && is_low c
 
 -- a declared function's code is held without its name
 abbrev pub without_name : tree.Code → tree.Code

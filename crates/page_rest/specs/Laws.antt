@@ -14,19 +14,19 @@ use Rattle.heap_walker.specs.Things.{Reach}
 use Rattle.page_meaning.specs.Pages.{run_of}
 use Rattle.page_meaning.specs.Store.{Store}
 use Rattle.heap_walker.specs.Remade.{AllCanBeRemade}
-use Rattle.scope_analysis.specs.FormScripts.{IsFormScript}
+use Rattle.scope_analysis.specs.FormScripts.{IsFormPageScript}
 
 -- a script of a form page, as tokens have it
 abbrev pub IsInForm : tree.Stmts → Type 0
-IsInForm script = IsFormScript script × IsSyntax script
+IsInForm script = IsFormPageScript script × IsSyntax script
 
 -- the code of each function that can be reached is a tree that some tokens have
 abbrev pub HasSyntax : Store → Type 0
 HasSyntax s =
     (k : ℕ) (c : tree.Code) (env : Option EnvId) → Reach s k → (object_at s.heap.objects k).class ≡ class.Page c env → IsExpr (func c)
 
--- after its scripts and any events a page in form is at rest, where its functions can be made again, and their codes have tokens
+-- after its scripts and any events a page in form is at rest, its functions can be made again, and their codes have tokens
 abbrev pub PagesRest : Type 0
 PagesRest =
     (scripts : List tree.Stmts) (es : List Event) (things : List ℕ) → All IsInForm scripts → IsWalk (run_of scripts es) things
-    → AllCanBeRemade (run_of scripts es) things → Still (run_of scripts es) × HasSyntax (run_of scripts es)
+    → Still (run_of scripts es) × HasSyntax (run_of scripts es) × AllCanBeRemade (run_of scripts es) things

@@ -2,4 +2,4 @@ use Rattle.page_rest.proofs.Resting.{pages_rest}
 use Rattle.page_rest.proofs.laws.law_pages_rest.Goals as goal
 
 pub returns : goal.returns
-returns c = pages_rest c.law_fitting_pages_agree.ensures
+returns c = pages_rest c.law_standing_pages_agree.ensures
