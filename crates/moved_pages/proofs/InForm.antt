@@ -12,6 +12,7 @@ use Rattle.page_check.specs.declared.page.Kind.{Kind}
 use Rattle.page_check.specs.declared.page.Kind.TheVariants.{Plain, Form}
 use Rattle.page_rest.specs.Laws.{IsInForm}
 use Rattle.printed_pages.proofs.Callers.{accepted_scripts_have_syntax}
+use Rattle.scope_analysis.proofs.Callers.{has_no_high_function}
 use Rattle.scope_analysis.specs.Form.{has_high_function, in_form}
 use Rattle.scope_analysis.specs.Limits.{form_height_limit, plain_height_limit}
 use Rattle.moved_pages.specs.Moved.{AcceptedScriptsAreInForm}
@@ -20,12 +21,19 @@ low_of : (kind : Kind) (script : tree.Stmts) → is_too_deep kind script ≡ fal
 low_of Plain script h = omega (arith, ltb-false plain_height_limit (stmts_height script) h)
 low_of Form script h = ltb-false form_height_limit (stmts_height script) (or_parts (nat_lt form_height_limit (stmts_height script)) (has_high_function script) h).0
 
+no_high_of : (kind : Kind) (script : tree.Stmts) → is_too_deep kind script ≡ false → has_high_function script ≡ false
+no_high_of Plain script h = has_no_high_function script (omega (arith, ltb-false plain_height_limit (stmts_height script) h))
+no_high_of Form script h = (or_parts (nat_lt form_height_limit (stmts_height script)) (has_high_function script) h).1
+
 pub accepted_scripts_in_form : TokensCanBeWritten → TokensHaveSyntax → AcceptedScriptsAreInForm
 accepted_scripts_in_form written syntax bytes kind scripts is formed =
     let low = is.read.low in
     let own = subst (λ l. list_all in_form l ≡ true) is.only formed in
     let whole : IsInForm is.script = (
-      record { formed = (and_parts (in_form is.script) true own).0; orderly = low.orderly.orderly; low = low_of kind is.script low.low },
+      record {
+        form = record { formed = (and_parts (in_form is.script) true own).0; orderly = low.orderly.orderly; low = low_of kind is.script low.low };
+        functions = no_high_of kind is.script low.low;
+      },
       accepted_scripts_have_syntax written syntax bytes kind scripts is,
     ) in
     subst (All IsInForm) (sym is.only) (All-cons IsInForm is.script [] whole (All-nil IsInForm))

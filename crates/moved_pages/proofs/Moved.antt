@@ -45,7 +45,7 @@ can_be_rebuilt : PlansAreFew → PagesRest → (scripts : List tree.Stmts) (earl
 can_be_rebuilt few rest scripts earlier things can =
     let s : Store = run_of scripts earlier in
     record {
-      still = (rest scripts earlier things can.in_form can.walked can.remade).0;
+      still = (rest scripts earlier things can.in_form can.walked).0;
       walk = can.walked;
       in_range = can.literals;
       few = few_steps (length (plan (compact s things))) (weight.load_of s things).things (few s things) can.few;
@@ -57,11 +57,11 @@ pub moved_pages_go_on : PagesAreShort → SavedScriptsAreForm → LinedScriptsAr
     → MovedPagesGoOn
 moved_pages_go_on bound form lined stand few rest rebuild go_on saved_again steps scripts earlier things can =
     let s : Store = run_of scripts earlier in
-    let at_rest = rest scripts earlier things can.in_form can.walked can.remade in
+    let at_rest = rest scripts earlier things can.in_form can.walked in
     let rs : List Rebuild = plan (compact s things) in
     let t : Store = load_of (saved_script rs ∷ []) in
     let ready = can_be_rebuilt few rest scripts earlier things can in
-    let written = are_written stand s things at_rest.0 can.walked at_rest.1 can.remade can.literals can.few in
+    let written = are_written stand s things at_rest.0 can.walked at_rest.1 at_rest.2 can.literals can.few in
     let silent : t.lines ≡ [] = (rebuild s things ready).0 in (
       record {
         script = saved_script rs;
@@ -70,7 +70,7 @@ moved_pages_go_on bound form lined stand few rest rebuild go_on saved_again step
           fits = fits (length (saved_page s things)) (weight.load_of s things).things (weight.load_of s things).text
               (bound s things at_rest.0 can.walked can.few can.literals) can.few can.short;
           accepted = saved_pages_are_accepted form lined s things at_rest.0 can.walked written;
-          formed = (form s things at_rest.0 can.walked written).formed;
+          formed = (form s things at_rest.0 can.walked written).1.form.formed;
           silent = silent;
           again = λ (again : List ℕ) walk. ap (λ c. page_of (plan c)) (saved_again s things again ready walk);
           same = λ later. ap (λ (ls : List Line). drop (length ls) (run_all t later).lines) silent ∙ go_on s things later ready;

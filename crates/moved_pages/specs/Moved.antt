@@ -1,7 +1,6 @@
 -- A moved page behaves as if it had never moved.
 use Rattle.std.specs.Prelude.{◌≡◌, ℕ, ◌≤◌, true, List, [], ◌∷◌, length, ◌++◌, ◌+◌, ◌*◌}
 use Rattle.std.specs.List.{All, list_all}
-use Rattle.heap_walker.specs.Remade.{AllCanBeRemade}
 use Rattle.heap_walker.specs.Things.{IsWalk}
 use Rattle.heap_walker.specs.Weight.{load_of}
 use Rattle.js_core.specs.Tree as tree
@@ -20,12 +19,11 @@ use Rattle.rebuild_plan.specs.Plan.{plan}
 use Rattle.rebuilding.specs.Laws.{LoadsWithin}
 use Rattle.scope_analysis.specs.Form.{in_form}
 
--- scripts of form pages, after whose events these things can be reached; each function among them can be made again, what they write can be
--- written, and they and their text are no more than a saved page may have
+-- scripts of form pages, after whose events these things can be reached; what they write can be written, and they and their text are no more
+-- than a saved page may have
 pub record CanBeMoved (scripts : List tree.Stmts) (earlier : List Event) (things : List ℕ) : Type 0 where
   pub in_form : All IsInForm scripts
   pub walked : IsWalk (run_of scripts earlier) things
-  pub remade : AllCanBeRemade (run_of scripts earlier) things
   pub literals : HaveLiterals (plan (compact (run_of scripts earlier) things))
   pub few : (load_of (run_of scripts earlier) things).things ≤ things_limit
   pub short : (load_of (run_of scripts earlier) things).text ≤ text_limit

@@ -22,8 +22,8 @@ pub fn law_saved_pages_are_accepted()
     law_lined_scripts_are_read_again();
 }
 
-/// A moved page behaves as if it had never moved: the text of a page in form, whose functions can be made again, is accepted as a page in form, which
-/// loads without a line and puts out, under every list of later events, exactly the lines that the page puts out for them after the earlier ones.
+/// A moved page behaves as if it had never moved: the text of a page in form is accepted as a page in form, which loads without a line
+/// and puts out, under every list of later events, exactly the lines that the page puts out for them after the earlier ones.
 pub fn law_moved_pages_go_on()
     ensures { MovedPagesGoOn }
 {
