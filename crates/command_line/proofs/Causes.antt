@@ -2,11 +2,9 @@
 use Rattle.std.proofs.Common.{◌≡◌, ℕ, ◌<◌, ◌≤◌, List, [], ◌∷◌, length, Option, Some, None, Result, Ok, Err, refl, sym, ap, ◌∙◌, subst, inl, inr, arith}
 use Rattle.std.specs.Prelude.{◌⊎◌, All}
 use Rattle.page_io.specs.Content.{Told}
-use Rattle.heap_walker.specs.declared.weight.Weight.{Weight}
 use Rattle.page_check.specs.Accept.{IsAcceptedAs, IsRefused}
 use Rattle.page_check.specs.declared.page.Kind.{Kind}
 use Rattle.page_check.specs.declared.page.Refusal.{Refusal}
-use Rattle.page_check.specs.declared.page.Refusal.TheVariants.{NotBuilt}
 use Rattle.js_core.specs.Tree as tree
 use Rattle.js_values.specs.declared.event.Event.{Event}
 use Rattle.event_file.specs.Events.{calls_of}
@@ -16,11 +14,11 @@ use Rattle.command_line.specs.declared.command.Work.TheVariants.{Replay, Save}
 use Rattle.command_line.specs.Command.{Command, check, instrument, session}
 use Rattle.command_line.specs.Page.{page_limit, event_file_limit, Page, Accepts, IsPage}
 use Rattle.command_line.specs.Replay.{IsEventFile}
-use Rattle.command_line.specs.Saving.{CannotBeRemade, IsTooLarge, IsMovable}
+use Rattle.command_line.specs.Saving.{IsTooLarge, IsMovable}
 use Rattle.command_line.specs.Stages.{Seen, Of, Held, IsNoEventFile, Stage, words, page_file, acceptance, event_file, moving, writing, Stops, Passes, EndsAt, IsQuiet, CausesExclude, IsReadOrFailed, names_of, work_of, work_behind, stages_of, SomeCause}
 use Rattle.command_line.proofs.Moves.{OneAcceptance}
 use Rattle.command_line.proofs.Numbers.{at_most_or_more}
-use Rattle.command_line.proofs.Outcomes.{remade_or_not, one_weight, large_or_little, some_outcome}
+use Rattle.command_line.proofs.Outcomes.{one_weight, large_or_little, some_outcome}
 use Rattle.command_line.proofs.Stopping.{of_both, of_nested, StopsAs, stops_as}
 
 -- bytes are refused for one cause
@@ -49,16 +47,8 @@ module _ (seen : Seen) (quiet : IsQuiet seen) (one_page : OneAcceptance) (one_ca
   of_names p e P Q R x y h =
       of_nested (seen.files_before.content p) (seen.files_before.content e) P Q R (quiet.told p) (quiet.told e) x y h
 
-  scopes_or_large : (b f : List ℕ) (w : Weight) → CannotBeRemade b f → IsTooLarge b f w → ⊥
-  scopes_or_large b f w n l = remade_or_not one_page b f l.state l.things n l.after l.remade
-
   one_moving : (p e : List ℕ) (s t : Status) → StopsAs (moving p e) seen s → StopsAs (moving p e) seen t → s ≡ t
-  one_moving p e s t (inl h) (inl k) = h.0 ∙ sym k.0
-  one_moving p e s t (inl h) (inr k) =
-      absurd (of_names p e CannotBeRemade (λ b f. IsTooLarge b f k.0) ⊥ h.1 k.2 (λ b f x y. scopes_or_large b f k.0 x y))
-  one_moving p e s t (inr h) (inl k) =
-      absurd (of_names p e CannotBeRemade (λ b f. IsTooLarge b f h.0) ⊥ k.1 h.2 (λ b f x y. scopes_or_large b f h.0 x y))
-  one_moving p e s t (inr h) (inr k) =
+  one_moving p e s t h k =
       let one = λ (b : List ℕ) (f : List ℕ). one_weight one_page b f h.0 k.0 in
       let same = of_names p e (λ b f. IsTooLarge b f h.0) (λ b f. IsTooLarge b f k.0) (h.0 ≡ k.0) h.2 k.2 one in
       h.1 ∙ ap status.TooLarge same ∙ sym k.1
@@ -81,9 +71,7 @@ module _ (seen : Seen) (quiet : IsQuiet seen) (one_page : OneAcceptance) (one_ca
   file_or_none file i (inr h) g = let same : Err i ≡ Ok g.0 = sym h.1 ∙ g.1.holds in cc
 
   moving_or_not : (p e : List ℕ) (s : Status) → StopsAs (moving p e) seen s → Passes (moving p e) seen → ⊥
-  moving_or_not p e s (inl k) h =
-      of_names p e CannotBeRemade IsMovable ⊥ k.1 h (λ b f x y. remade_or_not one_page b f y.state y.things x y.after y.remade)
-  moving_or_not p e s (inr k) h = of_names p e (λ b f. IsTooLarge b f k.0) IsMovable ⊥ k.2 h (λ b f x y. large_or_little one_page b f k.0 x y)
+  moving_or_not p e s k h = of_names p e (λ b f. IsTooLarge b f k.0) IsMovable ⊥ k.2 h (λ b f x y. large_or_little one_page b f k.0 x y)
 
   -- a stage is not both passed and where the command stops
   stop_or_pass : (g : Stage) (s : Status) → Stops g s seen → StopsAs g seen s → ¬ Passes g seen
@@ -173,7 +161,6 @@ module _ (seen : Seen) (none_neither : NoneNeither) where
       → IsHeld p bytes → IsHeld n file → IsPage bytes page → IsEventFile file events
       → No (moving p n ∷ gs) → (No gs → ⊥) → ⊥
   behind_moving p n bytes file gs page events held holds of_page of_file never k = some_outcome bytes file page events of_page of_file
-      (λ scopes. never (status.PageRefused (Some (NotBuilt 1))) (λ e. cc) (inl (refl, both CannotBeRemade scopes)))
       (λ w large. never (status.TooLarge w) (λ e. cc) (inl (both (λ b f. IsTooLarge b f w) large)))
       (λ movable. k (next (moving p n) gs never (both IsMovable movable)))
     where

@@ -5,7 +5,6 @@ use Rattle.page_io.specs.Content.{Told}
 use Rattle.page_io.specs.Faults.{Rose}
 use Rattle.page_check.specs.Accept.{IsRefused}
 use Rattle.page_check.specs.declared.page.Refusal.{Refusal}
-use Rattle.page_check.specs.declared.page.Refusal.TheVariants.{NotUtf8, NotPage, NotTokens, NotScript, NotStrict, Early, TooDeep, ReservedName, NotForm, NotBuilt}
 use Rattle.page_meaning.specs.Pages.{run_of}
 use Rattle.js_values.specs.declared.event.Event.{Event}
 use Rattle.command_line.specs.declared.status.Status.{Status}
@@ -20,7 +19,7 @@ use Rattle.command_line.specs.Replay.{IsEventFile}
 use Rattle.command_line.specs.Stages.{Seen, Of, Held, ReadFailed, Stops, Stage, page_file, acceptance, event_file, moving, writing, EndsAt, work_of, Ends}
 use Rattle.command_line.specs.Texts.{PutsNothing, PutsText, Puts}
 use Rattle.command_line.proofs.Moves.{SavingLaws}
-use Rattle.command_line.proofs.Works.{Both, told_begins, told_large, told_movable, told_needs, told_saves}
+use Rattle.command_line.proofs.Works.{Both, told_begins, told_large, told_movable, told_saves}
 use Rattle.opened_pages.specs.Opened.{HaveNumbers}
 use Rattle.page_writer.specs.Page.{saved_page}
 
@@ -147,17 +146,7 @@ module _ (p e : List ℕ) (seen : Seen) (page : Page) (events : List Event) (bot
       → EndsAt (moving p e ∷ writing ∷ []) status seen
   moving_ends Ok a = inr (told_movable _ _ page events both a.0 a.1, inl tt)
   moving_ends WriteFault a = inr (told_movable _ _ page events both a.0 a.1, inl a.3)
-  moving_ends (PageRefused None) a = absurd a
-  moving_ends (PageRefused (Some NotUtf8)) a = absurd a
-  moving_ends (PageRefused (Some NotPage)) a = absurd a
-  moving_ends (PageRefused (Some (NotTokens k))) a = absurd a
-  moving_ends (PageRefused (Some (NotScript k))) a = absurd a
-  moving_ends (PageRefused (Some (NotStrict k))) a = absurd a
-  moving_ends (PageRefused (Some (Early k rule))) a = absurd a
-  moving_ends (PageRefused (Some (TooDeep k))) a = absurd a
-  moving_ends (PageRefused (Some (ReservedName k))) a = absurd a
-  moving_ends (PageRefused (Some (NotForm k))) a = absurd a
-  moving_ends (PageRefused (Some (NotBuilt k))) a = inl (a.0, told_needs _ _ page events both a.2.0 a.2.1 a.2.2)
+  moving_ends (PageRefused r) a = absurd a
   moving_ends (TooLarge w) a = inl (told_large _ _ page events both a.1.0 w a.1.1)
   moving_ends OutOfMemory a = inl tt
   moving_ends Usage a = absurd a
@@ -177,17 +166,7 @@ module _ (p e : List ℕ) (seen : Seen) (page : Page) (events : List Event) (bot
       (saved_page (run_of (opened page) events) a.0, told_saves _ _ page events both a.0 laws (numbered (λ e. cc)) a.1, a.2)
   save_puts laws WriteFault numbered a =
       (saved_page (run_of (opened page) events) a.0, told_saves _ _ page events both a.0 laws (numbered (λ e. cc)) a.1, a.2)
-  save_puts laws (PageRefused None) numbered a = absurd a
-  save_puts laws (PageRefused (Some NotUtf8)) numbered a = absurd a
-  save_puts laws (PageRefused (Some NotPage)) numbered a = absurd a
-  save_puts laws (PageRefused (Some (NotTokens k))) numbered a = absurd a
-  save_puts laws (PageRefused (Some (NotScript k))) numbered a = absurd a
-  save_puts laws (PageRefused (Some (NotStrict k))) numbered a = absurd a
-  save_puts laws (PageRefused (Some (Early k rule))) numbered a = absurd a
-  save_puts laws (PageRefused (Some (TooDeep k))) numbered a = absurd a
-  save_puts laws (PageRefused (Some (ReservedName k))) numbered a = absurd a
-  save_puts laws (PageRefused (Some (NotForm k))) numbered a = absurd a
-  save_puts laws (PageRefused (Some (NotBuilt k))) numbered a = ap (λ s. s.taken) a.1
+  save_puts laws (PageRefused r) numbered a = absurd a
   save_puts laws (TooLarge w) numbered a = ap (λ s. s.taken) a.0
   save_puts laws OutOfMemory numbered (inl a) = inl (ap (λ s. s.taken) a)
   save_puts laws OutOfMemory numbered (inr a) =

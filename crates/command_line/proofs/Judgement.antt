@@ -1,6 +1,5 @@
 -- What the answer of the writer says of a page that is saved.
 use Rattle.std.proofs.Common.{◌≡◌, ◌⊎◌, inl, inr, ℕ, ◌≤◌, List, Result, Err, sym, ap, subst, arith}
-use Rattle.heap_walker.specs.Remade.{AllCanBeRemade}
 use Rattle.heap_walker.specs.Things.{IsWalk}
 use Rattle.heap_walker.specs.Weight.{load_of, told}
 use Rattle.heap_walker.specs.declared.weight.Weight.{Weight}
@@ -30,52 +29,50 @@ module _ (s : Store) (things : List ℕ) (old new : SinkSeen) where
   abbrev WasJudged : SaveFault → Type 0
   WasJudged f = Judged (told (load_of s things)) old new (saved_page s things) (Err f)
 
-  overweight : (v : Weight) → IsWalk s things → AllCanBeRemade s things → told (load_of s things) ≡ v → IsTooMuch (told (load_of s things)) → new ≡ old
+  overweight : (v : Weight) → IsWalk s things → told (load_of s things) ≡ v → IsTooMuch (told (load_of s things)) → new ≡ old
       → (new ≡ old) × ((x : List ℕ) × IsOverweight s x v)
-  overweight v walk remade same more none = (
+  overweight v walk same more none = (
     none,
     (
       things,
       record {
         walked = walk;
-        remade = remade;
         weighed = sym same;
         more = subst IsTooMuch same more;
       },
     ),
   )
 
-  pub answer_large : (f : SaveFault) (v : Weight) → IsWalk s things → AllCanBeRemade s things → f ≡ TooMany v → WasJudged f
+  pub answer_large : (f : SaveFault) (v : Weight) → IsWalk s things → f ≡ TooMany v → WasJudged f
       → (new ≡ old) × ((x : List ℕ) × IsOverweight s x v)
-  answer_large f v walk remade e (many more none) = overweight v walk remade (cc e) (inl more) none
-  answer_large f v walk remade e (long few more none) = cc e
-  answer_large f v walk remade e (fault few little front rose) = cc e
-  answer_large f v walk remade e (memory few little front) = cc e
+  answer_large f v walk e (many more none) = overweight v walk (cc e) (inl more) none
+  answer_large f v walk e (long few more none) = cc e
+  answer_large f v walk e (fault few little front rose) = cc e
+  answer_large f v walk e (memory few little front) = cc e
 
-  pub answer_long : (f : SaveFault) (v : Weight) → IsWalk s things → AllCanBeRemade s things → f ≡ TooLong v → WasJudged f
+  pub answer_long : (f : SaveFault) (v : Weight) → IsWalk s things → f ≡ TooLong v → WasJudged f
       → (new ≡ old) × ((x : List ℕ) × IsOverweight s x v)
-  answer_long f v walk remade e (many more none) = cc e
-  answer_long f v walk remade e (long few more none) = overweight v walk remade (cc e) (inr more) none
-  answer_long f v walk remade e (fault few little front rose) = cc e
-  answer_long f v walk remade e (memory few little front) = cc e
+  answer_long f v walk e (many more none) = cc e
+  answer_long f v walk e (long few more none) = overweight v walk (cc e) (inr more) none
+  answer_long f v walk e (fault few little front rose) = cc e
+  answer_long f v walk e (memory few little front) = cc e
 
-  pub answer_fault : (f : SaveFault) → IsWalk s things → AllCanBeRemade s things → f ≡ WriteFault → WasJudged f
+  pub answer_fault : (f : SaveFault) → IsWalk s things → f ≡ WriteFault → WasJudged f
       → (Failed f ≡ Failed WriteFault → HaveLiterals (plan (compact s things)))
       → (x : List ℕ) × CanBeSaved s x × TakesFront old.taken new.taken (saved_page s x) × Rose old.faults new.faults
-  answer_fault f walk remade e (many more none) literals = cc e
-  answer_fault f walk remade e (long few more none) literals = cc e
-  answer_fault f walk remade e (fault few little front rose) literals = (
+  answer_fault f walk e (many more none) literals = cc e
+  answer_fault f walk e (long few more none) literals = cc e
+  answer_fault f walk e (fault few little front rose) literals = (
     things,
     record {
       walked = walk;
-      remade = remade;
       little = not_much (told (load_of s things)) few little;
       literals = literals (ap Failed e);
     },
     front,
     rose,
   )
-  answer_fault f walk remade e (memory few little front) literals = cc e
+  answer_fault f walk e (memory few little front) literals = cc e
 
   pub answer_memory : (f : SaveFault) → IsWalk s things → f ≡ OutOfMemory → WasJudged f
       → (new ≡ old) ⊎ ((x : List ℕ) × IsWalk s x × TakesFront old.taken new.taken (saved_page s x))

@@ -89,7 +89,6 @@ can_be_moved laws bytes page earlier things accepted can =
     record {
       in_form = laws.formed as_form.0 Form (opened page) as_form.1 (all_formed as_form.0 (opened page) as_form.1);
       walked = can.walked;
-      remade = can.remade;
       literals = can.literals;
       few = few_things (run_of (opened page) earlier) things can.little;
       short = little_text (run_of (opened page) earlier) things can.little;

@@ -1,19 +1,17 @@
--- What is found of a page after the events of a file: one of its functions cannot be made again, it is too large, or it can be saved; it is one of
--- these, in one way.
+-- What is found of a page after the events of a file: it is too large, or it can be saved; it is one of these, in one way.
 use Rattle.std.proofs.Common.{◌≡◌, ℕ, List, Ok, refl, sym, ap, ◌∙◌, subst}
 use Rattle.js_core.specs.Tree as tree
 use Rattle.js_values.specs.declared.event.Event.{Event}
 use Rattle.opened_pages.specs.Opened.{opened_scripts}
 use Rattle.page_meaning.specs.Pages.{run_of}
 use Rattle.page_meaning.specs.Store.{Store}
-use Rattle.heap_walker.specs.Remade.{AllCanBeRemade}
 use Rattle.heap_walker.specs.Things.{IsWalk}
 use Rattle.heap_walker.specs.Weight.{load_of, told}
 use Rattle.heap_walker.specs.declared.weight.Weight.{Weight}
 use Rattle.heap_walker.proofs.Callers.{walks_are_same}
 use Rattle.command_line.specs.Page.{Page, IsPage, opened}
 use Rattle.command_line.specs.Replay.{IsEventFile}
-use Rattle.command_line.specs.Saving.{IsAfter, CannotBeRemade, IsTooMuch, IsTooLarge, IsMovable}
+use Rattle.command_line.specs.Saving.{IsAfter, IsTooMuch, IsTooLarge, IsMovable}
 use Rattle.command_line.proofs.Moves.{OneAcceptance}
 use Rattle.command_line.proofs.Walking.{some_walk}
 
@@ -39,9 +37,6 @@ module _ (one_page : OneAcceptance) (bytes file : List ℕ) where
 
   -- ---- no two are found, and one in one way
 
-  pub remade_or_not : (s : Store) (ks : List ℕ) → CannotBeRemade bytes file → IsAfter bytes file s ks → AllCanBeRemade s ks → ⊥
-  remade_or_not s ks n a h = n.not_remade (carried AllCanBeRemade s n.state ks n.things a n.after h)
-
   pub one_weight : (v w : Weight) → IsTooLarge bytes file v → IsTooLarge bytes file w → v ≡ w
   one_weight v w l m =
       carried (λ s ks. v ≡ told (load_of s ks)) l.state m.state l.things m.things l.after m.after l.weighed ∙ sym m.weighed
@@ -54,8 +49,8 @@ module _ (one_page : OneAcceptance) (bytes file : List ℕ) where
 -- ---- one is found
 
 pub some_outcome : (bytes file : List ℕ) (page : Page) (events : List Event) → IsPage bytes page → IsEventFile file events
-    → (CannotBeRemade bytes file → ⊥) → ((w : Weight) → IsTooLarge bytes file w → ⊥) → (IsMovable bytes file → ⊥) → ⊥
-some_outcome bytes file page events of_page of_file scopes large movable =
+    → ((w : Weight) → IsTooLarge bytes file w → ⊥) → (IsMovable bytes file → ⊥) → ⊥
+some_outcome bytes file page events of_page of_file large movable =
     some_walk s (λ things walked. at_walk things (after things walked))
   where
     s : Store
@@ -71,13 +66,9 @@ some_outcome bytes file page events of_page of_file scopes large movable =
       walked = walked;
     }
 
-    little : (things : List ℕ) → IsAfter bytes file s things → AllCanBeRemade s things → ¬ IsTooMuch (told (load_of s things))
-    little things a remade much =
-        large (told (load_of s things)) (record { state = s; things = things; after = a; remade = remade; weighed = refl; more = much })
-
-    not_remade : (things : List ℕ) → IsAfter bytes file s things → ¬ AllCanBeRemade s things
-    not_remade things a remade =
-        movable (record { state = s; things = things; after = a; remade = remade; little = little things a remade })
+    little : (things : List ℕ) → IsAfter bytes file s things → ¬ IsTooMuch (told (load_of s things))
+    little things a much =
+        large (told (load_of s things)) (record { state = s; things = things; after = a; weighed = refl; more = much })
 
     at_walk : (things : List ℕ) → IsAfter bytes file s things → ⊥
-    at_walk things a = scopes (record { state = s; things = things; after = a; not_remade = not_remade things a })
+    at_walk things a = movable (record { state = s; things = things; after = a; little = little things a })

@@ -1,16 +1,14 @@
 -- With which status a command stops at a stage, where nothing outside failed and memory did not run out.
-use Rattle.std.proofs.Common.{◌≡◌, ℕ, ◌<◌, List, length, Option, Some, None, refl, ap, inl, inr}
-use Rattle.std.specs.Prelude.{◌⊎◌}
+use Rattle.std.proofs.Common.{◌≡◌, ℕ, ◌<◌, List, length, Option, Some, None, refl}
 use Rattle.page_io.specs.Content.{Told}
 use Rattle.heap_walker.specs.declared.weight.Weight.{Weight}
 use Rattle.page_check.specs.Accept.{IsRefused}
 use Rattle.page_check.specs.declared.page.Refusal.{Refusal}
-use Rattle.page_check.specs.declared.page.Refusal.TheVariants.{NotBuilt}
 use Rattle.command_line.specs.declared.status.Status.{Status}
 use Rattle.command_line.specs.declared.status.Status.TheVariants as status
 use Rattle.command_line.specs.Command.{Command}
 use Rattle.command_line.specs.Page.{page_limit}
-use Rattle.command_line.specs.Saving.{CannotBeRemade, IsTooLarge}
+use Rattle.command_line.specs.Saving.{IsTooLarge}
 use Rattle.command_line.specs.Stages.{Seen, Of, Held, IsNoEventFile, Stage, words, page_file, acceptance, event_file, moving, writing, Stops, IsQuiet}
 
 -- ---- of told bytes
@@ -39,9 +37,7 @@ StopsAs (words command) seen s = s ≡ status.Usage
 StopsAs (page_file p) seen s = (s ≡ status.PageRefused None) × Held seen p (λ bytes. page_limit < length bytes)
 StopsAs (acceptance p) seen s = (r : Refusal) × (s ≡ status.PageRefused (Some r)) × Held seen p (λ bytes. IsRefused bytes r)
 StopsAs (event_file e) seen s = (i : ℕ) × (s ≡ status.EventsRefused i) × Held seen e (λ file. IsNoEventFile file i)
-StopsAs (moving p e) seen s =
-    ((s ≡ status.PageRefused (Some (NotBuilt 1))) × Held seen p (λ bytes. Held seen e (λ file. CannotBeRemade bytes file)))
-    ⊎ ((w : Weight) × (s ≡ status.TooLarge w) × Held seen p (λ bytes. Held seen e (λ file. IsTooLarge bytes file w)))
+StopsAs (moving p e) seen s = (w : Weight) × (s ≡ status.TooLarge w) × Held seen p (λ bytes. Held seen e (λ file. IsTooLarge bytes file w))
 StopsAs writing seen s = s ≡ status.Ok
 
 module _ (seen : Seen) (quiet : IsQuiet seen) where
@@ -83,14 +79,12 @@ module _ (seen : Seen) (quiet : IsQuiet seen) where
 
   stops_moving : (p e : List ℕ) (s : Status) → ¬ (s ≡ status.OutOfMemory) → Stops (moving p e) s seen → StopsAs (moving p e) seen s
   stops_moving p e status.Ok n h = absurd h
-  stops_moving p e (status.PageRefused None) n h = absurd h
-  stops_moving p e (status.PageRefused (Some (NotBuilt k))) n h = inl (ap (λ (i : ℕ). status.PageRefused (Some (NotBuilt i))) h.0, h.1)
-  stops_moving p e (status.PageRefused (Some r)) n h = absurd h
+  stops_moving p e (status.PageRefused r) n h = absurd h
   stops_moving p e status.Usage n h = absurd h
   stops_moving p e (status.EventsRefused i) n h = absurd h
   stops_moving p e status.ReadFault n h = absurd h
   stops_moving p e status.WriteFault n h = absurd h
-  stops_moving p e (status.TooLarge w) n h = inr (w, refl, h)
+  stops_moving p e (status.TooLarge w) n h = (w, refl, h)
   stops_moving p e status.OutOfMemory n h = absurd (n refl)
 
   stops_writing : (s : Status) → ¬ (s ≡ status.OutOfMemory) → Stops writing s seen → StopsAs writing seen s

@@ -1,6 +1,5 @@
 -- What a command writes for the files that it read.
 use Rattle.std.proofs.Common.{◌≡◌, ℕ, List, Some, None, refl}
-use Rattle.heap_walker.specs.Remade.{AllCanBeRemade}
 use Rattle.heap_walker.specs.Things.{IsWalk}
 use Rattle.heap_walker.specs.declared.weight.Weight.{Weight}
 use Rattle.js_values.specs.Line.{lines_text}
@@ -13,7 +12,7 @@ use Rattle.command_line.specs.declared.command.Work.TheVariants.{Replay, Save}
 use Rattle.command_line.specs.Moving.{CanBeSaved, IsOverweight}
 use Rattle.command_line.specs.Page.{Page, IsPage, opened}
 use Rattle.command_line.specs.Replay.{IsEventFile}
-use Rattle.command_line.specs.Saving.{Begins, IsAfter, IsMovable, IsTooLarge, CannotBeRemade, Saves}
+use Rattle.command_line.specs.Saving.{Begins, IsAfter, IsMovable, IsTooLarge, Saves}
 use Rattle.command_line.specs.Stages.{Of}
 use Rattle.command_line.specs.Texts.{Writes}
 use Rattle.command_line.proofs.Moves.{SavingLaws, saved_moves, saved_short, saved_steps}
@@ -73,7 +72,6 @@ module _ (page file : Told) (of : Page) (events : List Event) (both : Both page 
     state = run_of (opened of) events;
     things = things;
     after = is_after bytes content of events things p e can.walked;
-    remade = can.remade;
     little = can.little;
   }
 
@@ -82,18 +80,8 @@ module _ (page file : Told) (of : Page) (events : List Event) (both : Both page 
     state = run_of (opened of) events;
     things = things;
     after = is_after bytes content of events things p e over.walked;
-    remade = over.remade;
     weighed = over.weighed;
     more = over.more;
-  }
-
-  pub told_needs : IsWalk (run_of (opened of) events) things → ¬ AllCanBeRemade (run_of (opened of) events) things
-      → Of page (λ p. Of file (λ e. CannotBeRemade p e))
-  told_needs walk not_remade = told_both page file of events (λ p e. CannotBeRemade p e) both.of_page both.of_file λ bytes content p e. record {
-    state = run_of (opened of) events;
-    things = things;
-    after = is_after bytes content of events things p e walk;
-    not_remade = not_remade;
   }
 
   pub told_begins : IsWalk (run_of (opened of) events) things → Of page (λ p. Of file (λ e. Begins p e (saved_page (run_of (opened of) events) things)))

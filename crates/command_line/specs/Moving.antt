@@ -1,10 +1,8 @@
 -- What is answered where a page is saved as it is, by what can be reached of it.
-use Rattle.std.specs.Prelude.{ℕ, ◌≡◌, ◌⊎◌, List, Some}
-use Rattle.heap_walker.specs.Remade.{AllCanBeRemade}
+use Rattle.std.specs.Prelude.{ℕ, ◌≡◌, ◌⊎◌, List}
 use Rattle.heap_walker.specs.Things.{IsWalk}
 use Rattle.heap_walker.specs.Weight.{load_of, told}
 use Rattle.heap_walker.specs.declared.weight.Weight.{Weight}
-use Rattle.page_check.specs.declared.page.Refusal.TheVariants.{NotBuilt}
 use Rattle.page_io.specs.Faults.{Rose}
 use Rattle.page_io.specs.Seen.{SinkSeen}
 use Rattle.page_io.specs.Taken.{Takes, TakesFront}
@@ -15,19 +13,17 @@ use Rattle.rebuild_plan.specs.Compact.{compact}
 use Rattle.rebuild_plan.specs.Plan.{plan}
 use Rattle.command_line.specs.Saving.{IsTooMuch}
 use Rattle.command_line.specs.declared.status.Status.{Status}
-use Rattle.command_line.specs.declared.status.Status.TheVariants.{Ok, PageRefused, WriteFault, TooLarge, OutOfMemory}
+use Rattle.command_line.specs.declared.status.Status.TheVariants.{Ok, WriteFault, TooLarge, OutOfMemory}
 
 -- the things of a page that can be saved
 pub record CanBeSaved (s : Store) (things : List ℕ) : Type 0 where
   pub walked : IsWalk s things
-  pub remade : AllCanBeRemade s things
   pub little : ¬ IsTooMuch (told (load_of s things))
   pub literals : HaveLiterals (plan (compact s things))
 
 -- those of a page that is too large
 pub record IsOverweight (s : Store) (things : List ℕ) (w : Weight) : Type 0 where
   pub walked : IsWalk s things
-  pub remade : AllCanBeRemade s things
   pub weighed : w ≡ told (load_of s things)
   pub more : IsTooMuch w
 
@@ -36,8 +32,6 @@ abbrev pub IsAnswer : Store → SinkSeen → SinkSeen → Status → Type 0
 IsAnswer s old new Ok = (things : List ℕ) × CanBeSaved s things × Takes old.taken new.taken (saved_page s things)
 IsAnswer s old new WriteFault =
     (things : List ℕ) × CanBeSaved s things × TakesFront old.taken new.taken (saved_page s things) × Rose old.faults new.faults
-IsAnswer s old new (PageRefused (Some (NotBuilt k))) =
-    (k ≡ 1) × (new ≡ old) × ((things : List ℕ) × IsWalk s things × ¬ AllCanBeRemade s things)
 IsAnswer s old new (TooLarge w) = (new ≡ old) × ((things : List ℕ) × IsOverweight s things w)
 IsAnswer s old new OutOfMemory =
     (new ≡ old) ⊎ ((things : List ℕ) × IsWalk s things × TakesFront old.taken new.taken (saved_page s things))

@@ -9,7 +9,7 @@ use Rattle.page_io.specs.Taken.{Takes, TakesFront}
 use Rattle.command_line.specs.declared.status.Status.{Status}
 use Rattle.command_line.specs.declared.status.Status.TheVariants.{Ok, PageRefused, Usage, EventsRefused, ReadFault, WriteFault, TooLarge, OutOfMemory}
 use Rattle.page_check.specs.declared.page.Refusal.{Refusal}
-use Rattle.page_check.specs.declared.page.Refusal.TheVariants.{NotUtf8, NotPage, NotTokens, NotScript, NotStrict, Early, TooDeep, ReservedName, NotForm, NotBuilt}
+use Rattle.page_check.specs.declared.page.Refusal.TheVariants.{NotUtf8, NotPage, NotTokens, NotScript, NotStrict, Early, TooDeep, ReservedName, NotForm}
 use Rattle.scope_analysis.specs.EarlyRules.{rule_number}
 
 -- the script of this number, and the cause
@@ -28,7 +28,6 @@ refusal_words (Some (Early k rule)) = script_words k (codes "early error " ++ de
 refusal_words (Some (TooDeep k)) = script_words k (codes "too deep")
 refusal_words (Some (ReservedName k)) = script_words k (codes "reserved name")
 refusal_words (Some (NotForm k)) = script_words k (codes "not in form")
-refusal_words (Some (NotBuilt k)) = script_words k (codes "not built")
 
 abbrev pub note_words : Status → List ℕ
 note_words Ok = []

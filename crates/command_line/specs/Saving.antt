@@ -1,6 +1,5 @@
 -- What `save` writes, and that it goes on as the page would.
 use Rattle.std.specs.Prelude.{ℕ, ◌≡◌, ◌<◌, ◌⊎◌, List, [], ◌+◌, ◌*◌, ◌≤◌, length, ◌∷◌}
-use Rattle.heap_walker.specs.Remade.{AllCanBeRemade}
 use Rattle.heap_walker.specs.Things.{IsWalk}
 use Rattle.heap_walker.specs.Weight.{load_of, told}
 use Rattle.heap_walker.specs.declared.weight.Weight.{Weight}
@@ -26,13 +25,6 @@ pub record IsAfter (bytes file : List ℕ) (s : Store) (things : List ℕ) : Typ
   pub state : s ≡ run_of (opened page) events
   pub walked : IsWalk s things
 
--- one of its functions cannot be made again from its code and what its needed variables hold. That there is no such page is not proved
-pub record CannotBeRemade (bytes file : List ℕ) : Type 0 where
-  pub state : Store
-  pub things : List ℕ
-  pub after : IsAfter bytes file state things
-  pub not_remade : ¬ AllCanBeRemade state things
-
 abbrev pub IsTooMuch : Weight → Type 0
 IsTooMuch w = (things_limit < w.things) ⊎ (text_limit < w.text)
 
@@ -41,16 +33,14 @@ pub record IsTooLarge (bytes file : List ℕ) (w : Weight) : Type 0 where
   pub state : Store
   pub things : List ℕ
   pub after : IsAfter bytes file state things
-  pub remade : AllCanBeRemade state things
   pub weighed : w ≡ told (load_of state things)
   pub more : IsTooMuch w
 
--- neither: it can be saved
+-- there are no more, and no more text: it can be saved
 pub record IsMovable (bytes file : List ℕ) : Type 0 where
   pub state : Store
   pub things : List ℕ
   pub after : IsAfter bytes file state things
-  pub remade : AllCanBeRemade state things
   pub little : ¬ IsTooMuch (told (load_of state things))
 
 -- ---- how it goes on

@@ -5,7 +5,6 @@ use Rattle.page_io.specs.Content.{Told}
 use Rattle.page_io.specs.Faults.{Rose}
 use Rattle.page_io.specs.Seen.{FilesSeen, SinkSeen}
 use Rattle.page_check.specs.Accept.{IsRefused}
-use Rattle.page_check.specs.declared.page.Refusal.TheVariants.{NotBuilt}
 use Rattle.js_values.specs.declared.event.Event.{Event}
 use Rattle.event_file.specs.Events.{calls_of}
 use Rattle.command_line.specs.declared.status.Status.{Status}
@@ -14,7 +13,7 @@ use Rattle.command_line.specs.Page.{page_limit, event_file_limit, Page, Accepts}
 use Rattle.command_line.specs.declared.command.Work.TheVariants.{Replay, Save}
 use Rattle.command_line.specs.Command.{Command, check, instrument, session, files_of}
 use Rattle.command_line.specs.Replay.{IsEventFile}
-use Rattle.command_line.specs.Saving.{IsMovable, IsTooLarge, CannotBeRemade}
+use Rattle.command_line.specs.Saving.{IsMovable, IsTooLarge}
 
 -- What is seen of the outside: files and output, before a command and now.
 pub record Seen : Type 0 where
@@ -60,7 +59,7 @@ pub data Stage : Type 0 where
   acceptance : List ℕ → Stage
   -- it reads the event file of this name
   event_file : List ℕ → Stage
-  -- it takes what the page of the one name is after the events of the other, if that can be saved
+  -- it takes what the page of the one name is after the events of the other, if that is little enough
   moving : List ℕ → List ℕ → Stage
   -- it makes its text and writes it
   writing : Stage
@@ -76,7 +75,6 @@ Stops (acceptance p) OutOfMemory seen = Unit {0}
 Stops (event_file e) ReadFault seen = ReadFailed e seen
 Stops (event_file e) (EventsRefused i) seen = Held seen e (λ file. IsNoEventFile file i)
 Stops (event_file e) OutOfMemory seen = Unit {0}
-Stops (moving p e) (PageRefused (Some (NotBuilt k))) seen = (k ≡ 1) × Held seen p (λ bytes. Held seen e (λ file. CannotBeRemade bytes file))
 Stops (moving p e) (TooLarge w) seen = Held seen p (λ bytes. Held seen e (λ file. IsTooLarge bytes file w))
 Stops (moving p e) OutOfMemory seen = Unit {0}
 Stops writing Ok seen = Unit {0}

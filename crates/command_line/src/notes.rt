@@ -103,7 +103,6 @@ fn put_refusal<N: Sink>(notes: &mut N, refusal: Refusal) -> Result<(), PutFault>
         Refusal::TooDeep(script) => put_script(notes, script, b"too deep"),
         Refusal::ReservedName(script) => put_script(notes, script, b"reserved name"),
         Refusal::NotForm(script) => put_script(notes, script, b"not in form"),
-        Refusal::NotBuilt(script) => put_script(notes, script, b"not built"),
     }
 }
 

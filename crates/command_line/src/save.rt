@@ -16,7 +16,7 @@ use page_io::sink::Sink;
 use std::alloc::Global;
 
 /// Writes the page of this name as it is after the events. The order is: reading and accepting the page, reading the
-/// events, opening its scopes, loading and acting, what can be reached and whether it can be saved, writing. The first
+/// events, opening its scopes, loading and acting, what can be reached and whether it is too large, writing. The first
 /// cause to end is the answer.
 pub fn save<F: Files, O: Sink>(
     alloc: Global,

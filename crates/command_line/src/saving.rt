@@ -1,7 +1,6 @@
 //! What is saved of a page, where that can be.
 
 ghost use Rattle.std.specs.Prelude.{◌≡◌, ◌≤◌, ℕ, List};
-ghost use Rattle.heap_walker.specs.Remade.{AllCanBeRemade};
 ghost use Rattle.heap_walker.specs.Things.{IsWalk};
 ghost use Rattle.page_meaning.specs.Pages.{run_of};
 ghost use Rattle.opened_pages.specs.Opened.{HaveNumbers};
@@ -11,18 +10,17 @@ ghost use Rattle.command_line.specs.Page.{opened, page_of};
 
 use crate::replay::run_page;
 use crate::status::Status;
-use heap_walker::{Walked, all_can_be_remade, walk};
+use heap_walker::{Walked, walk};
 use js_core::memory::OutOfMemory;
 use js_values::event::Event;
 use opened_pages::open_accepted;
-use page_check::{Accepted, Refusal};
+use page_check::Accepted;
 use page_io::sink::Sink;
 use page_state::State;
 use page_writer::{SaveFault, write_walked};
 use std::alloc::Global;
 
-/// Puts the page as it is after the events, with opened scopes, where each of its functions can be made again and it is not too
-/// large.
+/// Puts the page as it is after the events, with opened scopes, where it is not too large.
 pub fn save_page<O: Sink>(alloc: Global, page: Accepted, list: &[Event], out: &mut O) -> Status
     requires { (bytes : List ℕ) × IsAccepted bytes page }
     ensures answer { IsAnswer (run_of (opened (page_of page)) list.now)
@@ -63,20 +61,6 @@ fn save_state<O: Sink>(state: &State, out: &mut O) -> Status
 // Puts the page whose things these are.
 fn save_walked<O: Sink>(state: &State, walked: &Walked, out: &mut O) -> Status
     requires { IsWalk state.now walked.now.things.keys }
-    ensures answer { IsAnswer state.now (O.seen out.old) (O.seen out.new) result }
-    ensures later { (O.seen out.old).faults ≤ (O.seen out.new).faults }
-{
-    match all_can_be_remade(state, walked) {
-        Ok(true) => save_remade(state, walked, out),
-        Ok(false) => Status::PageRefused(Some(Refusal::NotBuilt(1))),
-        Err(OutOfMemory) => Status::OutOfMemory,
-    }
-}
-
-// Puts the page, each function of which can be made again.
-fn save_remade<O: Sink>(state: &State, walked: &Walked, out: &mut O) -> Status
-    requires walked { IsWalk state.now walked.now.things.keys }
-    requires remade { AllCanBeRemade state.now walked.now.things.keys }
     ensures answer { IsAnswer state.now (O.seen out.old) (O.seen out.new) result }
     ensures later { (O.seen out.old).faults ≤ (O.seen out.new).faults }
 {

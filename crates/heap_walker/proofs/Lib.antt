@@ -1,10 +1,8 @@
 pub mod Bindings
-pub mod Bound
 pub mod Callers
 pub mod Joining
 pub mod Needing
 pub mod Places
-pub mod Remaking
 pub mod Resting
 pub mod Walks
 pub mod Weights

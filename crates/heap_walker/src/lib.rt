@@ -5,13 +5,11 @@ mod laws;
 mod links;
 mod needs;
 mod reached;
-mod remade;
 mod weight;
 
 pub use laws::law_walks_are_same;
 pub use needs::{Needs, needs_of};
 pub use reached::{Walked, walk};
-pub use remade::all_can_be_remade;
 pub use weight::{Weight, weigh, weight_of};
 
 /// How many objects a page begins with, the global object among them. Those that scripts make are younger.

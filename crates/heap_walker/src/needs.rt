@@ -101,9 +101,9 @@ fn bound_value(state: &State, env: Option<EnvId>, name: &Units) -> Result<Value,
     }
 }
 
-/// The names of those variables, in the order of their uses. The work is in proportion to the function's code, and each use
-/// costs as much as there are functions and catch clauses round it.
-pub fn needed_names(alloc: Global, code: &FunctionCode) -> Result<IndexSet<Units>, OutOfMemory>
+// The names of those variables, in the order of their uses. The work is in proportion to the function's code, and each use
+// costs as much as there are functions and catch clauses round it.
+fn needed_names(alloc: Global, code: &FunctionCode) -> Result<IndexSet<Units>, OutOfMemory>
     ensures { IfOk result (λ names. names.keys ≡ needed_variables code.now) }
 {
     let bound = bound_round(alloc, code)?;
@@ -113,15 +113,15 @@ pub fn needed_names(alloc: Global, code: &FunctionCode) -> Result<IndexSet<Units
     Ok(names)
 }
 
-/// The function's tree, which may have a name that the function is held without.
-pub fn source_of(code: &FunctionCode) -> &Code
+// The function's tree, which may have a name that the function is held without.
+fn source_of(code: &FunctionCode) -> &Code
     ensures { unnamed result.now ≡ unnamed code.now }
 {
     code.source()
 }
 
-/// The uses of names in a function's body that no function or catch clause in it binds.
-pub fn uses_of(alloc: Global, code: &Code) -> Result<Vec<Use>, OutOfMemory>
+// The uses of names in a function's body that no function or catch clause in it binds.
+fn uses_of(alloc: Global, code: &Code) -> Result<Vec<Use>, OutOfMemory>
     ensures { IfOk result (λ uses. uses.items ≡ stmts_uses (code_body code.now)) }
 {
     let mut uses = Vec::new(alloc);
@@ -129,8 +129,8 @@ pub fn uses_of(alloc: Global, code: &Code) -> Result<Vec<Use>, OutOfMemory>
     Ok(uses)
 }
 
-/// A table of the names that the function binds, its own among them where it is held with it.
-pub fn bound_round(alloc: Global, code: &FunctionCode) -> Result<IndexSet<Units>, OutOfMemory>
+// A table of the names that the function binds, its own among them where it is held with it.
+fn bound_round(alloc: Global, code: &FunctionCode) -> Result<IndexSet<Units>, OutOfMemory>
     ensures { IfOk result (λ table. (x : List ℕ) → contains bytes_eq table x
         ≡ is_among x (maybe_name (name_of code.now) ++ bound_names code.now)) }
 {

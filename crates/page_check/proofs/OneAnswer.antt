@@ -27,7 +27,6 @@ stage_of (refusal.Early k rule) = 5
 stage_of (refusal.TooDeep k) = 6
 stage_of (refusal.ReservedName k) = 7
 stage_of (refusal.NotForm k) = 7
-stage_of (refusal.NotBuilt k) = 7
 
 below : (n m : ℕ) → nat_lt n m ≡ true → n < m
 below n m e = grind (arith, nat_tests)
@@ -45,7 +44,6 @@ early_enough (refusal.Early k rule) = omega arith
 early_enough (refusal.TooDeep k) = omega arith
 early_enough (refusal.ReservedName k) = omega arith
 early_enough (refusal.NotForm k) = omega arith
-early_enough (refusal.NotBuilt k) = omega arith
 
 module _ (one_list : (text : List ℕ) (l r : List Token) → Tokens text l → Tokens text r → l ≡ r) (one_tree : (tokens : List Token) (s t : tree.Stmts) → Derives tokens s → Derives tokens t → s ≡ t) where
   pub one_acceptance : (bytes : List ℕ) (kind other : Kind) (scripts more : List tree.Stmts) → IsAcceptedAs bytes kind scripts → IsAcceptedAs bytes other more → (kind ≡ other) × (scripts ≡ more)
@@ -64,7 +62,6 @@ module _ (one_list : (text : List ℕ) (l r : List Token) → Tokens text l → 
   stops bytes (refusal.TooDeep k) h = stops_at one_list one_tree bytes k TooDeep (λ e. cc) h
   stops bytes (refusal.ReservedName k) h = stops_at one_list one_tree bytes k ReservedName (λ e. cc) h
   stops bytes (refusal.NotForm k) h = stops_at one_list one_tree bytes k NotForm (λ e. cc) h
-  stops bytes (refusal.NotBuilt k) h = absurd h
 
   -- of two stages one is not before the other
   apart : (bytes : List ℕ) (n m : ℕ) → n < m → ¬ Reached bytes (suc n) → ¬ Reached bytes m
@@ -109,8 +106,6 @@ module _ (one_list : (text : List ℕ) (l r : List Token) → Tokens text l → 
       of_one_stage (refusal.NotForm k) (refusal.NotForm l) h g e = ap refusal.NotForm (h.first ∙ sym g.first)
       of_one_stage (refusal.ReservedName k) (refusal.NotForm l) h g e = absurd (not_both bytes k l h g)
       of_one_stage (refusal.NotForm k) (refusal.ReservedName l) h g e = absurd (not_both bytes l k g h)
-      of_one_stage (refusal.NotBuilt k) s h g e = absurd h
-      of_one_stage r (refusal.NotBuilt k) h g e = absurd g
       of_one_stage r s h g e = absurd (omega (arith, e))
 
   pub not_refused : (bytes : List ℕ) (kind : Kind) (scripts : List tree.Stmts) (r : Refusal) → IsAcceptedAs bytes kind scripts → ¬ IsRefused bytes r

@@ -18,7 +18,7 @@ use Rattle.page_check.specs.declared.page.AcceptFault.TheVariants.{Refused, OutO
 use Rattle.page_check.specs.declared.page.Kind.{Kind}
 use Rattle.page_check.specs.declared.page.Kind.TheVariants.{Plain, Form}
 use Rattle.page_check.specs.declared.page.Refusal.{Refusal}
-use Rattle.page_check.specs.declared.page.Refusal.TheVariants.{NotUtf8, NotPage, NotTokens, NotScript, NotStrict, Early, TooDeep, ReservedName, NotForm, NotBuilt}
+use Rattle.page_check.specs.declared.page.Refusal.TheVariants.{NotUtf8, NotPage, NotTokens, NotScript, NotStrict, Early, TooDeep, ReservedName, NotForm}
 use Rattle.page_check.specs.declared.script.ScriptFault.{ScriptFault}
 use Rattle.page_check.specs.declared.script.ScriptFault.TheVariants as cause
 
@@ -109,7 +109,6 @@ IsRefused bytes (Early k rule) = IsRefusedAt bytes k (cause.Early rule)
 IsRefused bytes (TooDeep k) = IsRefusedAt bytes k cause.TooDeep
 IsRefused bytes (ReservedName k) = IsRefusedAt bytes k cause.ReservedName
 IsRefused bytes (NotForm k) = IsRefusedAt bytes k cause.NotForm
-IsRefused bytes (NotBuilt k) = ⊥
 
 -- want of memory is free
 abbrev pub IsNotAccepted : List ℕ → AcceptFault → Type 0

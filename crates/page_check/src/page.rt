@@ -45,8 +45,6 @@ pub enum Refusal {
     ReservedName(u64),
     /// The script of a form page is not in form.
     NotForm(u64),
-    /// The script does not run yet. `accept` never answers this.
-    NotBuilt(u64),
 }
 
 /// Why bytes are not accepted as a page.
