@@ -35,7 +35,7 @@ unless true x y e h = cc e
 unless false x y e h = h
 
 -- what holds of all names holds of each
-all_names : (p : List ℕ → Bool) (xs : List (List ℕ)) (x : List ℕ) → list_all p xs ≡ true → Among x xs → p x ≡ true
+pub all_names : (p : List ℕ → Bool) (xs : List (List ℕ)) (x : List ℕ) → list_all p xs ≡ true → Among x xs → p x ≡ true
 all_names p [] x all h = cc h
 all_names p (y ∷ ys) x all h = by (bytes_eq x y) refl (all_names p ys x (and_parts (p y) (list_all p ys) all).1) h
   where
@@ -44,10 +44,6 @@ all_names p (y ∷ ys) x all h = by (bytes_eq x y) refl (all_names p ys x (and_p
     by false other later k = later k
 
 -- ---- uses
-
-pub each_pair : (P Q R : Use → Type 0) → ((u : Use) → P u → Q u → R u) → (us : List Use) → Each P us → Each Q us → Each R us
-each_pair P Q R so [] h k = tt
-each_pair P Q R so (u ∷ us) h k = (so u h.0 k.0, each_pair P Q R so us h.1 k.1)
 
 module _ (test : Use → Bool) where
   abbrev has : List ℕ → List Use → Bool

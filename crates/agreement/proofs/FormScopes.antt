@@ -20,8 +20,9 @@ use Rattle.heap_relations.specs.Scope.{own_frame}
 use Rattle.agreement.specs.Formed.{absent_kept, finds_needs, formed, held_kept, is_found_so, is_held, is_unbound, seals_name}
 use Rattle.agreement.specs.Opened.{are_sure, begins_with_set, clause_frame, declares_none, frames_round, function_frame, is_bound, is_sealed, may_use}
 use Rattle.agreement.specs.Trees.{bound_where}
-use Rattle.agreement.proofs.FormNames.{Formed, and_false, assigned_each, box_is_plain, captured_each, captured_is, each_pair, holds, leaving_from, names_are_sure, no_functions, none_is_set, none_is_set_later, not_false, only_first, opening_is_plain, or_else, same_name, seals, setting_is_unbound, unassigned_each, uncaptured_each}
+use Rattle.agreement.proofs.FormNames.{Formed, and_false, assigned_each, box_is_plain, captured_each, captured_is, holds, leaving_from, names_are_sure, no_functions, none_is_set, none_is_set_later, not_false, only_first, opening_is_plain, or_else, same_name, seals, setting_is_unbound, unassigned_each, uncaptured_each}
 use Rattle.agreement.proofs.FormPieces.{Allowed, Clean, Piece, Sets, clean_left, clean_right}
+use Rattle.agreement.proofs.StandsScopes.{each_pair}
 
 -- ---- a scope
 

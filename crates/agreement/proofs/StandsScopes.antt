@@ -23,7 +23,7 @@ use Rattle.agreement.proofs.Unset.{unset_clause, unset_frame}
 use Rattle.agreement.specs.Opened.{are_plain, clause_may_open, frames_round, is_bound, is_numbered, is_round, is_sealed, kept_in, may_open, may_use, number_in, opened_at, scope_frame}
 use Rattle.agreement.proofs.StandsPieces.{Allowed, Piece, inner, plain_name, still_below, with_uses}
 
-each_pair : (P Q R : Use → Type 0) → ((u : Use) → P u → Q u → R u) → (us : List Use) → Each P us → Each Q us → Each R us
+pub each_pair : (P Q R : Use → Type 0) → ((u : Use) → P u → Q u → R u) → (us : List Use) → Each P us → Each Q us → Each R us
 each_pair P Q R so [] h k = tt
 each_pair P Q R so (u ∷ us) h k = (so u h.0 k.0, each_pair P Q R so us h.1 k.1)
 

@@ -1,16 +1,17 @@
 -- In a script in form no function assigns to a reserved name that it leaves to the scopes round it: what of that holds of a piece holds of its parts.
 use Rattle.std.proofs.Common.{◌≡◌, refl, sym, ap, ◌∙◌, ℕ, Bool, true, false, not, ◌&&◌, ◌||◌, List, [], ◌∷◌, ◌++◌, Option, Some, None, bytes_eq, if◌then◌else◌}
-use Rattle.std.specs.List.{list_all, list_any}
+use Rattle.std.specs.List.{list_any}
 use Rattle.std.proofs.lemmas.Bool.{and_parts, not-true, or_from, or_parts}
 use Rattle.std.proofs.lemmas.List.Folds.{list_any-append}
 use Rattle.std.proofs.lemmas.Slice.Eq.{bytes_eq-Decides}
 use Rattle.js_core.specs.Tree as tree
-use Rattle.js_core.specs.Tree.{assign, code, expr, func, name, no_declarators, no_expr, no_stmts, one_expr, then_declarator, then_stmt, var}
+use Rattle.js_core.specs.Tree.{assign, code, expr, func, name, no_declarators, no_expr, one_expr, then_declarator, then_stmt, var}
 use Rattle.scope_analysis.specs.Form.{any_use_is_reserved, are_variables_in_form, boxes, can_be_rebuilt, is_assigned_once, is_clause_out_of_form, is_constant, is_expression_out_of_form, is_not_captured, is_once, is_opened, is_parameter_in_form, may_be_captured, opens_with}
 use Rattle.scope_analysis.specs.Identifiers.{is_reserved}
 use Rattle.scope_analysis.specs.Names.{code_body, declared_names, is_among, maybe_name, unless_among}
 use Rattle.scope_analysis.specs.Uses.{assignment, crossing, declarator_uses, expr_uses, is_assigned, is_captured, leaving_clause, leaving_function, maybe_expr_uses, stmts_uses, target_uses}
 use Rattle.scope_analysis.specs.declared.name_use.Use.{Use}
+use Rattle.agreement.proofs.Callers.{all_names, not_false, or_else, same_name}
 
 -- a function inside assigns to a reserved name
 abbrev assigns_outwards : Use → Bool
@@ -100,10 +101,6 @@ boxed_once x ss h once = cc h
 
 -- ---- the variables of a function in form
 
-or_else : (a b : Bool) → (not a || b) ≡ true → a ≡ true → b ≡ true
-or_else true b h e = h
-or_else false b h e = cc e
-
 variable_calm : (formals declared : List (List ℕ)) (body : tree.Stmts) (x : List ℕ)
     → may_be_captured formals declared body (stmts_uses body) x ≡ true → assigns_from_inside x (stmts_uses body) ≡ false
 variable_calm formals declared body x h = by (is_captured x us) refl
@@ -123,15 +120,6 @@ variable_calm formals declared body x h = by (is_captured x us) refl
         let whole : can_be_rebuilt formals declared body us x ≡ true = or_else (is_captured x us) (can_be_rebuilt formals declared body us x) h e in
         rebuilt (is_among x formals) (and_parts (is_reserved x) _ whole).1
 
--- what holds of all names holds of each
-all_names : (p : List ℕ → Bool) (xs : List (List ℕ)) (x : List ℕ) → list_all p xs ≡ true → is_among x xs ≡ true → p x ≡ true
-all_names p [] x all h = cc h
-all_names p (y ∷ ys) x all h = by (bytes_eq x y) refl (all_names p ys x (and_parts (p y) (list_all p ys) all).1) h
-  where
-    by : (b : Bool) → bytes_eq x y ≡ b → (is_among x ys ≡ true → p x ≡ true) → (b || is_among x ys) ≡ true → p x ≡ true
-    by true same later k = ap p ((bytes_eq-Decides x y).0 same) ∙ (and_parts (p y) (list_all p ys) all).0
-    by false other later k = later k
-
 own_calm : (x : Option (List ℕ)) (xs : List (List ℕ)) (y : List ℕ) (us : List Use) → is_not_captured (unless_among x xs) us ≡ true
     → is_among y (maybe_name x) ≡ true → is_among y xs ≡ false → assigns_from_inside y us ≡ false
 own_calm None xs y us h own other = cc own
@@ -148,9 +136,6 @@ own_calm (Some x) xs y us h own other =
     by false e same k = ap (λ z. is_captured z us) same ∙ not-true (is_captured x us) k
 
 -- ---- functions and catch clauses inside
-
-same_name : (x : List ℕ) → bytes_eq x x ≡ true
-same_name x = (bytes_eq-Decides x x).1 refl
 
 -- a use that a name bound here has is no such one
 bound_use : (u : Use) → (u.crosses && (u.assigns && bytes_eq u.name u.name)) ≡ false → assigns_outwards u ≡ false
@@ -205,10 +190,6 @@ block_calm x (u ∷ us) bound h = by (bytes_eq u.name x) refl h (block_calm x us
     by false e k more =
         let both = or_parts (assigns_outwards u) (assigns_round (leaving_clause x us)) k in
         or_from (assigns_outwards u) (assigns_round us) both.0 (more both.1)
-
-not_false : (b : Bool) → not b ≡ false → b ≡ true
-not_false true e = refl
-not_false false e = cc e
 
 pub function_calm : (c : tree.Code) → is_expression_out_of_form c ≡ false → assigns_round (expr_uses (func c)) ≡ false
     → assigns_round (stmts_uses (code_body c)) ≡ false

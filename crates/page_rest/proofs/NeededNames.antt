@@ -14,14 +14,12 @@ use Rattle.scope_analysis.specs.Identifiers.{is_reserved, is_restricted}
 use Rattle.scope_analysis.specs.Names.{has_repeat, is_among}
 use Rattle.scope_analysis.specs.Uses.{crossing, expr_uses, leaving_function}
 use Rattle.scope_analysis.specs.declared.name_use.Use.{Use}
+use Rattle.agreement.proofs.Callers.{same_name}
 
 abbrev names : List Use → List (List ℕ)
 names us = map (λ (u : Use). u.name) us
 
 -- ---- one name more
-
-pub same_name : (x : List ℕ) → bytes_eq x x ≡ true
-same_name x = (bytes_eq-Decides x x).1 refl
 
 turned : (x y : List ℕ) → bytes_eq x y ≡ false → bytes_eq y x ≡ false
 turned x y e = by (bytes_eq y x) refl

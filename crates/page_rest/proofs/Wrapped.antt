@@ -14,10 +14,11 @@ use Rattle.scope_analysis.specs.Names.{bound_names, declared_names, is_among, ma
 use Rattle.scope_analysis.specs.Nodes.{Node, expr_any, expression, statement, stmts_any}
 use Rattle.scope_analysis.specs.Uses.{expr_uses, is_assigned, is_captured, stmts_uses}
 use Rattle.scope_analysis.specs.declared.name_use.Use.{Use}
+use Rattle.agreement.proofs.Callers.{same_name}
 use Rattle.page_rest.proofs.Assigning.{assigns_round, never_assigned}
 use Rattle.page_rest.proofs.FormParts.{FormParts, from_parts}
 use Rattle.scope_analysis.proofs.Callers.{KeepsRules, none_is_broken}
-use Rattle.page_rest.proofs.NeededNames.{needed_are_all, needed_are_apart, needed_are_reserved, needed_are_unrestricted, or_left, or_right, same_name}
+use Rattle.page_rest.proofs.NeededNames.{needed_are_all, needed_are_apart, needed_are_reserved, needed_are_unrestricted, or_left, or_right}
 use Rattle.page_rest.proofs.Tests.{Deleted, Fields, Formals, Jumps, Kept, Own, Restricted, Scopes, Targets, Test, nor, test_of}
 use Rattle.page_rest.specs.Asks.{is_formed, is_no}
 

@@ -20,7 +20,7 @@ use Rattle.rebuilding.specs.Frames.{is_own, is_sealed, round_frame}
 use Rattle.rebuilding.proofs.Entries.{binds, entry_binds}
 use Rattle.rebuilding.proofs.Pieces.{stmts_stand}
 use Rattle.rebuilding.proofs.Uses.{Apt, are_reached, kept_bound, kept_reached, reaches}
-use Rattle.rebuilding.proofs.Basics.{same_name}
+use Rattle.agreement.proofs.Callers.{same_name}
 use Rattle.rebuilding.proofs.Wrapped.{declares_none, left_are_others, names_left, needed_unassigned, own_unassigned}
 
 -- ---- names in the frame round it

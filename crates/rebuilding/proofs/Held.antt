@@ -21,7 +21,7 @@ use Rattle.scope_analysis.specs.Names.{is_among}
 use Rattle.rebuilding.specs.Frames.{is_own}
 use Rattle.rebuilding.specs.Scene.{IsBinding, IsRoundOf, Scene, bare, env_at, named, needed, none_needed}
 use Rattle.rebuilding.specs.Sites.{sited_needs, sited_value}
-use Rattle.rebuilding.proofs.Basics.{same_name}
+use Rattle.agreement.proofs.Callers.{same_name}
 use Rattle.rebuilding.proofs.Wrapped.{needed_not_own}
 
 -- where the name is found, with this value

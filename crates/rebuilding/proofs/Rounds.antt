@@ -28,7 +28,7 @@ use Rattle.rebuilding.proofs.Basics.{is_false, nothing}
 use Rattle.rebuilding.proofs.Closures.{binding_there}
 use Rattle.rebuilding.proofs.Held.{IsFound, needed_found, not_held, own_found, round_unbound, some_found}
 use Rattle.rebuilding.proofs.Naming.{rebuilt_world}
-use Rattle.rebuilding.proofs.Wrapped.{all_names}
+use Rattle.agreement.proofs.Callers.{all_names}
 
 -- ---- names
 

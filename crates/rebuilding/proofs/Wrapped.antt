@@ -24,6 +24,7 @@ use Rattle.scope_analysis.specs.Uses.{crossing, expr_uses, is_assigned, is_captu
 use Rattle.scope_analysis.specs.declared.early_rule.EarlyRule.{EarlyRule}
 use Rattle.scope_analysis.specs.declared.early_rule.EarlyRule.TheVariants as rule
 use Rattle.scope_analysis.specs.declared.name_use.Use.{Use}
+use Rattle.agreement.proofs.Callers.{all_names}
 use Rattle.rebuilding.specs.Frames.{is_own}
 
 -- ---- no function is declared in it
@@ -221,15 +222,6 @@ left_captured bound (u ∷ us) y h = by_case (is_among u.name bound) h (left_cap
 
 names_captured : (c : tree.Code) (y : List ℕ) → is_among y (names_left c) ≡ true → is_captured y (expr_uses (func c)) ≡ true
 names_captured (code x formals body) y h = left_captured (maybe_name x ++ bound_names (code x formals body)) (stmts_uses body) y h
-
--- what holds of all names holds of each
-pub all_names : (p : List ℕ → Bool) (xs : List (List ℕ)) (x : List ℕ) → list_all p xs ≡ true → is_among x xs ≡ true → p x ≡ true
-all_names p [] x all h = cc h
-all_names p (y ∷ ys) x all h = by (bytes_eq x y) refl (λ more. all_names p ys x (and_parts (p y) (list_all p ys) all).1 more)
-  where
-    by : (b : Bool) → bytes_eq x y ≡ b → (is_among x ys ≡ true → p x ≡ true) → p x ≡ true
-    by true same later = ap p ((bytes_eq-Decides x y).0 same) ∙ (and_parts (p y) (list_all p ys) all).0
-    by false other later = later (rw other at h)
 
 -- the function of the needed variables, which stands round it
 abbrev round : tree.Code → tree.Code
