@@ -1,8 +1,7 @@
 #!/bin/sh
 # How the time of a command grows with the page and the events: `replay` of 10,000 to 200,000 assignments, and of events on a
 # small page; `check` of object literals, and of functions with many variables or with many formals that a function inside
-# uses. The last column stays about the same where the time is in proportion. Build the program first: `./imagen replay` on
-# an example.
+# uses. The last column stays about the same where the time is in proportion. Build the program first: `./imagen --build`.
 top=$(cd "$(dirname "$0")/.." && pwd) || exit 1
 program=$top/crates/imagen/out/imagen
 work=$(mktemp -d) || exit 1
