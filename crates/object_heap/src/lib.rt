@@ -16,6 +16,4 @@ pub mod methods;
 pub mod object;
 pub mod properties;
 pub mod property;
-#[cfg(test)]
-mod tests;
 pub mod values;
