@@ -1,8 +1,6 @@
 //! The early rules that a script breaks.
 
-ghost use Rattle.std.specs.Prelude.{◌≡◌, ◌≤◌, IfOk};
-ghost use Rattle.js_core.specs.Height.{expr_height, stmt_height};
-ghost use Rattle.js_core.specs.Views.{stmt_of};
+ghost use Rattle.std.specs.Prelude.{◌≡◌, IfOk};
 ghost use Rattle.js_core.specs.Tree.{stmts_of};
 ghost use Rattle.scope_analysis.specs.declared.early_rule.EarlyRule.TheVariants as rule;
 ghost use Rattle.scope_analysis.specs.EarlyRules as spec;
@@ -114,71 +112,5 @@ fn is_global(name: &Option<Units>) -> bool
     match name {
         None => false,
         Some(name) => is_global_name(name),
-    }
-}
-
-#[cfg(test)]
-mod tests {
-    use super::*;
-    use crate::test_trees::{alone, assigned, function, name, script};
-    use js_core::syntax::Expr;
-    use std::process::Abort;
-    use std::test::Fail;
-
-    // The number of the first rule broken, or 0.
-    fn breaks(rt: &(impl Abort + AllocGlobal), node: StmtNode, number: u8) -> Result<(), Fail>
-        requires { stmt_height (stmt_of node) ≤ 500 }
-    {
-        let broken = match early(rt.alloc(), &script(rt.alloc(), node)?)? {
-            None => 0,
-            Some(rule) => rule.number(),
-        };
-        assert_eq!(rt; broken, number);
-        Ok(())
-    }
-
-    #[test]
-    fn finds_the_lowest_rule(rt: HostRuntime) -> Result<(), Fail> {
-        let a = rt.alloc();
-        breaks(&rt, StmtNode::Empty, 0)?;
-        let twice = function(a, "f", &["x", "y", "x"], StmtNode::Empty)?;
-        breaks(&rt, StmtNode::Expr(twice), 1)?;
-        let once = function(a, "x", &["x", "X"], StmtNode::Empty)?;
-        breaks(&rt, StmtNode::Expr(once), 0)?;
-        breaks(&rt, StmtNode::Throw(name(a, "eval")?), 4)?;
-        breaks(&rt, StmtNode::Throw(name(a, "evals")?), 0)?;
-        let formal = function(a, "", &["arguments"], StmtNode::Break)?;
-        breaks(&rt, StmtNode::Expr(formal), 4)
-    }
-
-    #[test]
-    fn finds_stray_jumps(rt: HostRuntime) -> Result<(), Fail> {
-        let a = rt.alloc();
-        breaks(&rt, StmtNode::Return(None), 5)?;
-        let returning = function(a, "", &[], StmtNode::Return(None))?;
-        breaks(&rt, StmtNode::Return(Some(returning)), 5)?;
-        breaks(&rt, StmtNode::Continue, 6)?;
-        let looping = StmtNode::While(name(a, "x")?, alone(a, StmtNode::Continue)?);
-        breaks(&rt, looping, 0)?;
-        let inner = function(a, "", &[], StmtNode::Break)?;
-        let around = StmtNode::While(inner, alone(a, StmtNode::Break)?);
-        breaks(&rt, around, 6)
-    }
-
-    // `(function f(formal){f=x;})`
-    fn assigning(alloc: Global, formal: &str) -> Result<Expr, Fail>
-        ensures { IfOk result (λ e. expr_height e ≤ 101) }
-    {
-        let value = assigned(alloc, name(alloc, "f")?, name(alloc, "x")?)?;
-        function(alloc, "f", &[formal], StmtNode::Expr(value))
-    }
-
-    #[test]
-    fn finds_assigned_own_names(rt: HostRuntime) -> Result<(), Fail> {
-        let a = rt.alloc();
-        breaks(&rt, StmtNode::Expr(assigning(a, "g")?), 8)?;
-        breaks(&rt, StmtNode::Expr(assigning(a, "f")?), 0)?;
-        let inside = function(a, "", &["f"], StmtNode::Throw(assigning(a, "")?))?;
-        breaks(&rt, StmtNode::Expr(inside), 8)
     }
 }

@@ -1,8 +1,6 @@
 //! The rule of form, and the other rules on names and heights of form pages.
 
-ghost use Rattle.std.specs.Prelude.{◌≡◌, ◌≤◌, IfOk};
-ghost use Rattle.js_core.specs.Height.{expr_height, stmt_height};
-ghost use Rattle.js_core.specs.Views.{stmt_of};
+ghost use Rattle.std.specs.Prelude.{◌≡◌, IfOk};
 ghost use Rattle.js_core.specs.Tree.{stmts_of};
 ghost use Rattle.scope_analysis.specs.Form as spec;
 
@@ -87,66 +85,5 @@ fn declares_inside(alloc: Global, statement: &Stmt) -> Result<bool, OutOfMemory>
     match &statement.node {
         StmtNode::Function(code) => any_in_code(alloc, NodeTest::IsDeclaration, code),
         _ => any_in_statement(alloc, NodeTest::IsDeclaration, statement),
-    }
-}
-
-#[cfg(test)]
-mod tests {
-    use super::*;
-    use crate::test_trees::{assigned, function, name, script};
-    use js_core::syntax::Expr;
-    use std::process::Abort;
-    use std::test::Fail;
-
-    fn forms(rt: &(impl Abort + AllocGlobal), node: StmtNode, good: bool) -> Result<(), Fail>
-        requires { stmt_height (stmt_of node) ≤ 500 }
-    {
-        let found = in_form(rt.alloc(), &script(rt.alloc(), node)?)?;
-        assert_eq!(rt; found, good);
-        Ok(())
-    }
-
-    // `(function own(formal){return function(){throw value;};})`
-    fn capturing(alloc: Global, own: &str, formal: &str, value: Expr) -> Result<StmtNode, Fail>
-        requires { expr_height value ≤ 60 }
-        ensures { IfOk result (λ s. stmt_height (stmt_of s) ≤ 150) }
-    {
-        let inner = function(alloc, "", &[], StmtNode::Throw(value))?;
-        let returned = StmtNode::Return(Some(inner));
-        Ok(StmtNode::Expr(function(alloc, own, &[formal], returned)?))
-    }
-
-    #[test]
-    fn knows_captured_formals(rt: HostRuntime) -> Result<(), Fail> {
-        let a = rt.alloc();
-        forms(&rt, StmtNode::Empty, true)?;
-        forms(&rt, capturing(a, "f", "$$x", name(a, "$$x")?)?, true)?;
-        forms(&rt, capturing(a, "f", "x", name(a, "x")?)?, false)?;
-        forms(&rt, capturing(a, "f", "x", name(a, "y")?)?, true)?;
-        forms(&rt, capturing(a, "f", "x", name(a, "f")?)?, false)?;
-        forms(&rt, capturing(a, "f", "$$x", name(a, "$$y")?)?, false)?;
-        let value = assigned(a, name(a, "$$x")?, name(a, "y")?)?;
-        forms(&rt, capturing(a, "f", "$$x", value)?, false)
-    }
-
-    #[test]
-    fn knows_reserved_names(rt: HostRuntime) -> Result<(), Fail> {
-        let a = rt.alloc();
-        let names = [("$$", true), ("$$x", true), ("$x", false), ("x$$", false)];
-        for (text, reserved) in names {
-            let thrown = script(a, StmtNode::Throw(name(a, text)?))?;
-            assert_eq!(rt; has_reserved_name(a, &thrown)?, reserved, "{text}");
-            let own = function(a, text, &["x"], StmtNode::Empty)?;
-            assert_eq!(rt;
-                has_reserved_name(a, &script(a, StmtNode::Expr(own))?)?,
-                reserved
-            );
-            let formal = function(a, "", &["x", text], StmtNode::Empty)?;
-            assert_eq!(rt;
-                has_reserved_name(a, &script(a, StmtNode::Expr(formal))?)?,
-                reserved
-            );
-        }
-        Ok(())
     }
 }

@@ -21,8 +21,6 @@ pub mod scope_test;
 mod scope_tests;
 mod scope_walk;
 pub mod scopes;
-#[cfg(test)]
-mod test_trees;
 mod use_lists;
 pub mod uses;
 mod variables;

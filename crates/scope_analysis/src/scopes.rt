@@ -1,8 +1,6 @@
 //! The scopes of a script, and where its names are declared.
 
-ghost use Rattle.std.specs.Prelude.{◌≡◌, ◌≤◌, ◌++◌, IfOk, OnOk};
-ghost use Rattle.js_core.specs.Height.{stmt_height};
-ghost use Rattle.js_core.specs.Views.{stmt_of};
+ghost use Rattle.std.specs.Prelude.{◌≡◌, ◌++◌, IfOk, OnOk};
 ghost use Rattle.js_core.specs.Tree as tree;
 ghost use Rattle.scope_analysis.specs.FreeUses.{free_uses};
 ghost use Rattle.scope_analysis.specs.Marks.{stmts_marks};
@@ -156,54 +154,3 @@ fn push_keys_at(
 pub fn law_free_uses()
     ensures { (ss : tree.Stmts) → stmts_uses ss ≡ free_uses (stmts_marks ss) }
 {}
-
-#[cfg(test)]
-mod tests {
-    use super::*;
-    use crate::test_trees::{assigned, function, name, script};
-    use js_core::syntax::StmtNode;
-    use std::process::Abort;
-    use std::test::Fail;
-
-    // The names, with a star where they are captured, and after `<` the needed names.
-    fn push_scope_text(scope: &Scope, out: &mut Vec<u8>) -> Result<(), Fail> {
-        for declared in scope.names.iter() {
-            declared.name.to_line_text(out)?;
-            if declared.captured {
-                out.push(b'*')?;
-            }
-        }
-        out.push(b'<')?;
-        for need in scope.needs.iter() {
-            need.to_line_text(out)?;
-        }
-        out.push(b';')?;
-        Ok(())
-    }
-
-    fn tells(rt: &(impl Abort + AllocGlobal), node: StmtNode, text: &[u8]) -> Result<(), Fail>
-        requires { stmt_height (stmt_of node) ≤ 500 }
-    {
-        let found = resolve(rt.alloc(), &script(rt.alloc(), node)?)?;
-        let mut out = Vec::new(rt.alloc());
-        for scope in found.scopes.iter() {
-            push_scope_text(scope, &mut out)?;
-        }
-        assert_eq!(rt; out.as_slice(), text);
-        Ok(())
-    }
-
-    #[test]
-    fn tells_captured_and_needed_names(rt: HostRuntime) -> Result<(), Fail> {
-        let a = rt.alloc();
-        let value = assigned(a, name(a, "f")?, name(a, "x")?)?;
-        let inner = function(a, "", &["y"], StmtNode::Throw(value))?;
-        let outer = function(a, "f", &["x"], StmtNode::Return(Some(inner)))?;
-        tells(&rt, StmtNode::Expr(outer), b"x*f*<;y<fx;")?;
-        let alone = function(a, "", &["x"], StmtNode::Throw(name(a, "x")?))?;
-        tells(&rt, StmtNode::Expr(alone), b"x<;")?;
-        let hiding = function(a, "", &["x"], StmtNode::Throw(name(a, "x")?))?;
-        let hidden = function(a, "", &["x"], StmtNode::Return(Some(hiding)))?;
-        tells(&rt, StmtNode::Expr(hidden), b"x<;x<;")
-    }
-}
