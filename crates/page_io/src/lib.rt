@@ -9,3 +9,5 @@ pub mod memory_sink;
 pub mod real_files;
 pub mod real_sink;
 pub mod sink;
+#[cfg(test)]
+mod tests;

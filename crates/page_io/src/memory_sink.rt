@@ -109,33 +109,3 @@ impl Sink for MemorySink {
         Ok(())
     }
 }
-
-#[cfg(test)]
-mod tests {
-    use super::*;
-    use std::test::Fail;
-
-    #[test]
-    fn takes_what_fits(rt: HostRuntime) -> Result<(), Fail> {
-        let alloc = rt.alloc();
-        let failing = vec![in alloc; (2, 1), (4, 9), (2, 0), (8, 1)]?;
-        let mut sink = MemorySink::new(alloc, 8, failing)?;
-        let failed = Err(PutFault::Failed);
-        let cases = [
-            ("ab", Ok(()), "ab", 0),
-            ("cd", failed, "abc", 1),
-            ("", Ok(()), "abc", 1),
-            ("xy", failed, "abcxy", 2),
-            ("pqrs", failed, "abcxypqr", 3),
-            ("t", failed, "abcxypqr", 4),
-            ("", Ok(()), "abcxypqr", 4),
-            ("", failed, "abcxypqr", 5),
-        ];
-        for (piece, wanted, taken, faults) in cases {
-            assert_eq!(rt; sink.put(piece.as_bytes()), wanted, "at {piece:?}");
-            assert_eq!(rt; sink.bytes(), taken.as_bytes());
-            assert_eq!(rt; sink.faults, faults, "at {piece:?}");
-        }
-        Ok(())
-    }
-}
