@@ -11,7 +11,3 @@ pub struct EnvId(pub u64);
 /// The place of a node in its document's list of nodes.
 #[derive(Clone, Copy, Debug, PartialEq, Eq, Hash)]
 pub struct NodeId(pub u64);
-
-/// The place of a function's code in the list of codes.
-#[derive(Clone, Copy, Debug, PartialEq, Eq, Hash)]
-pub struct CodeId(pub u64);

@@ -20,10 +20,10 @@ use Rattle.object_heap.specs.Chain.{AreOlder, can_put, first_found, found, get_p
 use Rattle.object_heap.specs.Define as object
 use Rattle.object_heap.specs.Define.{array_length, define_ordinary, defined_over, grown, has_writable_length, is_closed_at, length_name, with_length}
 use Rattle.object_heap.specs.Environment.{AreInside, Bound, Environment, environment_at, inside, new_environment, no_environment, value_of, with_bound, with_value_of}
-use Rattle.object_heap.specs.Heap.{Contents, IsFit, IsSound, add_property, at_object, close, define_own, delete, empty, first_bound, lookup, made, new_object, opened, prevent_extensions, put, set, set_event, with_added, with_new_environment, with_new_object, with_object}
+use Rattle.object_heap.specs.Heap.{Contents, IsFit, IsSound, add_property, at_object, close, define_own, delete, empty, first_bound, lookup, made, new_object, opened, prevent_extensions, put, set, set_dispatch, set_event, with_added, with_new_environment, with_new_object, with_object}
 use Rattle.object_heap.specs.Index.{index_of}
-use Rattle.object_heap.specs.Laws.{KeepsKinds, NeverFewer, OnlyThere, PutThenGet, StaysSound, adds, closes, defines, deletes, prevents, puts}
-use Rattle.object_heap.specs.Object.{class_at, is_list, is_window, no_object, Object, older, settled, target_of, whole_object, with_props}
+use Rattle.object_heap.specs.Laws.{KeepsKinds, NeverFewer, OnlyThere, PutThenGet, StaysSound, adds, closes, defines, deletes, gives_parts, prevents, puts}
+use Rattle.object_heap.specs.Object.{class_at, dispatched, is_list, is_window, no_object, Object, older, settled, target_of, whole_object, with_props}
 use Rattle.object_heap.specs.Property.{HasDistinctNames, Props, created, own_property, with_property, without_property}
 use Rattle.object_heap.proofs.Chains as chains
 use Rattle.object_heap.proofs.Distinct as distinct
@@ -110,6 +110,9 @@ module _ (h : Contents) (s : IsSound h) where
 
   pub sound_event : (k : ℕ) (parts : EventParts) → IsSound (set_event h k parts)
   sound_event k parts = sound.sound_at h k _ s (sound.event_right k (object_at h.objects k) (λ old. parts) (sound.right_at h k s))
+
+  pub sound_dispatch : (k : ℕ) (sent : Bool) (target current : Option ObjId) (phase : ℕ) → IsSound (set_dispatch h k sent target current phase)
+  sound_dispatch k sent target current phase = steps.stays_sound h (gives_parts k (dispatched sent target current phase) ∷ []) s
 
   pub sound_made : (o : Object) → IsFit o → IsSound (made h o)
   sound_made o fit = sound.sound_made h o s fit

@@ -1,10 +1,9 @@
 -- Chains of prototypes end.
-use Rattle.std.proofs.Common.{◌≡◌, refl, sym, ap, ◌∙◌, length, slice_index_or, ℕ, zero, suc, ◌<◌, ◌≤◌, List, [], Option, Some, None, arith}
-use Rattle.std.proofs.lemmas.List.{get_or_default, get_or_past}
+use Rattle.std.proofs.Common.{◌≡◌, refl, sym, ap, ◌∙◌, length, slice_index_or, ℕ, zero, suc, ◌<◌, List, Option, Some, None, arith}
+use Rattle.std.proofs.lemmas.List.{get_or_default}
 use Rattle.std.specs.Option.{ForSome}
 use Rattle.js_values.specs.declared.ids.ObjId.{ObjId}
-use Rattle.object_heap.specs.declared.property.Prop.{Prop}
-use Rattle.object_heap.specs.Chain.{AreOlder, can_put, first_found, found, found_within, get_property, object_at}
+use Rattle.object_heap.specs.Chain.{AreOlder, first_found, found, found_within, get_property, object_at}
 use Rattle.object_heap.specs.Object.{no_object, Object}
 use Rattle.object_heap.specs.Property.{own_property}
 

@@ -6,9 +6,9 @@ use Rattle.std.proofs.lemmas.Map.{lookup-remove_entry}
 use Rattle.std.proofs.lemmas.Slice.Eq.{bytes_eq-Decides}
 use Rattle.std.specs.Fmt.{decimal}
 use Rattle.std.specs.List.{list_all}
-use Rattle.std.specs.Map.{keys_of, lookup, remove_entry}
+use Rattle.std.specs.Map.{lookup, remove_entry}
 use Rattle.object_heap.specs.declared.property.Prop.{Prop}
-use Rattle.object_heap.specs.Counted.{ShrinksAsCounted, counted_down, one_deleted}
+use Rattle.object_heap.specs.Counted.{ShrinksAsCounted, counted_down, one_deleted, shrunk_props}
 use Rattle.object_heap.specs.Define.{elements_below, end_kept, end_with, is_below}
 use Rattle.object_heap.specs.Index.{index_end, index_of}
 use Rattle.object_heap.specs.Property.{HasDistinctNames, Props, own_property, without_property}
@@ -119,6 +119,27 @@ gone : (i : ℕ) (props : Props) → HasDistinctNames props → lookup (bytes_eq
 gone i props distinct =
     lookup-remove_entry nat_list_eq_equiv (bytes_eq (decimal i)) (same_name (decimal i)) (decimal i) props distinct ∙ rw (same_key (decimal i)) refl
 
+-- what is left of the others is what is left of all
+pub record Leaves (end i : ℕ) (old new : Props) : Type 0 where
+  pub same : shrunk_props end new ≡ shrunk_props end old
+  pub below : AllBelow i new
+
+-- an element at the top that may be deleted and is
+pub one_gone : (end i : ℕ) (p : Prop) (props : Props) → end ≤ i → i < index_end → HasDistinctNames props → AllBelow (i + 1) props → own_property props (decimal i) ≡ Some p → p.configurable ≡ true
+    → Leaves end i props (without_property props (decimal i))
+one_gone end i p props from small distinct all found free =
+    let rest = without_property props (decimal i) in
+    let below : AllBelow i rest = all_lower i rest small (gone i props distinct) (all_remove (λ k. is_below (i + 1) (index_of k)) (bytes_eq (decimal i)) props all) in
+    let same : end_kept end rest ≡ end_kept end props = kept_removed end i p props found free in
+    let least : end_kept end rest ≤ i = kept_within i end rest from below in
+    let out : is_below (end_kept end rest) (index_of (decimal i)) ≡ false =
+    ap (is_below (end_kept end rest)) ((indices_are_decimal (decimal i) i).1 (refl, small)) ∙ le-ltb i (end_kept end rest) least
+    in
+    let left : elements_below (end_kept end rest) rest ≡ elements_below (end_kept end props) props =
+    below_removed (end_kept end rest) i props out ∙ ap (λ k. elements_below k props) same
+    in
+    record { same = (λ j. (left j, same j)); below = below }
+
 counts_one : (end n : ℕ) (props : Props) (own : Option Prop) → end + suc n ≤ index_end → HasDistinctNames props → AllBelow (end + suc n) props → own_property props (decimal (end + n)) ≡ own
     → ((rest : Props) → HasDistinctNames rest → AllBelow (end + n) rest → counted_down end n rest ≡ (elements_below (end_kept end rest) rest, end_kept end rest))
     → one_deleted (end + n) props own (λ rest. counted_down end n rest) ≡ (elements_below (end_kept end props) props, end_kept end props)
@@ -140,17 +161,8 @@ counts_one end n props (Some p) small distinct all e more = by_case p.configurab
 
     by_case : (b : Bool) → p.configurable ≡ b → one_deleted (end + n) props (Some p) (λ rest. counted_down end n rest) ≡ (elements_below (end_kept end props) props, end_kept end props)
     by_case true free =
-        let rest = without_property props (decimal i) in
-        let below : AllBelow i rest = all_lower i rest low (gone i props distinct) (all_remove (λ k. is_below (i + 1) (index_of k)) (bytes_eq (decimal i)) props whole) in
-        let same : end_kept end rest ≡ end_kept end props = kept_removed end i p props e free in
-        let least : end_kept end rest ≤ i = kept_within i end rest (omega arith) below in
-        let out : is_below (end_kept end rest) (index_of (decimal i)) ≡ false =
-        ap (is_below (end_kept end rest)) ((indices_are_decimal (decimal i) i).1 (refl, low)) ∙ le-ltb i (end_kept end rest) least
-        in
-        let left : elements_below (end_kept end rest) rest ≡ elements_below (end_kept end props) props =
-        below_removed (end_kept end rest) i props out ∙ ap (λ k. elements_below k props) same
-        in
-        rw free (more rest (distinct_removed (bytes_eq (decimal i)) props distinct) below ∙ (λ j. (left j, same j)))
+        let leaves = one_gone end i p props (omega arith) low distinct whole e free in
+        rw free (more (without_property props (decimal i)) (distinct_removed (bytes_eq (decimal i)) props distinct) leaves.below ∙ leaves.same)
     by_case false fixed =
         let kept : i + 1 ≡ end_kept end props =
         omega (arith, kept_within (i + 1) end props (omega arith) whole, kept_past end i p props low e fixed)

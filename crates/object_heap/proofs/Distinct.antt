@@ -1,5 +1,5 @@
 -- Names of properties stay distinct.
-use Rattle.std.proofs.Common.{◌≡◌, refl, sym, ap, subst, ◌∙◌, ℕ, ◌+◌, Bool, true, false, ◌&&◌, ◌||◌, not, filter, is_some, List, [], ◌∷◌, ◌++◌, Option, Some, None, nat_le, nat_lt, bytes_eq, if◌then◌else◌}
+use Rattle.std.proofs.Common.{◌≡◌, refl, sym, subst, ℕ, ◌+◌, Bool, true, false, ◌&&◌, ◌||◌, not, filter, is_some, List, [], ◌∷◌, ◌++◌, Option, Some, None, nat_le, nat_lt, bytes_eq, if◌then◌else◌}
 use Rattle.std.proofs.lemmas.Map.{keys-set_value}
 use Rattle.std.proofs.lemmas.Slice.Eq.{bytes_eq-Decides}
 use Rattle.std.specs.List.{AllByRecursion, IsDistinct}
@@ -14,7 +14,7 @@ use Rattle.object_heap.specs.Define.{array_length, define, define_indexed, defin
 use Rattle.object_heap.specs.Heap.{with_added}
 use Rattle.object_heap.specs.Index.{index_of}
 use Rattle.object_heap.specs.Object.{is_list, is_window, Object, with_props}
-use Rattle.object_heap.specs.Property.{HasDistinctNames, Props, may_update, own_property, updated, with_property, without_property}
+use Rattle.object_heap.specs.Property.{HasDistinctNames, Props, may_update, own_property, updated, with_property}
 
 pub flipped : (x y : List ℕ) → bytes_eq x y ≡ false → bytes_eq y x ≡ false
 flipped x y h = by_case (bytes_eq y x) refl

@@ -14,7 +14,7 @@ pub mod Kept
 pub mod Lists
 pub mod Missing
 pub mod Others
-pub mod Popped
 pub mod Scopes
 pub mod Sound
 pub mod Steps
+pub mod Taken

@@ -1,7 +1,8 @@
 -- How the standard shrinks an array: element by element, from the top (ECMA-262 5.1 section 15.4.5.1 step 3.l).
-use Rattle.std.specs.Prelude.{◌≡◌, ℕ, zero, suc, ◌+◌, ◌≤◌, true, List, [], ◌∷◌, ◌++◌, Option, Some, None, if◌then◌else◌}
+use Rattle.std.specs.Prelude.{◌≡◌, ℕ, zero, suc, ◌+◌, ◌≤◌, true, Option, Some, None, if◌then◌else◌}
 use Rattle.std.specs.Fmt.{decimal}
 use Rattle.std.specs.List.{list_all}
+use Rattle.std.specs.Option.{ForSome}
 use Rattle.object_heap.specs.declared.property.Prop.{Prop}
 use Rattle.object_heap.specs.Define.{elements_below, end_kept, is_below}
 use Rattle.object_heap.specs.Index.{index_end, index_of}
@@ -25,13 +26,10 @@ AreBelow n props = list_all (λ e. is_below n (index_of e.0)) props ≡ true
 abbrev pub shrunk_props : ℕ → Props → Props × ℕ
 shrunk_props end props = (elements_below (end_kept end props) props, end_kept end props)
 
--- the property that was made last was this element, which might be deleted, and it is gone
-pub record IsPopped (i : ℕ) (old new : Props) : Type 0 where
-  pub name : List ℕ
-  pub prop : Prop
-  pub was : old ≡ new ++ (name, prop) ∷ []
-  pub index : index_of name ≡ Some i
-  pub free : prop.configurable ≡ true
+-- this element, if there is one, might be deleted, and it is gone
+pub record IsTaken (i : ℕ) (old new : Props) : Type 0 where
+  pub free : ForSome (own_property old (decimal i)) (λ p. p.configurable ≡ true)
+  pub gone : new ≡ without_property old (decimal i)
 
 -- what the count leaves is what the definition says, where the length was n more than asked for
 abbrev pub ShrinksAsCounted : Type 0

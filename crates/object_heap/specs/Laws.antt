@@ -9,7 +9,7 @@ use Rattle.object_heap.specs.declared.object.EventParts.{EventParts}
 use Rattle.object_heap.specs.Object.{changed_event, is_event, is_list, Object, with_class}
 use Rattle.object_heap.specs.declared.property.Change.{Change}
 use Rattle.object_heap.specs.declared.property.Prop.{Prop}
-use Rattle.object_heap.specs.Chain.{first_found, get, get_property, object_at}
+use Rattle.object_heap.specs.Chain.{first_found, found, get, get_property, object_at}
 use Rattle.object_heap.specs.Define as object
 use Rattle.object_heap.specs.Define.{array_length, length_name}
 use Rattle.object_heap.specs.Environment.{Bound, environment_at, value_of}
@@ -80,6 +80,12 @@ OthersStay =
 -- a name is an array index exactly where it is what a number below 2^32 - 1 is written as (15.4)
 abbrev pub IndicesAreDecimal : Type 0
 IndicesAreDecimal = (name : List ℕ) (i : ℕ) → (index_of name ≡ Some i) ↔ ((name ≡ decimal i) × (i < index_end))
+
+-- what is seen up the prototypes of an object is what is seen in it, or else up from its prototype, whatever is looked for
+abbrev pub FoundOn : Type 0 → Type 0
+FoundOn A =
+    (see : Object → Option A) (h : Contents) (k : ℕ) → IsSound h
+    → found see h.objects k ≡ first_found (see (object_at h.objects k)) (object_at h.objects k).proto (λ q. found see h.objects q)
 
 -- [[GetProperty]] is an object's own property, or else its prototype's (8.12.2), and a name is bound in an environment, or
 -- else outwards (10.2.2.1)

@@ -1,8 +1,6 @@
 -- Objects (ECMA-262 5.1 section 8.6). Outside this file an object is made by its makers alone.
-use Rattle.std.specs.Prelude.{ℕ, ◌<◌, Bool, true, false, List, [], ◌∷◌, Option, Some, None, codes, pos, nat_lt, if◌then◌else◌}
+use Rattle.std.specs.Prelude.{ℕ, Bool, true, false, [], Option, Some, None, nat_lt, if◌then◌else◌}
 use Rattle.js_values.specs.declared.ids.ObjId.{ObjId}
-use Rattle.js_values.specs.declared.value.Value.{Value}
-use Rattle.js_values.specs.declared.value.Value.TheVariants.{Num}
 use Rattle.object_heap.specs.declared.object.Class.{Class}
 use Rattle.object_heap.specs.declared.object.Class.TheVariants.{Bound, Event, List as Array, Plain, Window}
 use Rattle.object_heap.specs.declared.object.EventParts.{EventParts}

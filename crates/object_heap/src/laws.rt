@@ -2,6 +2,7 @@
 
 ghost use Rattle.object_heap.specs.Counted.{ShrinksAsCounted};
 ghost use Rattle.object_heap.specs.Laws.{
+  FoundOn,
   FrozenStays,
   IndicesAreDecimal,
   KeepsKinds,
@@ -15,7 +16,7 @@ ghost use Rattle.object_heap.specs.Laws.{
 };
 
 /// The laws of properties.
-pub fn properties_are_kept()
+pub fn law_properties_are_kept()
     // What was put is got.
     ensures put_then_get { PutThenGet }
     // A property stays where another one that is no array's length is put, defined or deleted.
@@ -24,14 +25,20 @@ pub fn properties_are_kept()
     ensures frozen_stays { FrozenStays }
 {}
 
+/// The law of the walk up the prototypes, for whatever is looked for: properties, or names of the host.
+pub fn law_prototypes_are_walked<A>()
+    // What is seen up from an object is seen in it, or else up from its prototype.
+    ensures { FoundOn A }
+{}
+
 /// The laws of chains of prototypes and environments.
-pub fn chains_are_walked()
+pub fn law_chains_are_walked()
     // What an object does not have itself is its prototype's, and a name that an environment does not bind is bound outwards.
     ensures { LooksOn }
 {}
 
 /// The laws of arrays.
-pub fn arrays_are_kept()
+pub fn law_arrays_are_kept()
     // An array index is what a number below 2^32 - 1 is written as.
     ensures indices_are_decimal { IndicesAreDecimal }
     // A shrink leaves what deleting element by element from the top leaves.
@@ -41,7 +48,7 @@ pub fn arrays_are_kept()
 {}
 
 /// The laws of the whole heap.
-pub fn heaps_are_kept()
+pub fn law_heaps_are_kept()
     // Prototypes, targets and outer environments stay older, arrays arrays, and names distinct.
     ensures stays_sound { StaysSound }
     // An old object keeps its prototype and its class, but for an event's parts.

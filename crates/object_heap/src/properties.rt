@@ -1,9 +1,8 @@
 //! The properties of an object, in order of creation.
 
-ghost use Rattle.std.specs.Prelude.{◌≡◌, true, false, ◌++◌, ◌∷◌, [], None, IfOk, OnOk, OnErr, option_map, option_copied, slice_get, length, ◌≤◌, ◌<◌, IfSome, is_some};
-ghost use Rattle.std.specs.Fmt.{decimal};
+ghost use Rattle.std.specs.Prelude.{◌≡◌, true, false, ◌++◌, ◌∷◌, [], None, IfOk, OnOk, OnErr, option_map, option_copied, slice_get, length, ◌≤◌, ◌<◌, IfSome, IsSome};
 ghost use Rattle.std.specs.Option.{ForSome};
-ghost use Rattle.object_heap.specs.Counted.{AreBelow, IsPopped, shrunk_props};
+ghost use Rattle.object_heap.specs.Counted.{AreBelow, IsTaken, shrunk_props};
 ghost use Rattle.object_heap.specs.Define.{end_kept, end_with, elements_below, is_below};
 ghost use Rattle.object_heap.specs.Index.{index_end, index_of};
 ghost use Rattle.std.specs.Map.{keys_of};
@@ -13,8 +12,7 @@ ghost use Rattle.object_heap.specs.Property.{own_property, with_property, withou
 use crate::index::{array_index, index_name};
 use crate::property::Prop;
 use indexmap::IndexMap;
-use js_core::memory::OutOfMemory;
-use js_core::units::Units;
+use js_core::{OutOfMemory, Units};
 use std::alloc::Global;
 use std::marker::Model;
 
@@ -131,7 +129,7 @@ impl Properties {
 
     /// Deletes the elements of an array from the top until its length is `end`, or down to the last one that is not
     /// configurable, and answers the length that is left (ECMA-262 5.1 section 15.4.5.1 step 3.l). Its length was `len`.
-    /// Elements that were made last go without a look at the others, and where none is so is found by its name.
+    /// Elements that were made last, or nearly so, go without a look at the others.
     pub(crate) fn delete_elements(&mut self, len: u64, end: u64) -> u64
         requires below { AreBelow len self.old }
         requires end { end ≤ len }
@@ -140,7 +138,7 @@ impl Properties {
         ensures props { self.new ≡ elements_below (end_kept end self.old) self.old }
         ensures small { result ≤ index_end }
     {
-        if self.pop_elements(len, end) == end {
+        if self.take_elements(len, end) == end {
             return end;
         }
         let kept = self.end_kept(end);
@@ -148,9 +146,9 @@ impl Properties {
         kept
     }
 
-    // As far as the element at the top was made last and may be deleted, or is none, the top comes down; where more are
-    // none than there are properties, a look at all of them costs less. The length that is left.
-    fn pop_elements(&mut self, len: u64, end: u64) -> u64
+    // As far as the element at the top may be deleted, or is none, the top comes down, as long as no more properties move for
+    // it than there are: then a look at all of them costs less. The length that is left.
+    fn take_elements(&mut self, len: u64, end: u64) -> u64
         requires below { AreBelow len self.old }
         requires end { end ≤ len }
         requires small { len ≤ index_end }
@@ -158,50 +156,46 @@ impl Properties {
         ensures below { AreBelow result self.new }
     {
         let mut top = len;
-        let mut holes = self.len();
+        let mut moves = self.len();
         while top > end {
             let _distinct = self.len();
             let index = top - 1;
-            if !self.pop_element(index) {
-                if holes == 0 || !self.is_hole(index) {
-                    break;
-                }
-                holes -= 1;
+            if !self.take_element(index, &mut moves) {
+                break;
             }
             top = index;
         }
         top
     }
 
-    // Whether it is known that there is no element of this index: its name takes memory.
-    fn is_hole(&self, index: u64) -> bool
-        ensures { result ≡ true → own_property self.now (decimal index) ≡ None }
-    {
-        match self.has_element(index) {
-            Ok(has) => !has,
-            Err(OutOfMemory) => false,
-        }
-    }
-
-    // Whether there is an element of this index.
-    fn has_element(&self, index: u64) -> Result<bool, OutOfMemory>
-        ensures { IfOk result (λ has. has ≡ is_some (own_property self.now (decimal index))) }
-    {
-        let name = index_name(*self.table.allocator(), index)?;
-        Ok(self.get(&name).is_some())
-    }
-
-    // Whether the property that was made last is this element and may be deleted; then it is gone.
-    fn pop_element(&mut self, index: u64) -> bool
-        ensures popped { result ≡ true → IsPopped index self.old self.new }
+    // Whether it is known that there is no element of this index any more. One that may be deleted is gone, where no more
+    // than `moves` properties move for it; its name takes memory.
+    fn take_element(&mut self, index: u64, moves: &mut usize) -> bool
+        ensures taken { result ≡ true → IsTaken index self.old self.new }
         ensures kept { result ≡ false → self.new ≡ self.old }
     {
-        match self.table.last() {
-            Some((name, prop)) if prop.configurable && array_index(name) == Some(index) => {}
+        let Ok(name) = index_name(*self.table.allocator(), index) else {
+            return false;
+        };
+        match self.moves_without(&name) {
+            Some(count) if count <= *moves => *moves -= count,
             _ => return false,
         }
-        self.table.pop();
+        self.remove(&name);
         true
+    }
+
+    // How many properties move when that of the name goes, which counts itself, as a name counts that is not there; `None`
+    // where it may not be deleted.
+    fn moves_without(&self, name: &Units) -> Option<usize>
+        ensures { IsSome result → ForSome (own_property self.now name.now)
+            (λ p. p.configurable ≡ true) }
+    {
+        match self.table.get_full(name) {
+            Some((_, _, prop)) if !prop.configurable => None,
+            Some((place, _, _)) => Some(self.table.len().saturating_sub(place)),
+            None => Some(1),
+        }
     }
 
     /// The names, in order. No two are the same.

@@ -1,6 +1,6 @@
-use Rattle.std.proofs.Common.{◌≡◌, ◌≤◌, ◌-◌}
+use Rattle.std.proofs.Common.{◌≡◌, ◌≤◌}
 use Rattle.object_heap.specs.Counted.{AreBelow, shrunk_props}
-use Rattle.object_heap.proofs.properties.Properties.pop_elements.Given as goal
+use Rattle.object_heap.proofs.properties.Properties.take_elements.Given as goal
 
 abbrev pub invariant-loop-top : goal.invariant-loop-top
 invariant-loop-top l = record {
