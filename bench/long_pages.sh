@@ -1,7 +1,8 @@
 #!/bin/sh
 # How the time of a command grows with the page and the events: `replay` of 10,000 to 200,000 assignments, and of events on a
-# small page; `check` of object literals, and of functions with many variables or with many formals that a function inside
-# uses. The last column stays about the same where the time is in proportion. Build the program first: `./imagen --build`.
+# small page; `check` of object literals, of functions with many variables or with many formals that a function inside uses, of
+# uses under 60 functions and of empty statements under 190 blocks; `instrument` of such uses. The last column stays about the
+# same where the time is in proportion. Build the program first: `./imagen --build`.
 top=$(cd "$(dirname "$0")/.." && pwd) || exit 1
 program=$top/crates/imagen/out/imagen
 work=$(mktemp -d) || exit 1
@@ -35,7 +36,7 @@ row() {
     from=$(date +%s%N)
     "$program" "$@" >/dev/null || exit 1
     to=$(date +%s%N)
-    printf '%-10s   %6d   %12d   %18d\n' "$what" "$count" $(((to - from) / 1000000)) $(((to - from) / count))
+    printf '%-10s  %7d   %12d   %18d\n' "$what" "$count" $(((to - from) / 1000000)) $(((to - from) / count))
 }
 
 statements() {
@@ -66,6 +67,21 @@ formals() {
     printf '};}());'
 }
 
+# Uses of a formal of the outermost of 60 functions in one another.
+nested_uses() {
+    printf '(function(a){'
+    repeated 'return function(){' 59
+    repeated 'a;' "$1"
+    repeated '};' 59
+    printf '}());'
+}
+
+blocks() {
+    repeated '{' 190
+    repeated ';' "$1"
+    repeated '}' 190
+}
+
 echo 'what          parts   milliseconds   nanoseconds a part'
 printf '[]' >"$work/events.json"
 for count in 10000 50000 100000 200000; do
@@ -83,6 +99,15 @@ done
 for count in 10000 50000 100000; do
     page '<!--imagen 1-->' formals "$count"
     row formals "$count" check "$work/page.html"
+done
+for count in 10000 100000 1000000; do
+    page '' nested_uses "$count"
+    row uses "$count" check "$work/page.html"
+    row opened "$count" instrument "$work/page.html"
+done
+for count in 10000 100000 1000000; do
+    page '' blocks "$count"
+    row empty "$count" check "$work/page.html"
 done
 page '' printf 'var n=0;function t(){n=n+1;console.log(n);}'
 for count in 10000 50000 100000; do

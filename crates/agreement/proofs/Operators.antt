@@ -18,8 +18,8 @@ use Rattle.whole_ops.specs.Bits.{whole_bits, whole_not}
 use Rattle.whole_ops.specs.Conversions.{is_true}
 use Rattle.whole_ops.specs.Equality.{same_of, loose_of}
 use Rattle.whole_ops.specs.Order.{whole_less}
-use Rattle.whole_ops.specs.declared.bits.BitOp.{BitOp}
-use Rattle.whole_ops.specs.declared.bits.BitOp.TheVariants as bit
+use Rattle.whole_ops.specs.declared.bit_ops.BitOp.{BitOp}
+use Rattle.whole_ops.specs.declared.bit_ops.BitOp.TheVariants as bit
 use Rattle.whole_ops.specs.declared.fault.LooseFault.{LooseFault}
 use Rattle.whole_ops.specs.declared.fault.LooseFault.TheVariants.{NeedsPrimitive, Outside}
 use Rattle.page_meaning.specs.Act.{Act, Calls, give}

@@ -3,12 +3,11 @@ use Rattle.std.proofs.Common.{◌≡◌, refl, ℕ, ◌+◌, ◌<◌, ◌≤◌,
 use Rattle.std.proofs.lemmas.Bool.{and_from, and_parts, lt-ltb, ltb-true, not_from_false}
 use Rattle.js_core.specs.Tree as tree
 use Rattle.js_core.specs.Tree.{name, one_expr, no_expr}
-use Rattle.scope_analysis.specs.declared.name_use.Use.{Use}
 use Rattle.scope_analysis.specs.EarlyRules.{assigns_own_name, deletes_name}
 use Rattle.scope_analysis.specs.Form.{has_reserved_identifier}
 use Rattle.scope_analysis.specs.Identifiers as identifiers
 use Rattle.scope_analysis.specs.Nodes.{Node}
-use Rattle.scope_analysis.specs.Uses.{declarator_uses, expr_uses, maybe_expr_uses, target_uses}
+use Rattle.scope_analysis.specs.Uses.{Use, declarator_uses, expr_uses, maybe_expr_uses, target_uses}
 use Rattle.instrumenter.proofs.Callers.{Each, each_parts, left_of, right_of}
 use Rattle.heap_relations.specs.Naming.{Frame, are_below, is_scope_name, resolve}
 use Rattle.agreement.specs.Opened.{may_use}

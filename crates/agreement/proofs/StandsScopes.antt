@@ -5,13 +5,12 @@ use Rattle.std.proofs.lemmas.Bool.{and_from, false_from_ne_true, lt-ltb, not_fro
 use Rattle.js_core.specs.Tree as tree
 use Rattle.js_core.specs.Tree.{code, func, function, one_catch}
 use Rattle.js_grammar.specs.Syntax.{AreStmts}
-use Rattle.scope_analysis.specs.declared.name_use.Use.{Use}
 use Rattle.scope_analysis.specs.EarlyRules.{assigns_maybe}
 use Rattle.scope_analysis.specs.Form.{has_reserved_identifier}
 use Rattle.scope_analysis.specs.Identifiers as identifiers
 use Rattle.scope_analysis.specs.Names.{bound_names, declared_names, is_among, maybe_name, own_name}
 use Rattle.scope_analysis.specs.Nodes.{Node, catch_any, expr_any, stmt_any, stmts_any}
-use Rattle.scope_analysis.specs.Uses.{catch_uses, expr_uses, is_assigned, is_captured, stmt_uses, stmts_uses}
+use Rattle.scope_analysis.specs.Uses.{Use, catch_uses, expr_uses, is_assigned, is_captured, stmt_uses, stmts_uses}
 use Rattle.instrumenter.specs.Around.{next_number}
 use Rattle.instrumenter.specs.Counting.{catch_scopes, count_of, expr_scopes, stmt_scopes, stmts_scopes}
 use Rattle.instrumenter.specs.Fields.{clause_fields, declaration_fields, expression_fields, fields_in}

@@ -1,5 +1,4 @@
 pub mod Laws
-pub mod Needs
 pub mod Remade
 pub mod Still
 pub mod Things

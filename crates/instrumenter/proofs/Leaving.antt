@@ -6,9 +6,8 @@ use Rattle.std.proofs.lemmas.Slice.Eq.{bytes_eq-Decides}
 use Rattle.js_core.specs.Tree as tree
 use Rattle.js_core.specs.Tree.{code, name, no_stmts, then_stmt}
 use Rattle.js_grammar.specs.Syntax.{AreStmts}
-use Rattle.scope_analysis.specs.declared.name_use.Use.{Use}
 use Rattle.scope_analysis.specs.Names.{bound_names, declared_names, is_among, maybe_name, own_name}
-use Rattle.scope_analysis.specs.Uses.{assignment, crossing, expr_uses, leaving_clause, leaving_function, read, stmt_uses, stmts_uses, fields_uses}
+use Rattle.scope_analysis.specs.Uses.{Use, assignment, crossing, expr_uses, leaving_clause, leaving_function, read, stmt_uses, stmts_uses, fields_uses}
 use Rattle.instrumenter.specs.Around.{append, clause_object, field_inside, literal_fields, next_number, parameter, scope_name, scope_object, valued_names, void_zero}
 use Rattle.instrumenter.specs.Fields.{has_fields}
 use Rattle.instrumenter.specs.Opening.{open_declarations, open_stmts}

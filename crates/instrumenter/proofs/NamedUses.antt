@@ -3,11 +3,10 @@ use Rattle.std.proofs.Common.{◌≡◌, ℕ, Bool, true, false, ◌||◌, List,
 use Rattle.std.specs.List.{list_any}
 use Rattle.js_core.specs.Tree as tree
 use Rattle.js_core.specs.Tree.{name, num, text, bool, null, this, list, literal, func, member, index, call, construct, unary, update, binary, logical_and, logical_or, conditional, assign, comma, no_exprs, then_expr, no_expr, one_expr, no_holes, then_hole, no_fields, then_field, code, var, function, expr, empty, block, if_else, do_while, while, for, for_in, continue, break, return, throw, try, switch, no_stmts, then_stmt, no_body, one_body, no_declarators, then_declarator, no_init, init_var, init_expr, no_catch, one_catch, no_cases, then_case}
-use Rattle.scope_analysis.specs.declared.name_use.Use.{Use}
 use Rattle.scope_analysis.specs.Identifiers.{identifiers}
 use Rattle.scope_analysis.specs.Names.{bound_names, case_names, catch_names, declared_names, declarator_names, init_names, maybe_body_names, maybe_name, stmt_names, target_names}
 use Rattle.scope_analysis.specs.Nodes.{Node, cases_any, catch_any, declarators_any, expr_any, exprs_any, fields_any, holes_any, init_any, maybe_expr_any, maybe_stmts_any, stmt_any, stmts_any}
-use Rattle.scope_analysis.specs.Uses.{cases_uses, catch_uses, declarators_uses, expr_uses, exprs_uses, fields_uses, holes_uses, init_uses, leaving_clause, leaving_function, maybe_expr_uses, maybe_stmts_uses, stmt_uses, stmts_uses, target_uses}
+use Rattle.scope_analysis.specs.Uses.{Use, cases_uses, catch_uses, declarators_uses, expr_uses, exprs_uses, fields_uses, holes_uses, init_uses, leaving_clause, leaving_function, maybe_expr_uses, maybe_stmts_uses, stmt_uses, stmts_uses, target_uses}
 use Rattle.instrumenter.proofs.Each.{Each, Fails, each_both, each_fails, each_so}
 use Rattle.instrumenter.proofs.Leaving.{Leaving, Staying, leaving_from, staying_from}
 use Rattle.instrumenter.proofs.NodeTests.{left_of, right_of}

@@ -5,14 +5,13 @@ use Rattle.js_core.specs.Tree as tree
 use Rattle.js_grammar.specs.Syntax.{IsSyntax}
 use Rattle.scope_analysis.proofs.Callers.{KeepsRules, none_is_broken, rules_are_kept}
 use Rattle.scope_analysis.specs.declared.jump.Jump.TheVariants as jump
-use Rattle.scope_analysis.specs.declared.name_use.Use.{Use}
 use Rattle.scope_analysis.specs.EarlyRules.{assigns_own_name, deletes_name, early_rule, has_bad_target, has_restricted_name, has_stray_jump, repeats_field, repeats_formal}
 use Rattle.scope_analysis.specs.Form.{any_is_reserved, any_use_is_reserved, has_reserved_identifier, has_reserved_name, in_form, scope_out_of_form}
 use Rattle.scope_analysis.specs.Identifiers.{is_reserved}
 use Rattle.scope_analysis.specs.Jumps.{leaves}
 use Rattle.scope_analysis.specs.Names.{declared_names}
 use Rattle.scope_analysis.specs.Nodes.{Node, stmts_any}
-use Rattle.scope_analysis.specs.Uses.{stmts_uses}
+use Rattle.scope_analysis.specs.Uses.{Use, stmts_uses}
 use Rattle.instrumenter.specs.Opening.{open_script}
 use Rattle.instrumenter.proofs.Each.{Fails, each_fails, none_passes}
 use Rattle.instrumenter.proofs.NamedUses.{stmts_undeclared, stmts_unnamed}

@@ -5,9 +5,8 @@ use Rattle.std.proofs.lemmas.Bool.{or_parts}
 use Rattle.js_core.specs.Tree as tree
 use Rattle.js_core.specs.Tree.{name, num, text, bool, null, this, list, literal, func, member, index, call, construct, unary, update, binary, logical_and, logical_or, conditional, assign, comma, no_exprs, then_expr, no_expr, one_expr, no_holes, then_hole, no_fields, then_field, code, var, function, expr, empty, block, if_else, do_while, while, for, for_in, continue, break, return, throw, try, switch, no_stmts, then_stmt, no_body, one_body, no_declarators, then_declarator, no_init, init_var, init_expr, no_catch, one_catch, no_cases, then_case}
 use Rattle.js_grammar.specs.Syntax.{AreCases, AreDeclarators, AreExprs, AreFields, AreHoles, AreStmts, IsExpr, IsMaybeBody, IsMaybeCatch, IsMaybeExpr, IsStmt}
-use Rattle.scope_analysis.specs.declared.name_use.Use.{Use}
 use Rattle.scope_analysis.specs.Names.{bound_names, declared_names, is_among, maybe_name, own_name, stmt_names}
-use Rattle.scope_analysis.specs.Uses.{assignment, cases_uses, catch_uses, declarators_uses, expr_uses, exprs_uses, fields_uses, holes_uses, init_uses, is_captured, leaving_function, maybe_expr_uses, maybe_stmts_uses, read, stmt_uses, stmts_uses, target_uses}
+use Rattle.scope_analysis.specs.Uses.{Use, assignment, cases_uses, catch_uses, declarators_uses, expr_uses, exprs_uses, fields_uses, holes_uses, init_uses, is_captured, leaving_function, maybe_expr_uses, maybe_stmts_uses, read, stmt_uses, stmts_uses, target_uses}
 use Rattle.instrumenter.specs.Around.{Around, as_init, as_statements, assignments, before_for_in, callee, declaration, field_inside, field_or_name, is_changed, next_number, parameter, plain_names, single, var_of, var_where_any, without_this}
 use Rattle.instrumenter.specs.Counting.{catch_scopes, expr_scopes, init_scopes, maybe_expr_scopes, stmt_scopes, stmts_scopes}
 use Rattle.instrumenter.specs.Fields.{clause_fields, declaration_fields, expression_fields}

@@ -60,13 +60,12 @@ round_clause values (Ok v) ls l n fields x e k f g h =
 round_clause values (Err y) ls l n fields x e k f g h = tt
 
 -- the captured names of a function, by the table of those captured and that of its names
-pub fields_found : (captured : List ℕ → Bool) (keys names : List (List ℕ)) (own : Option (List ℕ)) (c : tree.Code) (x : Option (List ℕ)) (formals : List (List ℕ))
-    (ss : tree.Stmts) → code x formals ss ≡ c → ((y : List ℕ) → captured y ≡ is_captured y (stmts_uses ss))
+pub fields_found : (keys names : List (List ℕ)) (own : Option (List ℕ)) (c : tree.Code) (x : Option (List ℕ)) (formals : List (List ℕ))
+    (ss : tree.Stmts) → code x formals ss ≡ c
     → names ≡ formals ++ (maybe_name own ++ declared_names ss) → keys ≡ insert_all bytes_eq [] names
-    → filter captured keys ≡ fields_in own c
-fields_found captured keys names own c x formals ss whole found listed inserted =
-    ap (λ f. filter f keys) (fun_ext found)
-    ∙ ap (filter (λ y. is_captured y (stmts_uses ss))) (inserted ∙ ap (insert_all bytes_eq []) listed)
+    → filter (λ y. is_captured y (stmts_uses ss)) keys ≡ fields_in own c
+fields_found keys names own c x formals ss whole listed inserted =
+    ap (filter (λ y. is_captured y (stmts_uses ss))) (inserted ∙ ap (insert_all bytes_eq []) listed)
     ∙ ap (fields_in own) whole
 
 -- a table of the names that have a value says what they do

@@ -9,10 +9,8 @@ ghost use Rattle.instrumenter.specs.Levels as spec;
 ghost use Rattle.instrumenter.specs.Levels.{around_of};
 
 use indexmap::IndexSet;
-use js_core::memory::OutOfMemory;
-use js_core::syntax::Code;
-use js_core::units::Units;
-use scope_analysis::name_table::{bound_table, name_table};
+use js_core::{Code, OutOfMemory, Units};
+use scope_analysis::{bound_table, name_table, parameter_table};
 use std::alloc::Global;
 use std::rc::Rc;
 
@@ -100,16 +98,6 @@ pub fn in_clause(
         is_function: false,
     };
     inside(alloc, level, levels)
-}
-
-// A table of the parameter alone.
-fn parameter_table(alloc: Global, parameter: &Units) -> Result<IndexSet<Units>, OutOfMemory>
-    ensures { IfOk result (λ table. (x : List ℕ) → contains bytes_eq table x
-        ≡ is_among x (parameter.now ∷ [])) }
-{
-    let mut names = IndexSet::new(alloc);
-    names.insert(parameter.clone()?)?;
-    Ok(names)
 }
 
 // The scope, and those round it.

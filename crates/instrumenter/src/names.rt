@@ -1,24 +1,21 @@
 //! The captured names of scopes, and the names of their objects.
 
 ghost use Rattle.std.specs.Prelude.{◌≡◌, ◌++◌, List, ℕ, suc, bytes_eq, filter, IfOk, OnOk};
-ghost use Rattle.indexmap.specs.IndexSet.{contains};
 ghost use Rattle.scope_analysis.specs.Names.{code_body, code_formals, declared_names, maybe_name};
 ghost use Rattle.scope_analysis.specs.Scopes.{scope_names};
-ghost use Rattle.scope_analysis.specs.Uses.{is_captured, stmts_uses};
+ghost use Rattle.scope_analysis.specs.UseTables.{table_of};
+ghost use Rattle.scope_analysis.specs.Uses.{Use, is_captured, stmts_uses};
 ghost use Rattle.js_core.specs.Tree.{stmts_of};
 ghost use Rattle.instrumenter.specs.Around as spec;
 ghost use Rattle.instrumenter.specs.Fields.{clause_fields, fields_in};
 
 use indexmap::IndexSet;
 use itoa::Buffer;
-use js_core::ascii::ascii_text;
-use js_core::memory::OutOfMemory;
-use js_core::syntax::{Catch, Code, Stmt};
-use js_core::units::Units;
-use scope_analysis::name_table::{captured_table, insert_names};
-use scope_analysis::names::{push_declared_names, push_maybe_name, push_names};
-use scope_analysis::scope_test::ScopeTest;
-use scope_analysis::uses::push_statements_uses;
+use js_core::{Catch, Code, OutOfMemory, Stmt, Units, ascii_text};
+use scope_analysis::{
+    ScopeTest, UseTable, insert_names, note_statements, push_declared_names, push_maybe_name,
+    push_names,
+};
 use std::alloc::Global;
 
 /// The captured variables of a function with this own name: its formals, then its own name, then the others in the order of
@@ -26,7 +23,7 @@ use std::alloc::Global;
 pub fn fields_in(alloc: Global, own: &Option<Units>, code: &Code) -> Result<Vec<Units>, OutOfMemory>
     ensures { IfOk result (λ fields. fields.items ≡ fields_in own.now code.now) }
 {
-    let captured = captured_names(alloc, code.body.as_slice())?;
+    let uses = uses_of(alloc, code.body.as_slice())?;
     let mut declared = Vec::new(alloc);
     push_names(code.formals.as_slice(), &mut declared)?;
     push_maybe_name(own, &mut declared)?;
@@ -34,7 +31,7 @@ pub fn fields_in(alloc: Global, own: &Option<Units>, code: &Code) -> Result<Vec<
     let mut names = IndexSet::new(alloc);
     insert_names(&mut names, declared.as_slice())?;
     let mut fields = Vec::new(alloc);
-    push_those_in(&captured, names.as_slice(), &mut fields)?;
+    push_captured(&uses, names.as_slice(), &mut fields)?;
     Ok(fields)
 }
 
@@ -43,37 +40,31 @@ pub fn clause_fields(alloc: Global, clause: &Catch) -> Result<Vec<Units>, OutOfM
     ensures { IfOk result (λ fields. fields.items
         ≡ clause_fields clause.now.name (stmts_of clause.now.body.items)) }
 {
-    let captured = captured_names(alloc, clause.body.as_slice())?;
+    let uses = uses_of(alloc, clause.body.as_slice())?;
     let mut fields = Vec::new(alloc);
-    if captured.contains(&clause.name) {
+    if uses.is_captured(&clause.name) {
         fields.push(clause.name.clone()?)?;
     }
     Ok(fields)
 }
 
-// A table of the names that functions among the statements use. Each use is copied into each scope round it, of which there are
-// at most 200.
-fn captured_names(alloc: Global, statements: &[Stmt]) -> Result<IndexSet<Units>, OutOfMemory>
-    ensures { IfOk result (λ table. (x : List ℕ) → contains bytes_eq table x
-        ≡ is_captured x (stmts_uses (stmts_of statements.now))) }
+// What the statements do with names. The work is in proportion to the statements.
+fn uses_of(alloc: Global, statements: &[Stmt]) -> Result<UseTable, OutOfMemory>
+    ensures { IfOk result (λ uses. uses ≡ table_of (stmts_uses (stmts_of statements.now))) }
 {
-    let mut uses = Vec::new(alloc);
-    push_statements_uses(ScopeTest::IsOutOfForm, statements, &mut uses)?;
-    captured_table(alloc, uses.as_slice())
+    let mut uses = UseTable::new(alloc);
+    note_statements(ScopeTest::IsOutOfForm, statements, &mut uses)?;
+    Ok(uses)
 }
 
-// Appends those of the names that are in the table.
-fn push_those_in(
-    table: &IndexSet<Units>,
-    names: &[Units],
-    out: &mut Vec<Units>,
-) -> Result<(), OutOfMemory>
-    ensures { OnOk result (out.new.items ≡ out.old.items ++ filter (contains bytes_eq table.now)
-        names.now) }
+// Appends those of the names that functions inside use.
+fn push_captured(uses: &UseTable, names: &[Units], out: &mut Vec<Units>) -> Result<(), OutOfMemory>
+    ensures { (us : List Use) → uses.now ≡ table_of us → OnOk result
+        (out.new.items ≡ out.old.items ++ filter (λ x. is_captured x us) names.now) }
 {
     let mut rest = names;
     while let [name, after @ ..] = rest {
-        if table.contains(name) {
+        if uses.is_captured(name) {
             out.push(name.clone()?)?;
         }
         rest = after;

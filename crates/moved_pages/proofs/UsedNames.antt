@@ -10,8 +10,7 @@ use Rattle.js_grammar.specs.Syntax.{AreCases, AreDeclarators, AreExprs, AreField
 use Rattle.scope_analysis.specs.FreeUses.{needed_variables}
 use Rattle.scope_analysis.specs.Identifiers.{is_reserved}
 use Rattle.scope_analysis.specs.Names.{bound_names, is_among, maybe_name}
-use Rattle.scope_analysis.specs.Uses.{cases_uses, catch_uses, crossing, declarator_uses, declarators_uses, expr_uses, exprs_uses, fields_uses, holes_uses, init_uses, leaving_clause, leaving_function, maybe_expr_uses, maybe_stmts_uses, stmt_uses, stmts_uses, target_uses}
-use Rattle.scope_analysis.specs.declared.name_use.Use.{Use}
+use Rattle.scope_analysis.specs.Uses.{Use, cases_uses, catch_uses, crossing, declarator_uses, declarators_uses, expr_uses, exprs_uses, fields_uses, holes_uses, init_uses, leaving_clause, leaving_function, maybe_expr_uses, maybe_stmts_uses, stmt_uses, stmts_uses, target_uses}
 
 -- ---- uses
 

@@ -12,8 +12,7 @@ use Rattle.scope_analysis.specs.Form.{any_use_is_reserved}
 use Rattle.scope_analysis.specs.FreeUses.{needed_variables}
 use Rattle.scope_analysis.specs.Identifiers.{is_reserved, is_restricted}
 use Rattle.scope_analysis.specs.Names.{has_repeat, is_among}
-use Rattle.scope_analysis.specs.Uses.{crossing, expr_uses, leaving_function}
-use Rattle.scope_analysis.specs.declared.name_use.Use.{Use}
+use Rattle.scope_analysis.specs.Uses.{Use, crossing, expr_uses, leaving_function}
 use Rattle.agreement.proofs.Callers.{same_name}
 
 abbrev names : List Use → List (List ℕ)

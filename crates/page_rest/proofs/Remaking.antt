@@ -31,8 +31,7 @@ use Rattle.page_meaning.specs.Store.{Store}
 use Rattle.scope_analysis.specs.FreeUses.{needed_variables}
 use Rattle.scope_analysis.specs.Identifiers.{is_reserved}
 use Rattle.scope_analysis.specs.Limits.{function_height_limit}
-use Rattle.scope_analysis.specs.Uses.{expr_uses}
-use Rattle.scope_analysis.specs.declared.name_use.Use.{Use}
+use Rattle.scope_analysis.specs.Uses.{Use, expr_uses}
 use Rattle.page_rest.proofs.NeededNames.{all_pass}
 
 -- ---- what is round a function

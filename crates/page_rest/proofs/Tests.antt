@@ -9,8 +9,7 @@ use Rattle.scope_analysis.specs.Form.{are_variables_in_form, is_clause_out_of_fo
 use Rattle.scope_analysis.specs.Identifiers.{is_restricted}
 use Rattle.scope_analysis.specs.Names.{code_body}
 use Rattle.scope_analysis.specs.Nodes.{Node, catch_any, code_any, expr_any, stmt_any, stmts_any}
-use Rattle.scope_analysis.specs.Uses.{catch_uses, declarator_uses, expr_uses, maybe_expr_uses, stmt_uses, stmts_uses, target_uses}
-use Rattle.scope_analysis.specs.declared.name_use.Use.{Use}
+use Rattle.scope_analysis.specs.Uses.{Use, catch_uses, declarator_uses, expr_uses, maybe_expr_uses, stmt_uses, stmts_uses, target_uses}
 use Rattle.page_rest.proofs.Assigning.{assigns_round, clause_calm, function_calm, left_calm, right_calm, target_calm, value_calm}
 
 -- the tests of the early rules, and that of form

@@ -12,8 +12,7 @@ use Rattle.scope_analysis.specs.Identifiers.{is_reserved}
 use Rattle.scope_analysis.specs.Jumps.{strays}
 use Rattle.scope_analysis.specs.Names.{bound_names, declared_names, is_among, maybe_name}
 use Rattle.scope_analysis.specs.Nodes.{Node, expr_any, expression, statement, stmts_any}
-use Rattle.scope_analysis.specs.Uses.{expr_uses, is_assigned, is_captured, stmts_uses}
-use Rattle.scope_analysis.specs.declared.name_use.Use.{Use}
+use Rattle.scope_analysis.specs.Uses.{Use, expr_uses, is_assigned, is_captured, stmts_uses}
 use Rattle.agreement.proofs.Callers.{same_name}
 use Rattle.page_rest.proofs.Assigning.{assigns_round, never_assigned}
 use Rattle.page_rest.proofs.FormParts.{FormParts, from_parts}

@@ -16,8 +16,7 @@ use Rattle.scope_analysis.specs.FreeUses.{needed_variables}
 use Rattle.scope_analysis.specs.Identifiers.{is_reserved}
 use Rattle.scope_analysis.specs.Limits.{function_height_limit}
 use Rattle.scope_analysis.specs.Nodes.{Node, expr_any, expression, stmt_any, stmts_any, statement, exprs_any}
-use Rattle.scope_analysis.specs.Uses.{expr_uses}
-use Rattle.scope_analysis.specs.declared.name_use.Use.{Use}
+use Rattle.scope_analysis.specs.Uses.{Use, expr_uses}
 use Rattle.heap_walker.specs.Still.{IsFunctionAtRest}
 use Rattle.heap_walker.specs.Things.{bound_values, needs_of}
 use Rattle.rebuild_plan.specs.Compact.{moved_needs}

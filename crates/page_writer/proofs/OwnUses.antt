@@ -24,8 +24,7 @@ use Rattle.scope_analysis.specs.Identifiers.{is_reserved}
 use Rattle.scope_analysis.specs.Names.{bound_names, maybe_name, declared_names}
 use Rattle.scope_analysis.specs.Nodes.{stmts_any}
 use Rattle.scope_analysis.specs.Form.{scope_out_of_form}
-use Rattle.scope_analysis.specs.Uses.{expr_uses, exprs_uses, is_captured, leaving_clause, leaving_function, read, stmts_uses}
-use Rattle.scope_analysis.specs.declared.name_use.Use.{Use}
+use Rattle.scope_analysis.specs.Uses.{Use, expr_uses, exprs_uses, is_captured, leaving_clause, leaving_function, read, stmts_uses}
 use Rattle.page_writer.proofs.CommonNames.{begins_common, common_is_unreserved, begin_is_common, is_common, kind_is_common, nan_is_common, none_begin, object_is_common, path_begins}
 use Rattle.page_writer.proofs.FormFunctions.{IsFormFunction, called}
 use Rattle.page_writer.proofs.FormPlans.{IsInForm, MakesInForm}

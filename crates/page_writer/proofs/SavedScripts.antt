@@ -17,10 +17,9 @@ use Rattle.scope_analysis.specs.Jumps.{leaves, strays}
 use Rattle.scope_analysis.specs.Limits.{form_height_limit}
 use Rattle.scope_analysis.specs.Names.{declared_names}
 use Rattle.scope_analysis.specs.Nodes.{stmts_any}
-use Rattle.scope_analysis.specs.Uses.{is_captured, leaving_clause, stmts_uses}
+use Rattle.scope_analysis.specs.Uses.{Use, is_captured, leaving_clause, stmts_uses}
 use Rattle.scope_analysis.specs.declared.jump.Jump.{Jump}
 use Rattle.scope_analysis.specs.declared.jump.Jump.TheVariants as jump
-use Rattle.scope_analysis.specs.declared.name_use.Use.{Use}
 use Rattle.page_writer.proofs.FormFunctions.{IsFormFunction, called, none_pass}
 use Rattle.page_writer.proofs.FormPlans.{IsInForm, plan_in_form}
 use Rattle.scope_analysis.proofs.Callers.{KeepsRules, none_is_broken, rules_are_kept}

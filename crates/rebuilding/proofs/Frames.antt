@@ -12,8 +12,7 @@ use Rattle.scope_analysis.specs.Form.{in_form, is_declaration}
 use Rattle.scope_analysis.specs.FreeUses.{needed_variables}
 use Rattle.scope_analysis.specs.Names.{bound_names, is_among, maybe_name}
 use Rattle.scope_analysis.specs.Nodes.{stmts_any}
-use Rattle.scope_analysis.specs.Uses.{crossing, is_assigned, leaving_function, stmts_uses}
-use Rattle.scope_analysis.specs.declared.name_use.Use.{Use}
+use Rattle.scope_analysis.specs.Uses.{Use, crossing, is_assigned, leaving_function, stmts_uses}
 use Rattle.heap_relations.specs.Naming.{Absent, Fixed, Frame, Itself, Sealed, Unused, resolve, resolved}
 use Rattle.agreement.specs.Trees.{code_fits, entry_frame, is_reached}
 use Rattle.rebuilding.specs.Frames.{is_own, is_sealed, round_frame}

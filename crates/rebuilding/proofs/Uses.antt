@@ -8,8 +8,7 @@ use Rattle.js_core.specs.Tree.{code}
 use Rattle.scope_analysis.specs.Form.{is_declaration}
 use Rattle.scope_analysis.specs.Names.{bound_names, is_among, maybe_name}
 use Rattle.scope_analysis.specs.Nodes.{stmts_any}
-use Rattle.scope_analysis.specs.Uses.{crossing, leaving_clause, leaving_function, stmts_uses}
-use Rattle.scope_analysis.specs.declared.name_use.Use.{Use}
+use Rattle.scope_analysis.specs.Uses.{Use, crossing, leaving_clause, leaving_function, stmts_uses}
 use Rattle.heap_relations.specs.Naming.{Frame, Itself, Place, resolve, resolved}
 use Rattle.agreement.specs.Trees.{entry_frame, frame_of, free_where, is_reached, own_frames}
 use Rattle.rebuilding.proofs.Entries.{binds, entry_binds}

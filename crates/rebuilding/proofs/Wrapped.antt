@@ -20,10 +20,9 @@ use Rattle.scope_analysis.specs.Identifiers.{is_reserved}
 use Rattle.scope_analysis.specs.Names.{bound_names, is_among, maybe_name}
 use Rattle.scope_analysis.specs.Nodes.{code_any, stmts_any}
 use Rattle.scope_analysis.specs.Scopes.{once_each}
-use Rattle.scope_analysis.specs.Uses.{crossing, expr_uses, is_assigned, is_captured, leaving_function, stmts_uses}
+use Rattle.scope_analysis.specs.Uses.{Use, crossing, expr_uses, is_assigned, is_captured, leaving_function, stmts_uses}
 use Rattle.scope_analysis.specs.declared.early_rule.EarlyRule.{EarlyRule}
 use Rattle.scope_analysis.specs.declared.early_rule.EarlyRule.TheVariants as rule
-use Rattle.scope_analysis.specs.declared.name_use.Use.{Use}
 use Rattle.agreement.proofs.Callers.{all_names}
 use Rattle.rebuilding.specs.Frames.{is_own}
 

@@ -1,5 +1,5 @@
 -- The innermost scope that declares a name, as the walk's table has it, is the one that `find` gives.
-use Rattle.std.proofs.Common.{◌≡◌, ℕ, suc, ◌-◌, ◌≤◌, Bool, true, false, List, [], ◌∷◌, Option, Some, None, length, drop, reverse, refl, arith, bytes_eq, if◌then◌else◌}
+use Rattle.std.proofs.Common.{◌≡◌, ℕ, suc, ◌≤◌, Bool, true, false, List, [], ◌∷◌, Option, Some, None, length, drop, reverse, refl, arith, bytes_eq, if◌then◌else◌}
 use Rattle.std.proofs.lemmas.List.{reverse-append, drop-append-le, length-append}
 use Rattle.std.proofs.Math.Seq.{drop-length}
 use Rattle.scope_analysis.specs.declared.scope_walk.Binding.{Binding}

@@ -11,9 +11,8 @@ use Rattle.scope_analysis.specs.declared.mark.ScopeKind.{ScopeKind}
 use Rattle.scope_analysis.specs.declared.mark.ScopeKind.TheVariants.{Expression, Declaration}
 use Rattle.scope_analysis.specs.declared.mark.UseKind.{UseKind}
 use Rattle.scope_analysis.specs.declared.mark.UseKind.TheVariants.{Read, Assignment, Initialiser}
-use Rattle.scope_analysis.specs.declared.name_use.Use.{Use}
 use Rattle.scope_analysis.specs.Names.{is_among, maybe_name, bound_names, own_name, unless_among, declared_names}
-use Rattle.scope_analysis.specs.Uses.{expr_uses, exprs_uses, maybe_expr_uses, holes_uses, fields_uses, stmt_uses, stmts_uses, maybe_stmts_uses, declarators_uses, declarator_uses, init_uses, catch_uses, cases_uses, target_uses, leaving_function, leaving_clause, crossing}
+use Rattle.scope_analysis.specs.Uses.{Use, expr_uses, exprs_uses, maybe_expr_uses, holes_uses, fields_uses, stmt_uses, stmts_uses, maybe_stmts_uses, declarators_uses, declarator_uses, init_uses, catch_uses, cases_uses, target_uses, leaving_function, leaving_clause, crossing}
 use Rattle.scope_analysis.specs.Marks.{Mark, opens, uses, ends, expr_marks, exprs_marks, maybe_expr_marks, holes_marks, fields_marks, stmt_marks, stmts_marks, maybe_stmts_marks, declarators_marks, declarator_marks, init_marks, catch_marks, cases_marks, target_marks, clause_opens}
 use Rattle.scope_analysis.specs.Scopes.{Around, Place, find, names_of, occurrences, around, is_function_kind, scope_names}
 use Rattle.scope_analysis.specs.FreeUses.{is_assigning, is_no_place, is_free, use_seen, free_uses}

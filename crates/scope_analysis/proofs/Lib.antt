@@ -15,3 +15,4 @@ pub mod ScopeUses
 pub mod Steps
 pub mod Tables
 pub mod Told
+pub mod UseTables

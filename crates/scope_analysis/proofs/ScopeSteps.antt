@@ -1,5 +1,5 @@
 -- What the walk over the marks keeps, after each mark.
-use Rattle.std.proofs.Common.{◌≡◌, ℕ, zero, suc, ◌+◌, ◌-◌, ◌≤◌, Bool, true, false, ◌||◌, List, [], ◌∷◌, ◌++◌, Option, Some, None, length, refl, sym, ap, ◌∙◌, arith, bytes_eq, if◌then◌else◌, append_assoc}
+use Rattle.std.proofs.Common.{◌≡◌, ℕ, zero, suc, ◌≤◌, Bool, true, false, ◌||◌, List, [], ◌∷◌, ◌++◌, Option, Some, None, length, refl, sym, ap, ◌∙◌, arith, bytes_eq, if◌then◌else◌, append_assoc}
 use Rattle.std.proofs.lemmas.List.{get_or_past, length-append, length-map}
 use Rattle.std.proofs.lemmas.Slice.Eq.{bytes_eq-Decides}
 use Rattle.scope_analysis.specs.declared.mark.ScopeKind.{ScopeKind}
@@ -7,7 +7,7 @@ use Rattle.scope_analysis.specs.declared.scope_walk.Binding.{Binding}
 use Rattle.scope_analysis.specs.declared.scope_walk.Walk.{Walk}
 use Rattle.scope_analysis.specs.Marks.{Mark, opens, ends}
 use Rattle.scope_analysis.specs.Names.{is_among}
-use Rattle.scope_analysis.specs.Scopes.{Around, Opened, Place, around, find, names_of, needing, needs, innermost, is_function_kind, scope_names, occurrences, opened}
+use Rattle.scope_analysis.specs.Scopes.{Around, Opened, Place, around, find, names_of, needing, innermost, is_function_kind, scope_names, occurrences, opened}
 use Rattle.scope_analysis.specs.ScopeWalk as spec
 use Rattle.scope_analysis.specs.ScopeWalk.{look, key_lists, list_at, shadowed_by, put_back, functions_of, binding_in, kept_open, begun_scopes, HaveOutwards, NeedOutwards, OpensScope, EndsScope, ClosesScope, Tells, Partway}
 use Rattle.scope_analysis.proofs.Sets.{same_symmetric}

@@ -8,12 +8,11 @@ use Rattle.js_core.specs.declared.operators.UnaryOp.TheVariants.{Delete}
 use Rattle.scope_analysis.specs.declared.early_rule.EarlyRule.{EarlyRule}
 use Rattle.scope_analysis.specs.declared.early_rule.EarlyRule.TheVariants as rule
 use Rattle.scope_analysis.specs.declared.jump.Jump.TheVariants as jump
-use Rattle.scope_analysis.specs.declared.name_use.Use.{Use}
 use Rattle.scope_analysis.specs.Names.{has_repeat, code_name, code_formals, code_body, own_name}
 use Rattle.scope_analysis.specs.Nodes.{Node, of_scopes, expression, statement, stmts_any}
 use Rattle.scope_analysis.specs.Identifiers.{identifiers, is_restricted}
 use Rattle.scope_analysis.specs.Jumps.{leaves, strays}
-use Rattle.scope_analysis.specs.Uses.{stmts_uses, is_assigned}
+use Rattle.scope_analysis.specs.Uses.{Use, stmts_uses, is_assigned}
 
 -- the node is a function, and it passes the test
 abbrev pub is_function : (tree.Code → Bool) → Node → Bool

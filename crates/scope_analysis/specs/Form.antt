@@ -6,12 +6,11 @@ use Rattle.js_core.specs.Tree as tree
 use Rattle.js_core.specs.Tree.{name, num, text, bool, null, this, list, literal, func, member, index, call, construct, unary, update, binary, logical_and, logical_or, conditional, assign, comma, no_exprs, then_expr, no_expr, one_expr, no_holes, then_hole, no_fields, then_field, code, var, function, expr, empty, block, if_else, do_while, while, for, for_in, continue, break, return, throw, try, switch, no_stmts, then_stmt, no_body, one_body, no_declarators, then_declarator, no_init, init_var, init_expr, no_catch, one_catch, no_cases, then_case}
 use Rattle.js_core.specs.Height.{code_height}
 use Rattle.js_core.specs.declared.operators.UnaryOp.TheVariants.{Void}
-use Rattle.scope_analysis.specs.declared.name_use.Use.{Use}
 use Rattle.scope_analysis.specs.Limits.{function_height_limit}
 use Rattle.scope_analysis.specs.Names.{is_among, code_name, code_formals, code_body, declared_names, bound_names, own_name}
 use Rattle.scope_analysis.specs.Nodes.{Node, of_scopes, expression, statement, code_any, stmt_any, stmts_any}
 use Rattle.scope_analysis.specs.Identifiers.{identifiers, is_reserved}
-use Rattle.scope_analysis.specs.Uses.{stmts_uses, is_captured, is_assigned}
+use Rattle.scope_analysis.specs.Uses.{Use, stmts_uses, is_captured, is_assigned}
 
 -- the name stands in the list once
 abbrev pub is_once : List ℕ → List (List ℕ) → Bool

@@ -3,12 +3,11 @@ use Rattle.std.specs.Prelude.{ℕ, Bool, true, false, List, [], Option, Some, No
 use Rattle.std.specs.List.{list_any}
 use Rattle.scope_analysis.specs.declared.mark.UseKind.{UseKind}
 use Rattle.scope_analysis.specs.declared.mark.UseKind.TheVariants.{Read, Assignment, Initialiser}
-use Rattle.scope_analysis.specs.declared.name_use.Use.{Use}
 use Rattle.js_core.specs.Tree as tree
 use Rattle.js_core.specs.Tree.{func}
 use Rattle.scope_analysis.specs.Identifiers.{is_reserved}
 use Rattle.scope_analysis.specs.Marks.{Mark}
-use Rattle.scope_analysis.specs.Uses.{expr_uses}
+use Rattle.scope_analysis.specs.Uses.{Use, expr_uses}
 use Rattle.scope_analysis.specs.Scopes.{Occurrence, Place, find, names_of, occurrences, once_each}
 
 abbrev pub is_assigning : UseKind → Bool

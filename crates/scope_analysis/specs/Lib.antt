@@ -13,5 +13,6 @@ pub mod Nodes
 pub mod ScopeTests
 pub mod Scopes
 pub mod ScopeWalk
+pub mod UseTables
 pub mod Uses
 pub mod Variables

@@ -4,8 +4,15 @@ use Rattle.std.specs.Prelude.{ℕ, Bool, true, false, ◌&&◌, List, [], ◌∷
 use Rattle.std.specs.List.{list_any}
 use Rattle.js_core.specs.Tree as tree
 use Rattle.js_core.specs.Tree.{name, num, text, bool, null, this, list, literal, func, member, index, call, construct, unary, update, binary, logical_and, logical_or, conditional, assign, comma, no_exprs, then_expr, no_expr, one_expr, no_holes, then_hole, no_fields, then_field, code, var, function, expr, empty, block, if_else, do_while, while, for, for_in, continue, break, return, throw, try, switch, no_stmts, then_stmt, no_body, one_body, no_declarators, then_declarator, no_init, init_var, init_expr, no_catch, one_catch, no_cases, then_case}
-use Rattle.scope_analysis.specs.declared.name_use.Use.{Use}
 use Rattle.scope_analysis.specs.Names.{is_among, maybe_name, bound_names}
+
+-- a use of a name: where a variable is read, assigned to, or taken by an operator (11.1.2). assigns: it is the target of an
+-- assignment, of `++` or `--` or of a `for` with `in`, or a variable with an initialiser. crosses: it stands in a function inside
+-- the piece that is looked at
+pub record Use : Type 0 where
+  pub name : List ℕ
+  pub assigns : Bool
+  pub crosses : Bool
 
 -- a use that is in no function inside, and whether it assigns
 abbrev pub use_of : Bool → List ℕ → Use

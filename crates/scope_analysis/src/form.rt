@@ -5,15 +5,13 @@ ghost use Rattle.js_core.specs.Tree.{stmts_of};
 ghost use Rattle.scope_analysis.specs.Form as spec;
 
 use crate::name_test::is_reserved;
-use crate::name_use::Use;
 use crate::names::push_declared_names;
 use crate::node_test::NodeTest;
 use crate::nodes::{any_in_code, any_in_script, any_in_statement};
 use crate::scope_test::ScopeTest;
-use crate::uses::push_statements_uses;
-use js_core::memory::OutOfMemory;
-use js_core::syntax::{Script, Stmt, StmtNode};
-use js_core::units::Units;
+use crate::use_table::UseTable;
+use crate::uses::note_statements;
+use js_core::{OutOfMemory, Script, Stmt, StmtNode, Units};
 use std::alloc::Global;
 
 /// Whether the script is in form: each captured variable is one that a saved page can rebuild, each identifier that begins
@@ -42,22 +40,17 @@ pub fn has_high_function(alloc: Global, script: &Script) -> Result<bool, OutOfMe
     any_in_script(alloc, NodeTest::IsHighFunction, script)
 }
 
+#[tactic(auto, using(crate::proofs::UseTables::any_reserved))]
 fn are_in_form(alloc: Global, statements: &[Stmt]) -> Result<bool, OutOfMemory>
     ensures { IfOk result (λ good. good ≡ spec.in_form (stmts_of statements.now)) }
 {
-    let mut uses = Vec::new(alloc);
-    let is_out = push_statements_uses(ScopeTest::IsOutOfForm, statements, &mut uses)?;
+    let mut uses = UseTable::new(alloc);
+    let is_out = note_statements(ScopeTest::IsOutOfForm, statements, &mut uses)?;
     let mut declared = Vec::new(alloc);
     push_declared_names(statements, &mut declared)?;
-    let is_open = any_use_is_reserved(uses.as_slice()) || any_is_reserved(declared.as_slice());
+    let is_open = uses.has_reserved_name() || any_is_reserved(declared.as_slice());
     let is_inner = has_inner_declaration(alloc, statements)?;
     Ok(!is_open && !is_inner && !is_out)
-}
-
-fn any_use_is_reserved(uses: &[Use]) -> bool
-    ensures { result ≡ spec.any_use_is_reserved uses.now }
-{
-    uses.iter().any(|inner| is_reserved(&inner.name))
 }
 
 fn any_is_reserved(names: &[Units]) -> bool

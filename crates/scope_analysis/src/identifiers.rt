@@ -8,8 +8,7 @@ ghost use Rattle.scope_analysis.specs.NameTests.{fits};
 ghost use Rattle.scope_analysis.specs.Names.{declarator_names, init_names};
 
 use crate::name_test::{NameTest, is_reserved, is_restricted};
-use js_core::syntax::{Code, Declarator, Expr, ExprNode, ForInit, Stmt, StmtNode};
-use js_core::units::Units;
+use js_core::{Code, Declarator, Expr, ExprNode, ForInit, Stmt, StmtNode, Units};
 
 /// Whether a name passes the test.
 pub fn fits(test: NameTest, name: &Units) -> bool

@@ -8,7 +8,7 @@ ghost use Rattle.js_core.specs.Views.{catch_of, cases_of};
 ghost use Rattle.scope_analysis.specs.Jumps as spec;
 
 use crate::jump::Jump;
-use js_core::syntax::{Case, Catch, Stmt, StmtNode};
+use js_core::{Case, Catch, Stmt, StmtNode};
 
 /// Whether a `break` stands outside a loop or `switch`, or a `continue` outside a loop, among these statements of a
 /// function. Functions inside are not entered.
@@ -78,7 +78,8 @@ fn statement_leaves(jump: Jump, statement: &Stmt) -> bool
 
 #[cycle(leaving)]
 fn maybe_body_leaves(jump: Jump, body: &Option<Vec<Stmt>>) -> bool
-    ensures { result ≡ spec.maybe_body_leaves jump (maybe_stmts (option_map (λ v. v.items) body.now)) }
+    ensures { result ≡ spec.maybe_body_leaves jump
+        (maybe_stmts (option_map (λ v. v.items) body.now)) }
 {
     match body {
         None => false,

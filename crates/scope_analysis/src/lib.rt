@@ -1,26 +1,38 @@
 //! What scopes and names of a syntax tree say: the early rules, and the rule of form.
 #![tactic(auto)]
 
-pub mod early;
-pub mod early_rule;
-pub mod form;
+mod early_rule;
+mod early_rules;
+mod form;
 mod identifiers;
-pub mod jump;
-pub mod jumps;
+mod jump;
+mod jumps;
+mod laws;
 mod mark;
 mod mark_lists;
 mod marks;
-pub mod name_table;
-pub mod name_test;
-pub mod name_use;
-pub mod names;
-pub mod node_test;
+mod name_tables;
+mod name_test;
+mod names;
+mod needs;
+mod node_test;
 mod node_tests;
-pub mod nodes;
-pub mod scope_test;
+mod nodes;
+mod scope_test;
 mod scope_tests;
 mod scope_walk;
-pub mod scopes;
-mod use_lists;
-pub mod uses;
-mod variables;
+mod scopes;
+mod use_table;
+mod uses;
+
+pub use early_rule::EarlyRule;
+pub use early_rules::early;
+pub use form::{has_high_function, has_reserved_name, in_form};
+pub use laws::law_free_uses;
+pub use name_tables::{bound_table, insert_names, name_table, parameter_table};
+pub use names::{own_name, push_declared_names, push_maybe_name, push_names};
+pub use needs::needed_variables;
+pub use scope_test::ScopeTest;
+pub use scopes::{Declared, Scope, Scopes, resolve};
+pub use use_table::UseTable;
+pub use uses::note_statements;

@@ -1,6 +1,6 @@
 //! The marks that a script's scopes and uses of names make, in source order.
 
-use js_core::units::Units;
+use js_core::Units;
 
 /// What makes a scope.
 #[derive(Clone, Copy, Debug, PartialEq, Eq)]

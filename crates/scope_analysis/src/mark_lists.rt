@@ -6,9 +6,7 @@ ghost use Rattle.scope_analysis.specs.Marks as spec;
 
 use crate::mark::{Mark, ScopeHead, ScopeKind, UseKind};
 use crate::names::{own_name, push_declared_names, push_name, push_names};
-use js_core::memory::OutOfMemory;
-use js_core::syntax::Code;
-use js_core::units::Units;
+use js_core::{Code, OutOfMemory, Units};
 
 #[tactic(auto, using(crate::proofs::MarkLists::marks_push))]
 fn push_mark(mark: Mark, out: &mut Vec<Mark>) -> Result<(), OutOfMemory>

@@ -14,9 +14,9 @@ use crate::mark::{Mark, UseKind};
 use crate::mark_lists::{
     push_clause_head, push_close, push_declaration_head, push_expression_head, push_use,
 };
-use js_core::memory::OutOfMemory;
-use js_core::syntax::{Case, Catch, Code, Declarator, Expr, ExprNode, ForInit, Stmt, StmtNode};
-use js_core::units::Units;
+use js_core::{
+    Case, Catch, Code, Declarator, Expr, ExprNode, ForInit, OutOfMemory, Stmt, StmtNode, Units,
+};
 
 /// Appends the marks of statements.
 #[cycle(marking)]

@@ -8,9 +8,9 @@ ghost use Rattle.js_core.specs.Views.{declarators_of, init_of, catch_of, cases_o
 ghost use Rattle.scope_analysis.specs.Names as spec;
 
 use indexmap::IndexSet;
-use js_core::memory::OutOfMemory;
-use js_core::syntax::{Case, Catch, Code, Declarator, Expr, ExprNode, ForInit, Stmt, StmtNode};
-use js_core::units::Units;
+use js_core::{
+    Case, Catch, Code, Declarator, Expr, ExprNode, ForInit, OutOfMemory, Stmt, StmtNode, Units,
+};
 use std::alloc::Global;
 
 /// Whether the name is one of these.
@@ -40,7 +40,8 @@ pub fn has_repeat(alloc: Global, names: &[Units]) -> Result<bool, OutOfMemory>
 /// declare, in source order and as often as they do. Functions inside are not entered.
 #[cycle(declaring)]
 pub fn push_declared_names(statements: &[Stmt], out: &mut Vec<Units>) -> Result<(), OutOfMemory>
-    ensures { OnOk result (out.new.items ≡ out.old.items ++ spec.declared_names (stmts_of statements.now)) }
+    ensures { OnOk result (out.new.items ≡ out.old.items
+        ++ spec.declared_names (stmts_of statements.now)) }
 {
     let mut rest = statements;
     while let [statement, after @ ..] = rest {
@@ -99,7 +100,8 @@ fn push_statement_names(statement: &Stmt, out: &mut Vec<Units>) -> Result<(), Ou
 
 #[cycle(declaring)]
 fn push_maybe_body_names(body: &Option<Vec<Stmt>>, out: &mut Vec<Units>) -> Result<(), OutOfMemory>
-    ensures { OnOk result (out.new.items ≡ out.old.items ++ spec.maybe_body_names (maybe_stmts (option_map (λ v. v.items) body.now))) }
+    ensures { OnOk result (out.new.items ≡ out.old.items
+        ++ spec.maybe_body_names (maybe_stmts (option_map (λ v. v.items) body.now))) }
 {
     match body {
         None => Ok(()),
@@ -148,7 +150,8 @@ pub fn push_maybe_name(name: &Option<Units>, out: &mut Vec<Units>) -> Result<(),
 }
 
 fn push_function_name(code: &Code, out: &mut Vec<Units>) -> Result<(), OutOfMemory>
-    ensures { OnOk result (out.new.items ≡ out.old.items ++ spec.maybe_name (spec.code_name code.now)) }
+    ensures { OnOk result (out.new.items ≡ out.old.items
+        ++ spec.maybe_name (spec.code_name code.now)) }
 {
     push_maybe_name(&code.name, out)
 }
@@ -157,7 +160,8 @@ fn push_declarator_names(
     declarators: &[Declarator],
     out: &mut Vec<Units>,
 ) -> Result<(), OutOfMemory>
-    ensures { OnOk result (out.new.items ≡ out.old.items ++ spec.declarator_names (declarators_of declarators.now)) }
+    ensures { OnOk result (out.new.items ≡ out.old.items
+        ++ spec.declarator_names (declarators_of declarators.now)) }
 {
     let mut rest = declarators;
     while let [declarator, after @ ..] = rest {
@@ -217,7 +221,8 @@ pub fn own_name(alloc: Global, code: &Code) -> Result<Option<Units>, OutOfMemory
 }
 
 fn unless_bound(alloc: Global, name: &Units, code: &Code) -> Result<Option<Units>, OutOfMemory>
-    ensures { IfOk result (λ own. own ≡ spec.unless_among (Some name.now) (spec.bound_names code.now)) }
+    ensures { IfOk result (λ own. own ≡ spec.unless_among (Some name.now)
+        (spec.bound_names code.now)) }
 {
     let mut bound = Vec::new(alloc);
     push_bound_names(code, &mut bound)?;

@@ -17,11 +17,9 @@ use crate::jumps::strays;
 use crate::name_test::{NameTest, is_reserved};
 use crate::names::{has_repeat, push_name};
 use crate::node_test::NodeTest;
-use js_core::limits::FUNCTION_HEIGHT_LIMIT;
-use js_core::memory::OutOfMemory;
-use js_core::operators::UnaryOp;
-use js_core::syntax::{Catch, Code, Expr, ExprNode, Stmt, StmtNode};
-use js_core::units::Units;
+use js_core::{
+    Catch, Code, Expr, ExprNode, FUNCTION_HEIGHT_LIMIT, OutOfMemory, Stmt, StmtNode, UnaryOp, Units,
+};
 use std::alloc::Global;
 
 /// Whether the expression passes the test.
@@ -31,7 +29,8 @@ pub fn expression_passes(
     is_callee: bool,
     expression: &Expr,
 ) -> Result<bool, OutOfMemory>
-    ensures { IfOk result (λ found. found ≡ passes test (nodes.expression is_callee expression.now)) }
+    ensures { IfOk result (λ found. found ≡ passes test
+        (nodes.expression is_callee expression.now)) }
 {
     match test {
         NodeTest::RepeatsFormal => has_repeated_formal(alloc, expression),
@@ -84,7 +83,8 @@ pub fn clause_passes(test: NodeTest, clause: &Catch) -> bool
 }
 
 fn has_repeated_formal(alloc: Global, expression: &Expr) -> Result<bool, OutOfMemory>
-    ensures { IfOk result (λ found. found ≡ rules.repeats_formal (nodes.expression false expression.now)) }
+    ensures { IfOk result (λ found. found ≡ rules.repeats_formal
+        (nodes.expression false expression.now)) }
 {
     match &expression.node {
         ExprNode::Func(code) => has_repeat(alloc, code.formals.as_slice()),
@@ -120,7 +120,8 @@ fn declares_stray_jump(statement: &Stmt) -> bool
 }
 
 fn has_repeated_field(alloc: Global, expression: &Expr) -> Result<bool, OutOfMemory>
-    ensures { IfOk result (λ found. found ≡ rules.repeats_field (nodes.expression false expression.now)) }
+    ensures { IfOk result (λ found. found ≡ rules.repeats_field
+        (nodes.expression false expression.now)) }
 {
     match &expression.node {
         ExprNode::Literal(fields) => repeats_name(alloc, fields.as_slice()),
@@ -137,7 +138,8 @@ fn repeats_name(alloc: Global, fields: &[(Units, Expr)]) -> Result<bool, OutOfMe
 }
 
 fn push_field_names(fields: &[(Units, Expr)], out: &mut Vec<Units>) -> Result<(), OutOfMemory>
-    ensures { OnOk result (out.new.items ≡ out.old.items ++ rules.field_names (fields_of fields.now)) }
+    ensures { OnOk result (out.new.items ≡ out.old.items
+        ++ rules.field_names (fields_of fields.now)) }
 {
     let mut rest = fields;
     while let [(name, _), after @ ..] = rest {

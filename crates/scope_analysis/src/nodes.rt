@@ -10,11 +10,10 @@ ghost use Rattle.scope_analysis.specs.Nodes as spec;
 
 use crate::node_test::NodeTest;
 use crate::node_tests::{clause_passes, expression_passes, statement_passes};
-use js_core::memory::OutOfMemory;
-use js_core::syntax::{
-    Case, Catch, Code, Declarator, Expr, ExprNode, ForInit, Script, Stmt, StmtNode,
+use js_core::{
+    Case, Catch, Code, Declarator, Expr, ExprNode, ForInit, OutOfMemory, Script, Stmt, StmtNode,
+    Units,
 };
-use js_core::units::Units;
 use std::alloc::Global;
 
 /// Whether a node of the script passes the test.
@@ -120,7 +119,8 @@ pub fn any_in_statements(
     test: NodeTest,
     statements: &[Stmt],
 ) -> Result<bool, OutOfMemory>
-    ensures { IfOk result (λ found. found ≡ spec.stmts_any (passes test) (stmts_of statements.now)) }
+    ensures { IfOk result (λ found. found ≡ spec.stmts_any (passes test)
+        (stmts_of statements.now)) }
 {
     let mut rest = statements;
     while let [statement, after @ ..] = rest {
@@ -138,7 +138,8 @@ fn any_in_maybe_body(
     test: NodeTest,
     body: &Option<Vec<Stmt>>,
 ) -> Result<bool, OutOfMemory>
-    ensures { IfOk result (λ found. found ≡ spec.maybe_stmts_any (passes test) (maybe_stmts (option_map (λ v. v.items) body.now))) }
+    ensures { IfOk result (λ found. found ≡ spec.maybe_stmts_any (passes test)
+        (maybe_stmts (option_map (λ v. v.items) body.now))) }
 {
     match body {
         None => Ok(false),
@@ -180,7 +181,8 @@ fn any_in_declarators(
     test: NodeTest,
     declarators: &[Declarator],
 ) -> Result<bool, OutOfMemory>
-    ensures { IfOk result (λ found. found ≡ spec.declarators_any (passes test) (declarators_of declarators.now)) }
+    ensures { IfOk result (λ found. found ≡ spec.declarators_any (passes test)
+        (declarators_of declarators.now)) }
 {
     let mut rest = declarators;
     while let [declarator, after @ ..] = rest {
@@ -272,7 +274,8 @@ fn any_in_expressions(
     test: NodeTest,
     expressions: &[Expr],
 ) -> Result<bool, OutOfMemory>
-    ensures { IfOk result (λ found. found ≡ spec.exprs_any (passes test) (exprs_of expressions.now)) }
+    ensures { IfOk result (λ found. found ≡ spec.exprs_any (passes test)
+        (exprs_of expressions.now)) }
 {
     let mut rest = expressions;
     while let [expression, after @ ..] = rest {
@@ -290,7 +293,8 @@ fn any_in_maybe_expression(
     test: NodeTest,
     expression: &Option<Expr>,
 ) -> Result<bool, OutOfMemory>
-    ensures { IfOk result (λ found. found ≡ spec.maybe_expr_any (passes test) (maybe_expr expression.now)) }
+    ensures { IfOk result (λ found. found ≡ spec.maybe_expr_any (passes test)
+        (maybe_expr expression.now)) }
 {
     match expression {
         None => Ok(false),

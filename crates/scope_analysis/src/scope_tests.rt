@@ -9,18 +9,18 @@ ghost use Rattle.scope_analysis.specs.Form as spec;
 ghost use Rattle.scope_analysis.specs.Names as names;
 ghost use Rattle.scope_analysis.specs.ScopeTests.{expression_scope, declaration_scope, clause_scope};
 ghost use Rattle.scope_analysis.specs.Uses.{stmts_uses};
+ghost use Rattle.scope_analysis.specs.UseTables.{table_of};
 ghost use Rattle.scope_analysis.specs.Variables.{Tells};
 
+use crate::name_tables::name_table;
 use crate::name_test::is_reserved;
-use crate::name_use::Use;
 use crate::names::{is_among, own_name, push_bound_names, push_declared_names};
 use crate::scope_test::ScopeTest;
-use crate::use_lists::{is_assigned, is_assigned_once, is_captured};
-use crate::variables::Variables;
-use js_core::memory::OutOfMemory;
-use js_core::operators::UnaryOp;
-use js_core::syntax::{Catch, Code, Declarator, Expr, ExprNode, Stmt, StmtNode};
-use js_core::units::Units;
+use crate::use_table::UseTable;
+use indexmap::IndexSet;
+use js_core::{
+    Catch, Code, Declarator, Expr, ExprNode, OutOfMemory, Stmt, StmtNode, UnaryOp, Units,
+};
 use std::alloc::Global;
 
 /// Whether a function expression passes the test, by the uses in its body.
@@ -28,9 +28,9 @@ pub fn expression_scope_passes(
     alloc: Global,
     test: ScopeTest,
     code: &Code,
-    uses: &[Use],
+    uses: &UseTable,
 ) -> Result<bool, OutOfMemory>
-    requires { uses.now ≡ stmts_uses (names.code_body code.now) }
+    requires { uses.now ≡ table_of (stmts_uses (names.code_body code.now)) }
     ensures { IfOk result (λ found. found ≡ expression_scope test code.now) }
 {
     match test {
@@ -46,9 +46,9 @@ pub fn declaration_scope_passes(
     alloc: Global,
     test: ScopeTest,
     code: &Code,
-    uses: &[Use],
+    uses: &UseTable,
 ) -> Result<bool, OutOfMemory>
-    requires { uses.now ≡ stmts_uses (names.code_body code.now) }
+    requires { uses.now ≡ table_of (stmts_uses (names.code_body code.now)) }
     ensures { IfOk result (λ found. found ≡ declaration_scope test code.now) }
 {
     match test {
@@ -58,8 +58,8 @@ pub fn declaration_scope_passes(
 }
 
 /// Whether a catch clause passes the test, by the uses of its block.
-pub fn clause_scope_passes(test: ScopeTest, clause: &Catch, uses: &[Use]) -> bool
-    requires { uses.now ≡ stmts_uses (stmts_of clause.now.body.items) }
+pub fn clause_scope_passes(test: ScopeTest, clause: &Catch, uses: &UseTable) -> bool
+    requires { uses.now ≡ table_of (stmts_uses (stmts_of clause.now.body.items)) }
     ensures { result ≡ clause_scope test clause.now.name (stmts_of clause.now.body.items) }
 {
     match test {
@@ -70,32 +70,40 @@ pub fn clause_scope_passes(test: ScopeTest, clause: &Catch, uses: &[Use]) -> boo
     }
 }
 
-fn assigns_own(alloc: Global, code: &Code, uses: &[Use]) -> Result<bool, OutOfMemory>
-    ensures { IfOk result (λ found. found ≡ rules.assigns_maybe (names.own_name code.now) uses.now) }
+fn assigns_own(alloc: Global, code: &Code, uses: &UseTable) -> Result<bool, OutOfMemory>
+    requires { uses.now ≡ table_of (stmts_uses (names.code_body code.now)) }
+    ensures { IfOk result (λ found. found ≡ rules.assigns_own code.now) }
 {
     match own_name(alloc, code)? {
         None => Ok(false),
-        Some(own) => Ok(is_assigned(&own, uses)),
+        Some(own) => Ok(uses.is_assigned(&own)),
     }
 }
 
-fn is_own_free(alloc: Global, code: &Code, uses: &[Use]) -> Result<bool, OutOfMemory>
-    ensures { IfOk result (λ good. good ≡ spec.is_not_captured (names.own_name code.now) uses.now) }
+fn is_own_free(alloc: Global, code: &Code, uses: &UseTable) -> Result<bool, OutOfMemory>
+    requires { uses.now ≡ table_of (stmts_uses (names.code_body code.now)) }
+    ensures { IfOk result (λ good. good ≡ spec.is_not_captured (names.own_name code.now)
+        (stmts_uses (names.code_body code.now))) }
 {
     match own_name(alloc, code)? {
         None => Ok(true),
-        Some(own) => Ok(!is_captured(&own, uses)),
+        Some(own) => Ok(!uses.is_captured(&own)),
     }
 }
 
-fn are_variables_in_form(alloc: Global, code: &Code, uses: &[Use]) -> Result<bool, OutOfMemory>
-    ensures { IfOk result (λ good. good ≡ spec.are_variables_in_form code.now uses.now) }
+fn are_variables_in_form(alloc: Global, code: &Code, uses: &UseTable) -> Result<bool, OutOfMemory>
+    requires { uses.now ≡ table_of (stmts_uses (names.code_body code.now)) }
+    ensures { IfOk result (λ good. good ≡ spec.are_variables_in_form code.now
+        (stmts_uses (names.code_body code.now))) }
 {
     let mut declared = Vec::new(alloc);
     push_declared_names(code.body.as_slice(), &mut declared)?;
     let mut bound = Vec::new(alloc);
     push_bound_names(code, &mut bound)?;
-    let variables = Variables::new(alloc, code, declared.as_slice(), uses)?;
+    let variables = Variables {
+        formals: name_table(alloc, code.formals.as_slice())?,
+        declared: name_table(alloc, declared.as_slice())?,
+    };
     Ok(may_all_be_captured(
         &variables,
         code,
@@ -105,21 +113,29 @@ fn are_variables_in_form(alloc: Global, code: &Code, uses: &[Use]) -> Result<boo
     ))
 }
 
+// Tables of a function's names, so that what is asked of each of its variables costs a look-up.
+#[derive(Drop)]
+struct Variables {
+    formals: IndexSet<Units>,
+    // What the variable statements and function declarations of the body declare.
+    declared: IndexSet<Units>,
+}
+
 fn may_all_be_captured(
     variables: &Variables,
     code: &Code,
     declared: &[Units],
-    uses: &[Use],
+    uses: &UseTable,
     candidates: &[Units],
 ) -> bool
-    requires { Tells variables.now (names.code_formals code.now) declared.now uses.now }
-    ensures { result ≡ list_all (spec.may_be_captured (names.code_formals code.now) declared.now (names.code_body code.now) uses.now) candidates.now }
+    requires tables { Tells variables.now (names.code_formals code.now) declared.now }
+    requires uses { uses.now ≡ table_of (stmts_uses (names.code_body code.now)) }
+    ensures { result ≡ list_all (spec.may_be_captured (names.code_formals code.now) declared.now
+        (names.code_body code.now) (stmts_uses (names.code_body code.now))) candidates.now }
 {
     let mut rest = candidates;
     while let [name, after @ ..] = rest {
-        if variables.captured.contains(name)
-            && !can_be_rebuilt(variables, code, declared, uses, name)
-        {
+        if uses.is_captured(name) && !can_be_rebuilt(variables, code, declared, uses, name) {
             return false;
         }
         rest = after;
@@ -131,34 +147,40 @@ fn can_be_rebuilt(
     variables: &Variables,
     code: &Code,
     declared: &[Units],
-    uses: &[Use],
+    uses: &UseTable,
     name: &Units,
 ) -> bool
-    requires { Tells variables.now (names.code_formals code.now) declared.now uses.now }
-    ensures { result ≡ spec.can_be_rebuilt (names.code_formals code.now) declared.now (names.code_body code.now) uses.now name.now }
+    requires tables { Tells variables.now (names.code_formals code.now) declared.now }
+    requires uses { uses.now ≡ table_of (stmts_uses (names.code_body code.now)) }
+    ensures { result ≡ spec.can_be_rebuilt (names.code_formals code.now) declared.now
+        (names.code_body code.now) (stmts_uses (names.code_body code.now)) name.now }
 {
     if !is_reserved(name) {
         return false;
     }
     if variables.formals.contains(name) {
-        return !variables.assigned.contains(name) && !variables.declared.contains(name);
+        return !uses.is_assigned(name) && !variables.declared.contains(name);
     }
     is_opened(code.body.as_slice(), declared, uses, name)
 }
 
-fn is_opened(body: &[Stmt], declared: &[Units], uses: &[Use], name: &Units) -> bool
-    ensures { result ≡ spec.is_opened declared.now (stmts_of body.now) uses.now name.now }
+fn is_opened(body: &[Stmt], declared: &[Units], uses: &UseTable, name: &Units) -> bool
+    requires { uses.now ≡ table_of (stmts_uses (stmts_of body.now)) }
+    ensures { result ≡ spec.is_opened declared.now (stmts_of body.now)
+        (stmts_uses (stmts_of body.now)) name.now }
 {
-    opens_with(name, body) && is_once(name, declared) && is_assigned_once(name, uses)
+    opens_with(name, body) && is_once(name, declared) && uses.is_assigned_once(name)
 }
 
-fn is_parameter_in_form(parameter: &Units, body: &[Stmt], uses: &[Use]) -> bool
-    ensures { result ≡ spec.is_parameter_in_form parameter.now (stmts_of body.now) uses.now }
+fn is_parameter_in_form(parameter: &Units, body: &[Stmt], uses: &UseTable) -> bool
+    requires { uses.now ≡ table_of (stmts_uses (stmts_of body.now)) }
+    ensures { result ≡ spec.is_parameter_in_form parameter.now (stmts_of body.now)
+        (stmts_uses (stmts_of body.now)) }
 {
-    if !is_captured(parameter, uses) {
+    if !uses.is_captured(parameter) {
         return true;
     }
-    is_reserved(parameter) && boxes(parameter, body) && is_assigned_once(parameter, uses)
+    is_reserved(parameter) && boxes(parameter, body) && uses.is_assigned_once(parameter)
 }
 
 fn is_once(name: &Units, names: &[Units]) -> bool

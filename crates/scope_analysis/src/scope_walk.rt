@@ -10,11 +10,10 @@ ghost use Rattle.scope_analysis.specs.ScopeWalk.{functions_after};
 ghost use Rattle.scope_analysis.specs.ScopeWalk as spec;
 
 use crate::mark::{Mark, ScopeHead, ScopeKind};
-use crate::name_table::insert_names;
+use crate::name_tables::insert_names;
 use crate::names::push_names;
 use indexmap::{IndexMap, IndexSet};
-use js_core::memory::OutOfMemory;
-use js_core::units::Units;
+use js_core::{OutOfMemory, Units};
 use std::alloc::Global;
 
 /// The innermost open scope that declares a name.

@@ -1,21 +1,16 @@
 //! The scopes of a script, and where its names are declared.
 
 ghost use Rattle.std.specs.Prelude.{◌≡◌, ◌++◌, IfOk, OnOk};
-ghost use Rattle.js_core.specs.Tree as tree;
-ghost use Rattle.scope_analysis.specs.FreeUses.{free_uses};
 ghost use Rattle.scope_analysis.specs.Marks.{stmts_marks};
 ghost use Rattle.scope_analysis.specs.Scopes.{made_scopes, scopes_of};
 ghost use Rattle.scope_analysis.specs.ScopeWalk.{AddsScope, all_scopes, scope_at};
 ghost use Rattle.scope_analysis.specs.ScopeWalk as kept;
-ghost use Rattle.scope_analysis.specs.Uses.{stmts_uses};
 
 use crate::marks::push_statements_marks;
 use crate::names::push_names;
 use crate::scope_walk::{Begun, Walk, walked};
 use indexmap::IndexSet;
-use js_core::memory::OutOfMemory;
-use js_core::syntax::Script;
-use js_core::units::Units;
+use js_core::{OutOfMemory, Script, Units};
 use std::alloc::Global;
 
 /// A name that a scope declares.
@@ -148,9 +143,3 @@ fn push_keys_at(
         Some(set) => push_names(set.as_slice(), out),
     }
 }
-
-/// The uses that statements leave to the scopes round them, by which the early rules and the rule of form ask what is captured
-/// and what is assigned to, are those whose name no scope among them declares.
-pub fn law_free_uses()
-    ensures { (ss : tree.Stmts) → stmts_uses ss ≡ free_uses (stmts_marks ss) }
-{}
