@@ -370,24 +370,24 @@ module _ {W : World} {s : Store} (k : AreKept W s) where
       a : ℕ
       a = length s.heap.objects
 
-      W2 : World
-      W2 = with_object (with_object W a b) (suc a) (suc b)
+      grown : World
+      grown = with_object (with_object W a b) (suc a) (suc b)
 
       t : Store
       t = with_heap s (after_steps s.heap (function_steps c env a))
 
-      up : Larger W W2
+      up : Larger W grown
       up = heap.larger_function a b
 
-      two_more : (z : Slot) → IsKept W t z → IsKept W2 t z
+      two_more : (z : Slot) → IsKept W t z → IsKept grown t z
       two_more z h = record { round = older_up up h.round; older = h.older; held = h.held; there = h.there }
 
-      by : {j m : ℕ} {q : Pair} → In q (pair (suc a) (suc b) ∷ pair a b ∷ W.objects) → q ≡ pair j m → IsPlaced W2 j (object_at t.heap.objects j).class
-      by here e = subst (λ i. IsPlaced W2 i (object_at t.heap.objects i).class) (ap (λ (x : Pair). x.one) e) (subst (IsPlaced W2 (suc a)) (sym (prototype_made_class s.heap c env)) tt)
-      by (there here) e = subst (λ i. IsPlaced W2 i (object_at t.heap.objects i).class) (ap (λ (x : Pair). x.one) e) (subst (IsPlaced W2 a) (sym (function_made_class s.heap c env)) (older_up up older))
+      by : {j m : ℕ} {q : Pair} → In q (pair (suc a) (suc b) ∷ pair a b ∷ W.objects) → q ≡ pair j m → IsPlaced grown j (object_at t.heap.objects j).class
+      by here e = subst (λ i. IsPlaced grown i (object_at t.heap.objects i).class) (ap (λ (x : Pair). x.one) e) (subst (IsPlaced grown (suc a)) (sym (prototype_made_class s.heap c env)) tt)
+      by (there here) e = subst (λ i. IsPlaced grown i (object_at t.heap.objects i).class) (ap (λ (x : Pair). x.one) e) (subst (IsPlaced grown a) (sym (function_made_class s.heap c env)) (older_up up older))
       by {j = j} {m = m} (there (there i)) e =
           let n : Named W j m = record { named = subst (λ x. In x W.objects) e i } in
-          subst (IsPlaced W2 j) (ap (λ (o : Object). o.class) (sym (old_object s.heap c env j (inside j m n)))) (placed_up up j _ (k.functions j m n))
+          subst (IsPlaced grown j) (ap (λ (o : Object). o.class) (sym (old_object s.heap c env j (inside j m n)))) (placed_up up j _ (k.functions j m n))
 
   -- one to which nothing refers
   pub kept_beside : (c : Code) (env : Option EnvId) → ((j m : ℕ) → Named W j m → j < length s.heap.objects) → AreKept W (with_heap s (after_steps s.heap (function_steps c env (length s.heap.objects))))

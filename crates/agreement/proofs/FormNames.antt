@@ -6,17 +6,13 @@ use Rattle.std.proofs.lemmas.Slice.Eq.{bytes_eq-Decides}
 use Rattle.js_core.specs.Tree as tree
 use Rattle.js_core.specs.Tree.{assign, expr, function, literal, name, no_declarators, no_fields, no_stmts, one_expr, then_declarator, then_field, then_stmt, var}
 use Rattle.code_table.specs.Declarations.{functions_of}
-use Rattle.scope_analysis.specs.declared.name_use.Use.{Use}
 use Rattle.scope_analysis.specs.Form.{are_plain_fields, can_be_rebuilt, is_assigned_once, is_constant, is_declaration, is_field_of, is_opened, is_once, may_be_captured, opens_with}
 use Rattle.scope_analysis.specs.Identifiers.{is_reserved}
 use Rattle.scope_analysis.specs.Names.{declared_names, is_among}
 use Rattle.scope_analysis.specs.Nodes.{stmt_any, stmts_any}
-use Rattle.scope_analysis.specs.Uses.{assignment, crossing, fields_uses, is_assigned, is_captured, leaving_function, stmts_uses}
-use Rattle.instrumenter.proofs.Callers.{Among, Each, Leaving, Missing, all_pass, among_right, each_among, never_both, right_of}
+use Rattle.scope_analysis.specs.Uses.{Use, assignment, fields_uses, is_assigned, is_captured, stmts_uses}
+use Rattle.instrumenter.proofs.Callers.{Among, Each, Missing, all_pass, among_right, each_among, never_both, right_of, same_name}
 use Rattle.agreement.specs.Opened.{are_sure, begins_with_set, declares_none, is_bound, is_sure}
-
-pub same_name : (x : List ℕ) → bytes_eq x x ≡ true
-same_name x = (bytes_eq-Decides x x).1 refl
 
 pub not_false : (b : Bool) → not b ≡ false → b ≡ true
 not_false true e = refl
@@ -66,15 +62,6 @@ module _ (test : Use → Bool) where
       by true true h e = cc h
       by true false h e = refl
       by false b h e = cc e
-
--- what holds of each use that a function leaves, seen from outside
-pub leaving_from : (P : Use → Type 0) (bound : List (List ℕ)) (us : List Use) → Each (Leaving P bound) us → Each P (leaving_function bound us)
-leaving_from P bound [] h = tt
-leaving_from P bound (u ∷ us) h = by (is_among u.name bound) h.0 (leaving_from P bound us h.1)
-  where
-    by : (b : Bool) → (b ≡ false → P (crossing u)) → Each P (leaving_function bound us) → Each P (if b then leaving_function bound us else (crossing u ∷ leaving_function bound us))
-    by true one more = more
-    by false one more = (one refl, more)
 
 -- a use that crosses captures its name, and one that assigns assigns it
 pub captured_each : (us : List Use) → Each (λ u. u.crosses ≡ true → is_captured u.name us ≡ true) us

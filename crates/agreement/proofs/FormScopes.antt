@@ -6,21 +6,20 @@ use Rattle.js_core.specs.Tree as tree
 use Rattle.js_core.specs.Tree.{assign, code, expr, func, function, literal, name, no_declarators, one_catch, one_expr, then_declarator, then_stmt, var}
 use Rattle.js_grammar.specs.Syntax.{AreStmts}
 use Rattle.code_table.specs.Declarations.{functions_of}
-use Rattle.scope_analysis.specs.declared.name_use.Use.{Use}
 use Rattle.scope_analysis.specs.EarlyRules.{assigns_maybe}
 use Rattle.scope_analysis.specs.Form.{are_variables_in_form, boxes, is_assigned_once, is_field_of, is_not_captured, is_parameter_in_form}
 use Rattle.scope_analysis.specs.Identifiers.{is_reserved}
 use Rattle.scope_analysis.specs.Names.{bound_names, declared_names, is_among, maybe_name, own_name}
 use Rattle.scope_analysis.specs.Nodes.{catch_any, declarators_any, clause, expr_any, expression, fields_any, maybe_expr_any, statement, stmt_any, stmts_any}
-use Rattle.scope_analysis.specs.Uses.{catch_uses, expr_uses, fields_uses, is_assigned, is_captured, leaving_function, stmt_uses, stmts_uses}
-use Rattle.instrumenter.proofs.Callers.{Among, Each, Leaving, Missing, Staying, all_pass, each_always, each_parts, each_so, leaving_to, left_of, missing_both, missing_parts, name_is_own, never_both, staying_to}
+use Rattle.scope_analysis.specs.Uses.{Use, catch_uses, expr_uses, fields_uses, is_assigned, is_captured, leaving_function, stmt_uses, stmts_uses}
+use Rattle.instrumenter.proofs.Callers.{Among, Each, Leaving, Missing, Staying, all_pass, each_always, each_parts, each_so, leaving_from, leaving_to, left_of, missing_both, missing_parts, name_is_own, never_both, same_name, staying_to}
 use Rattle.scope_chains.proofs.Callers.{entry_bound}
 use Rattle.heap_relations.specs.Naming.{Absent, Frame, Place, Sealed, resolve, resolved}
 use Rattle.heap_relations.specs.Scope.{own_frame}
 use Rattle.agreement.specs.Formed.{absent_kept, finds_needs, formed, held_kept, is_found_so, is_held, is_unbound, seals_name}
 use Rattle.agreement.specs.Opened.{are_sure, begins_with_set, clause_frame, declares_none, frames_round, function_frame, is_bound, is_sealed, may_use}
 use Rattle.agreement.specs.Trees.{bound_where}
-use Rattle.agreement.proofs.FormNames.{Formed, and_false, assigned_each, box_is_plain, captured_each, captured_is, holds, leaving_from, names_are_sure, no_functions, none_is_set, none_is_set_later, not_false, only_first, opening_is_plain, or_else, same_name, seals, setting_is_unbound, unassigned_each, uncaptured_each}
+use Rattle.agreement.proofs.FormNames.{Formed, and_false, assigned_each, box_is_plain, captured_each, captured_is, holds, names_are_sure, no_functions, none_is_set, none_is_set_later, not_false, only_first, opening_is_plain, or_else, seals, setting_is_unbound, unassigned_each, uncaptured_each}
 use Rattle.agreement.proofs.FormPieces.{Allowed, Clean, Piece, Sets, clean_left, clean_right}
 use Rattle.agreement.proofs.StandsScopes.{each_pair}
 

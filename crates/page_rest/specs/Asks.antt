@@ -1,10 +1,11 @@
 -- What holds of each function in a script of a form page, wherever it stands: alone in a call that binds its needed variables, it is a script of
 -- a form page, too.
 use Rattle.std.specs.Prelude.{◌≡◌, ◌+◌, Bool, true, false, not, ◌&&◌, nat_le, Option, Some, None}
+use Rattle.agreement.specs.Formed.{nameless}
 use Rattle.heap_walker.specs.Still.{wrapped}
 use Rattle.js_core.specs.Height.{code_height}
 use Rattle.js_core.specs.Tree as tree
-use Rattle.js_core.specs.Tree.{code, func, function}
+use Rattle.js_core.specs.Tree.{func, function}
 use Rattle.js_grammar.specs.Syntax.{IsSyntax}
 use Rattle.page_rest.specs.Trees.{keeps_code}
 use Rattle.scope_analysis.specs.EarlyRules.{early_rule}
@@ -31,20 +32,16 @@ is_low c = nat_le (code_height c + 1) function_height_limit
 abbrev pub is_asked_low : tree.Code → Bool
 is_asked_low c = is_asked c && is_low c
 
--- a declared function's code is held without its name
-abbrev pub without_name : tree.Code → tree.Code
-without_name (code x formals body) = code None formals body
-
 -- the node is a function for which that does not hold
 abbrev pub is_unformed : Node → Bool
 is_unformed (expression is_callee (func c)) = not (is_formed c)
-is_unformed (statement (function c)) = not (is_formed (without_name c))
+is_unformed (statement (function c)) = not (is_formed (nameless c))
 is_unformed n = false
 
 -- the node is a function that is not asked so
 abbrev pub is_not_asked : Node → Bool
 is_not_asked (expression is_callee (func c)) = not (is_asked c)
-is_not_asked (statement (function c)) = not (is_asked (without_name c))
+is_not_asked (statement (function c)) = not (is_asked (nameless c))
 is_not_asked n = false
 
 -- no function in a script of a form page is such a one
