@@ -3,8 +3,7 @@ use Rattle.std.specs.Prelude.{ℕ, ◌≤◌, List, length}
 use Rattle.js_core.specs.Tree as tree
 use Rattle.opened_pages.specs.Opened.{opened_scripts}
 use Rattle.page_check.specs.Accept.{IsAcceptedAs}
-use Rattle.page_check.specs.declared.page.Accepted.{Accepted}
-use Rattle.page_check.specs.declared.page.Kind.{Kind}
+pub use Rattle.page_check.specs.Rules.{Page}
 
 -- a page file and an event file have at most so many bytes
 abbrev pub page_limit : ℕ
@@ -13,17 +12,9 @@ page_limit = 16777216
 abbrev pub event_file_limit : ℕ
 event_file_limit = 4194304
 
--- what a page is, and the trees of its scripts in document order
-pub record Page : Type 0 where
-  pub kind : Kind
-  pub scripts : List tree.Stmts
-
 -- the bytes are accepted as this page, and as no other (`law_one_answer` of page_check)
 abbrev pub Accepts : List ℕ → Page → Type 0
 Accepts bytes page = IsAcceptedAs bytes page.kind page.scripts
-
-abbrev pub page_of : Accepted → Page
-page_of accepted = record { kind = accepted.kind; scripts = accepted.scripts.items }
 
 -- the bytes are not too long, and accepted as this page
 pub record IsPage (bytes : List ℕ) (page : Page) : Type 0 where

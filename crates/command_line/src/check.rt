@@ -9,8 +9,7 @@ ghost use Rattle.command_line.specs.Texts.{PutsText};
 use crate::reading::read_page;
 use crate::status::Status;
 use page_check::Kind;
-use page_io::files::Files;
-use page_io::sink::Sink;
+use page_io::{Files, Sink};
 use std::alloc::Global;
 
 #[tactic(auto, unfolding(crate::specs::Checking::kind_line))]
@@ -36,7 +35,7 @@ pub fn check<F: Files, O: Sink>(alloc: Global, page: &str, files: &mut F, out: &
         Ok(page) => page,
         Err(status) => return status,
     };
-    match out.put(kind_line(page.kind)) {
+    match out.put(kind_line(page.kind())) {
         Ok(()) => Status::Ok,
         Err(_) => Status::WriteFault,
     }

@@ -3,19 +3,18 @@
 ghost use Rattle.std.specs.Prelude.{◌≡◌, ℕ, List, IfOk, IfErr};
 ghost use Rattle.page_check.specs.Accept.{IsAccepted, IsRefused};
 ghost use Rattle.command_line.specs.Opening.{IsOpened, OpensTo};
-ghost use Rattle.command_line.specs.Page.{page_of, IsPage};
+ghost use Rattle.command_line.specs.Page.{IsPage};
 ghost use Rattle.command_line.specs.Reading.{IsPageFile, IsUnaccepted, StopsAtPage, StopsAtEvents, CountsReads};
 ghost use Rattle.command_line.specs.Replay.{IsEventFile};
 ghost use Rattle.command_line.specs.Stages.{Of};
 
 use crate::status::Status;
 use event_file::{EventFault, calls};
-use js_core::limits::{EVENT_FILE_LIMIT, PAGE_LIMIT};
-use js_core::memory::OutOfMemory;
-use js_values::event::Event;
+use js_core::{EVENT_FILE_LIMIT, OutOfMemory, PAGE_LIMIT};
+use js_values::Event;
 use opened_pages::{law_opened_pages_are_accepted, law_opened_pages_put_out_the_same, open_page};
 use page_check::{AcceptFault, Accepted, accept};
-use page_io::files::{Files, ReadFault};
+use page_io::{Files, ReadFault};
 use std::alloc::Global;
 
 // Reads a page file.
@@ -50,8 +49,7 @@ fn accept_bytes(alloc: Global, bytes: &[u8]) -> Result<Accepted, Status>
 /// Reads and accepts a page.
 pub fn read_page<F: Files>(alloc: Global, files: &mut F, name: &str) -> Result<Accepted, Status>
     ensures ok { IfOk result (λ page. Of ((F.seen files.old).content name.now)
-        (λ bytes. IsPage bytes (page_of page))) }
-    ensures accepted { IfOk result (λ page. (bytes : List ℕ) × IsAccepted bytes page) }
+        (λ bytes. IsPage bytes page)) }
     ensures stops { IfErr result
         (λ status. StopsAtPage IsRefused status ((F.seen files.old).content name.now)) }
     ensures same { (n : List ℕ) → (F.seen files.new).content n ≡ (F.seen files.old).content n }

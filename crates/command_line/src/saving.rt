@@ -1,33 +1,31 @@
 //! What is saved of a page, where that can be.
 
-ghost use Rattle.std.specs.Prelude.{◌≡◌, ◌≤◌, ℕ, List};
+ghost use Rattle.std.specs.Prelude.{◌≡◌, ◌≤◌};
 ghost use Rattle.heap_walker.specs.Things.{IsWalk};
 ghost use Rattle.page_meaning.specs.Pages.{run_of};
 ghost use Rattle.opened_pages.specs.Opened.{HaveNumbers};
-ghost use Rattle.page_check.specs.Accept.{IsAccepted};
 ghost use Rattle.command_line.specs.Moving.{IsAnswer};
-ghost use Rattle.command_line.specs.Page.{opened, page_of};
+ghost use Rattle.command_line.specs.Page.{opened};
 
 use crate::replay::run_page;
 use crate::status::Status;
 use heap_walker::{Walked, walk};
-use js_core::memory::OutOfMemory;
-use js_values::event::Event;
+use js_core::OutOfMemory;
+use js_values::Event;
 use opened_pages::open_accepted;
 use page_check::Accepted;
-use page_io::sink::Sink;
+use page_io::Sink;
 use page_state::State;
 use page_writer::{SaveFault, write_walked};
 use std::alloc::Global;
 
 /// Puts the page as it is after the events, with opened scopes, where it is not too large.
 pub fn save_page<O: Sink>(alloc: Global, page: Accepted, list: &[Event], out: &mut O) -> Status
-    requires { (bytes : List ℕ) × IsAccepted bytes page }
-    ensures answer { IsAnswer (run_of (opened (page_of page)) list.now)
+    ensures answer { IsAnswer (run_of (opened page) list.now)
         (O.seen out.old) (O.seen out.new) result }
     ensures later { (O.seen out.old).faults ≤ (O.seen out.new).faults }
     ensures numbered { ¬ (result ≡ Status.OutOfMemory)
-        → HaveNumbers page.kind page.scripts.items }
+        → HaveNumbers page.kind page.scripts }
 {
     match open_accepted(alloc, page) {
         Ok(opened) => save_opened(alloc, opened, list, out),
@@ -37,7 +35,7 @@ pub fn save_page<O: Sink>(alloc: Global, page: Accepted, list: &[Event], out: &m
 
 // Puts the page with these scripts as it is after the events.
 fn save_opened<O: Sink>(alloc: Global, page: Accepted, list: &[Event], out: &mut O) -> Status
-    ensures answer { IsAnswer (run_of page.scripts.items list.now)
+    ensures answer { IsAnswer (run_of page.scripts list.now)
         (O.seen out.old) (O.seen out.new) result }
     ensures later { (O.seen out.old).faults ≤ (O.seen out.new).faults }
 {

@@ -1,3 +1,4 @@
 pub mod Accepted
+pub mod Rules
 pub mod SameLines
 pub mod Texts

@@ -1,5 +1,5 @@
 -- An opened page puts out the lines of the page.
-use Rattle.std.proofs.Common.{◌≡◌, ◌∙◌, refl, sym, ap, subst, ℕ, ◌+◌, ◌<◌, ◌^◌, List, [], ◌∷◌, ◌++◌, drop, length}
+use Rattle.std.proofs.Common.{◌≡◌, ◌∙◌, refl, sym, ap, subst, ℕ, List, [], ◌++◌, drop, length}
 use Rattle.std.specs.List.{All}
 use Rattle.std.proofs.lemmas.List.Elements.{All-cons, All-nil}
 use Rattle.js_core.specs.Tree as tree
@@ -7,17 +7,15 @@ use Rattle.js_values.specs.declared.event.Event.{Event}
 use Rattle.js_values.specs.declared.line.Line.{Line}
 use Rattle.agreement.proofs.Callers.{run_append}
 use Rattle.agreement.specs.Laws.{PlainPagesAgree}
-use Rattle.instrumenter.specs.Counting.{scripts_scopes}
 use Rattle.instrumenter.specs.Opened.{IsPlainScript}
 use Rattle.instrumenter.specs.Opening.{open_scripts}
 use Rattle.page_check.specs.Accept.{IsAcceptedAs}
-use Rattle.page_check.specs.declared.page.Kind.{Kind}
 use Rattle.page_check.specs.declared.page.Kind.TheVariants.{Plain, Form}
 use Rattle.page_meaning.specs.Pages.{lines_after, lines_of_run, load_of}
 use Rattle.page_meaning.specs.Store.{Store}
 use Rattle.printed_pages.specs.Printed.{AcceptedScriptsHaveSyntax}
 use Rattle.opened_pages.proofs.Accepted.{plain_script}
-use Rattle.opened_pages.specs.Opened.{HaveNumbers, OpenedPagesPutOutTheSame, PutOutTheSame}
+use Rattle.opened_pages.specs.Opened.{OpenedPagesPutOutTheSame}
 
 -- ---- later events
 

@@ -4,7 +4,7 @@ ghost use Rattle.opened_pages.specs.Opened.{OpenedPagesAreAccepted, OpenedPagesP
 
 use agreement::law_plain_pages_agree;
 use instrumenter::law_opened_scripts_are_form;
-use js_print::laws::law_printed_scripts_are_read_again;
+use js_print::law_printed_scripts_are_read_again;
 use printed_pages::{
     law_accepted_scripts_begin_strict, law_accepted_scripts_have_syntax,
     law_framed_scripts_are_accepted,

@@ -1,15 +1,15 @@
 //! The text of a page with opened scopes.
 
-ghost use Rattle.std.specs.Prelude.{◌≡◌, ◌++◌, ℕ, IfOk, OnOk, List};
+ghost use Rattle.std.specs.Prelude.{◌≡◌, ◌++◌, IfOk, OnOk};
 ghost use Rattle.page_check.specs.Accept.{IsAccepted, IsAcceptedAs};
+ghost use Rattle.page_check.specs.Rules.{AllKeepRules};
 ghost use Rattle.page_check.specs.declared.page.Kind.TheVariants.{Plain};
 ghost use Rattle.printed_pages.specs.Printed.{framed, page_front};
 ghost use Rattle.opened_pages.specs.Opened.{HaveNumbers, Opens, opened_scripts, script_texts};
 
-use instrumenter::open_scopes;
-use js_core::memory::OutOfMemory;
-use js_core::syntax::Script;
-use js_print::print::print;
+use instrumenter::{law_opened_scripts_are_form, open_scopes};
+use js_core::{OutOfMemory, Script};
+use js_print::print;
 use page_check::{Accepted, Kind, page_has_body};
 use std::alloc::Global;
 
@@ -18,29 +18,36 @@ use std::alloc::Global;
 pub fn open_page(alloc: Global, bytes: &[u8], page: &Accepted) -> Result<Vec<u8>, OutOfMemory>
     requires { IsAccepted bytes.now page.now }
     ensures text { IfOk result (λ text.
-        Opens page.now.kind bytes.now page.now.scripts.items text.items) }
-    ensures numbered { OnOk result (HaveNumbers page.now.kind page.now.scripts.items) }
+        Opens page.now.kind bytes.now page.now.scripts text.items) }
+    ensures numbered { OnOk result (HaveNumbers page.now.kind page.now.scripts) }
 {
-    match page.kind {
+    match page.kind() {
         Kind::Form => Ok(Vec::from_slice(alloc, bytes)?),
-        Kind::Plain => open_plain(alloc, bytes, page.scripts.as_slice()),
+        Kind::Plain => open_plain(alloc, bytes, page.scripts()),
     }
 }
 
 /// The scripts of an accepted page with opened scopes, as those of a form page. Those of a form page stay as they are.
 pub fn open_accepted(alloc: Global, page: Accepted) -> Result<Accepted, OutOfMemory>
-    requires { (bytes : List ℕ) × IsAccepted bytes page }
     ensures opened { IfOk result (λ opened.
-        opened.scripts.items ≡ opened_scripts page.kind page.scripts.items) }
-    ensures numbered { OnOk result (HaveNumbers page.kind page.scripts.items) }
+        opened.scripts ≡ opened_scripts page.kind page.scripts) }
+    ensures numbered { OnOk result (HaveNumbers page.kind page.scripts) }
 {
-    match page.kind {
+    match page.kind() {
         Kind::Form => Ok(page),
-        Kind::Plain => Ok(Accepted {
-            kind: Kind::Form,
-            scripts: open_scopes(alloc, page.scripts.as_slice())?,
-        }),
+        Kind::Plain => opened_form(alloc, page.scripts()),
     }
+}
+
+// The form page with these scripts of a plain page, opened.
+fn opened_form(alloc: Global, scripts: &[Script]) -> Result<Accepted, OutOfMemory>
+    requires { AllKeepRules Plain scripts.now }
+    ensures opened { IfOk result (λ opened. opened.scripts ≡ opened_scripts Plain scripts.now) }
+    ensures numbered { OnOk result (HaveNumbers Plain scripts.now) }
+{
+    law_opened_scripts_are_form();
+    let opened = open_scopes(alloc, scripts)?;
+    Ok(Accepted::new(Kind::Form, opened))
 }
 
 // The text of an accepted plain page with these scripts.

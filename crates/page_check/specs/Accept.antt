@@ -1,7 +1,6 @@
 -- Which bytes are accepted as a page, and why others are refused.
-use Rattle.std.specs.Prelude.{ℕ, ◌≡◌, Bool, true, false, not, ◌||◌, List, [], ◌∷◌, Some, None, nat_lt}
+use Rattle.std.specs.Prelude.{ℕ, ◌≡◌, true, false, List, [], ◌∷◌, Some, None}
 use Rattle.std.specs.Str.{IsUtf8}
-use Rattle.js_core.specs.Height.{stmts_height}
 use Rattle.js_core.specs.Text.{utf16_of}
 use Rattle.js_core.specs.Tree as tree
 use Rattle.js_core.specs.declared.token.Token.{Token}
@@ -9,10 +8,8 @@ use Rattle.js_grammar.specs.Scripts.{ScriptOf, height_limit}
 use Rattle.js_lexer.specs.Directives.{IsStrict}
 use Rattle.js_lexer.specs.Tokens.{Tokens}
 use Rattle.scope_analysis.specs.EarlyRules.{early_rule}
-use Rattle.scope_analysis.specs.Form.{in_form, has_reserved_name, has_high_function}
-use Rattle.scope_analysis.specs.Limits.{form_height_limit, plain_height_limit}
 use Rattle.page_check.specs.Frame.{IsFramePage, with_line_feeds}
-use Rattle.page_check.specs.declared.page.Accepted.{Accepted}
+pub use Rattle.page_check.specs.Rules.{Page, is_too_deep, keeps_form}
 use Rattle.page_check.specs.declared.page.AcceptFault.{AcceptFault}
 use Rattle.page_check.specs.declared.page.AcceptFault.TheVariants.{Refused, OutOfMemory}
 use Rattle.page_check.specs.declared.page.Kind.{Kind}
@@ -21,11 +18,6 @@ use Rattle.page_check.specs.declared.page.Refusal.{Refusal}
 use Rattle.page_check.specs.declared.page.Refusal.TheVariants.{NotUtf8, NotPage, NotTokens, NotScript, NotStrict, Early, TooDeep, ReservedName, NotForm}
 use Rattle.page_check.specs.declared.script.ScriptFault.{ScriptFault}
 use Rattle.page_check.specs.declared.script.ScriptFault.TheVariants as cause
-
--- the script is higher than one of such a page; in a form page, or a function of it that is no factory is higher than may be
-abbrev pub is_too_deep : Kind → tree.Stmts → Bool
-is_too_deep Plain script = nat_lt plain_height_limit (stmts_height script)
-is_too_deep Form script = nat_lt form_height_limit (stmts_height script) || has_high_function script
 
 -- the text has these tokens, and they this tree
 pub record IsRead (text : List ℕ) (tokens : List Token) (script : tree.Stmts) : Type 0 where
@@ -46,11 +38,6 @@ pub record IsOrderly (text : List ℕ) (script : tree.Stmts) : Type 0 where
 pub record IsLow (kind : Kind) (text : List ℕ) (script : tree.Stmts) : Type 0 where
   pub orderly : IsOrderly text script
   pub low : is_too_deep kind script ≡ false
-
--- no identifier of a plain page begins with `$$`, and the script of a form page is in form
-abbrev pub keeps_form : Kind → tree.Stmts → Bool
-keeps_form Plain script = not (has_reserved_name script)
-keeps_form Form script = in_form script
 
 -- the fault of a script that does not keep it
 abbrev pub without_form : Kind → ScriptFault
@@ -86,8 +73,8 @@ pub record IsAcceptedAs (bytes : List ℕ) (kind : Kind) (scripts : List tree.St
   pub read : IsPageScript kind inner script
   pub only : scripts ≡ script ∷ []
 
-abbrev pub IsAccepted : List ℕ → Accepted → Type 0
-IsAccepted bytes page = IsAcceptedAs bytes page.kind page.scripts.items
+abbrev pub IsAccepted : List ℕ → Page → Type 0
+IsAccepted bytes page = IsAcceptedAs bytes page.kind page.scripts
 
 -- the bytes are a page but for its one script
 pub record IsRefusedAt (bytes : List ℕ) (k : ℕ) (fault : ScriptFault) : Type 0 where

@@ -9,8 +9,7 @@ ghost use Rattle.page_check.specs.declared.page.Kind.{Kind as PageKind};
 use crate::frame::{frame, has_body, with_line_feeds};
 use crate::page::{AcceptFault, Accepted, Refusal};
 use crate::script::{ScriptFault, page_script};
-use js_core::memory::OutOfMemory;
-use js_core::units::Units;
+use js_core::{OutOfMemory, Units};
 use std::alloc::Global;
 
 /// The kind and the scripts of a page. The first cause of refusal is the answer: the bytes are no UTF-8, their text is no
@@ -28,11 +27,9 @@ pub fn accept(alloc: Global, bytes: &[u8]) -> Result<Accepted, AcceptFault>
         return Err(AcceptFault::Refused(Refusal::NotPage));
     };
     let text = Units::of(alloc, inner)?;
-    match page_script(alloc, kind, &text) {
-        Ok(script) => Ok(Accepted {
-            kind,
-            scripts: vec![in alloc; script]?,
-        }),
+    drop(page);
+    match page_script(alloc, kind, text) {
+        Ok(script) => Ok(Accepted::new(kind, vec![in alloc; script]?)),
         Err(fault) => Err(at_script(1, fault)),
     }
 }

@@ -6,7 +6,7 @@ ghost use Rattle.page_check.specs.Frame.{Opening, IsFramePage, opening_text, kin
 ghost use Rattle.page_check.specs.declared.page.Kind.{Kind as PageKind};
 
 use crate::page::Kind;
-use js_core::memory::OutOfMemory;
+use js_core::OutOfMemory;
 use std::alloc::Global;
 
 const LINE_FEED: u16 = 0x0a;
@@ -44,7 +44,8 @@ fn begins_with_line_feed(text: &[u16]) -> bool
 /// The kind of a page, and the text of its script, from the page's text. `None` where it is no page. The time is linear
 /// in the text.
 pub fn frame(text: &[u16]) -> Option<(Kind, &[u16])>
-    ensures { MatchOption result ((kind : PageKind) (inner : List ℕ) → ¬ IsFramePage text.now kind inner)
+    ensures { MatchOption result ((kind : PageKind) (inner : List ℕ)
+        → ¬ IsFramePage text.now kind inner)
         (λ found. IsFramePage text.now found.0 found.1.now) }
 {
     if has_zero(text) {
@@ -81,8 +82,11 @@ fn has_zero(text: &[u16]) -> bool
 
 /// The kind that a page has by what stands first, and what stands behind that.
 fn behind_opening(text: &[u16]) -> (Kind, &[u16])
-    ensures read { (opening : Opening) × (kind_of opening ≡ result.0) × (text.now ≡ opening_text opening ++ result.1.now) }
-    ensures forced { (opening : Opening) (rest : List ℕ) → text.now ≡ opening_text opening ++ (codes "<html>" ++ rest) → (kind_of opening ≡ result.0) × (result.1.now ≡ codes "<html>" ++ rest) }
+    ensures read { (opening : Opening) × (kind_of opening ≡ result.0)
+        × (text.now ≡ opening_text opening ++ result.1.now) }
+    ensures forced { (opening : Opening) (rest : List ℕ) → text.now ≡ opening_text opening
+        ++ (codes "<html>" ++ rest) → (kind_of opening ≡ result.0)
+        × (result.1.now ≡ codes "<html>" ++ rest) }
 {
     if let Some(rest) = behind(text, b"<!--imagen 1-->") {
         return (Kind::Form, rest);
@@ -100,7 +104,8 @@ fn behind_opening(text: &[u16]) -> (Kind, &[u16])
 /// What stands behind an empty body, if there is one.
 fn behind_body(text: &[u16]) -> &[u16]
     ensures read { (with_body : Bool) × (text.now ≡ body_text with_body ++ result.now) }
-    ensures forced { (with_body : Bool) (rest : List ℕ) → text.now ≡ body_text with_body ++ (codes "<script>" ++ rest) → result.now ≡ codes "<script>" ++ rest }
+    ensures forced { (with_body : Bool) (rest : List ℕ) → text.now ≡ body_text with_body
+        ++ (codes "<script>" ++ rest) → result.now ≡ codes "<script>" ++ rest }
 {
     match behind(text, b"<body></body>") {
         Some(rest) => rest,
@@ -110,7 +115,8 @@ fn behind_body(text: &[u16]) -> &[u16]
 
 /// What stands behind these codes, with which the text is to begin.
 fn behind<'a>(text: &'a [u16], codes: &[u8]) -> Option<&'a [u16]>
-    ensures { MatchOption result ((rest : List ℕ) → ¬ (text.now ≡ codes.now ++ rest)) (λ rest. text.now ≡ codes.now ++ rest.now) }
+    ensures { MatchOption result ((rest : List ℕ) → ¬ (text.now ≡ codes.now ++ rest))
+        (λ rest. text.now ≡ codes.now ++ rest.now) }
 {
     let mut rest = text;
     let mut codes = codes;
@@ -129,7 +135,8 @@ fn behind<'a>(text: &'a [u16], codes: &[u8]) -> Option<&'a [u16]>
 
 /// What stands before these codes, with which the text is to end.
 fn before<'a>(text: &'a [u16], codes: &[u8]) -> Option<&'a [u16]>
-    ensures { MatchOption result ((rest : List ℕ) → ¬ (text.now ≡ rest ++ codes.now)) (λ rest. text.now ≡ rest.now ++ codes.now) }
+    ensures { MatchOption result ((rest : List ℕ) → ¬ (text.now ≡ rest ++ codes.now))
+        (λ rest. text.now ≡ rest.now ++ codes.now) }
 {
     if text.len() < codes.len() {
         return None;

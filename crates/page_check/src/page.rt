@@ -1,9 +1,12 @@
 //! Accepted pages, and why bytes are refused.
 
-use js_core::memory::OutOfMemory;
-use js_core::syntax::Script;
-use scope_analysis::early_rule::EarlyRule;
+ghost use Rattle.std.specs.Prelude.{◌≡◌};
+ghost use Rattle.page_check.specs.Rules.{AllKeepRules};
+
+use js_core::{OutOfMemory, Script};
+use scope_analysis::EarlyRule;
 use std::alloc::AllocFailed;
+use std::marker::Model;
 
 /// What a page is.
 #[derive(Clone, Copy, Debug, PartialEq, Eq)]
@@ -15,13 +18,57 @@ pub enum Kind {
     Form,
 }
 
-/// An accepted page.
+/// A page whose scripts keep the rules of its kind: each is a tree that some tokens have, breaks no early rule, is no higher
+/// than may be, and keeps the form of the page. Contracts see its kind and the trees of its scripts, in document order.
 #[derive(Drop)]
 pub struct Accepted {
-    /// What the page is.
-    pub kind: Kind,
-    /// The trees of its scripts, in document order.
-    pub scripts: Vec<Script>,
+    kind: Kind,
+    scripts: Vec<Script>,
+}
+
+impl Model for Accepted {
+    ghost use Rattle.page_check.specs.Rules.{AllKeepRules, Page};
+    ghost use Rattle.page_check.specs.CodedPage.{coded_page};
+
+    ghost Value = { Page };
+
+    ghost coded = { coded_page };
+
+    ghost view = { λ a. record { kind = a.kind; scripts = a.scripts.items } };
+
+    ghost invariant = { λ a. AllKeepRules a.kind a.scripts.items };
+}
+
+impl Accepted {
+    /// The page of this kind with these scripts.
+    pub fn new(kind: Kind, scripts: Vec<Script>) -> Accepted
+        requires { AllKeepRules kind scripts.items }
+        ensures { result ≡ record { kind = kind; scripts = scripts.items } }
+    {
+        Accepted { kind, scripts }
+    }
+
+    /// What the page is. Its scripts keep the rules of that kind.
+    pub fn kind(&self) -> Kind
+        ensures kind { result ≡ self.now.kind }
+        ensures rules { AllKeepRules self.now.kind self.now.scripts }
+    {
+        self.kind
+    }
+
+    /// Its scripts, in document order.
+    pub fn scripts(&self) -> &[Script]
+        ensures { result.now ≡ self.now.scripts }
+    {
+        self.scripts.as_slice()
+    }
+
+    /// Its scripts, without a copy.
+    pub fn into_scripts(self) -> Vec<Script>
+        ensures { result.items ≡ self.scripts }
+    {
+        self.scripts
+    }
 }
 
 /// Why a page is refused, in the order in which the causes are tried. A number is that of the script, counted from 1.

@@ -2,21 +2,19 @@
 
 ghost use Rattle.std.specs.Prelude.{◌≡◌, IfOk, IfErr};
 ghost use Rattle.page_check.specs.Accept as spec;
-ghost use Rattle.page_check.specs.Accept.{IsPageScript, IsScriptFault};
+ghost use Rattle.page_check.specs.Accept.{IsPageScript, IsScriptFault, IsStrictScript};
+ghost use Rattle.js_grammar.specs.Syntax.{IsSyntax};
+ghost use Rattle.page_check.specs.Rules.{KeepsRules};
+ghost use Rattle.page_check.specs.declared.page.Kind.{Kind as PageKind};
 
 use crate::page::Kind;
-use expression_parser::fault::ParseFault;
-use js_core::limits::{FORM_HEIGHT_LIMIT, PLAIN_HEIGHT_LIMIT};
-use js_core::memory::OutOfMemory;
-use js_core::syntax::Script;
-use js_core::units::Units;
-use js_lexer::directives::strict;
-use js_lexer::fault::LexFault;
-use js_lexer::tokens::tokens;
-use scope_analysis::early::early;
-use scope_analysis::early_rule::EarlyRule;
-use scope_analysis::form::{has_high_function, has_reserved_name, in_form};
-use script_parser::script::script;
+use expression_parser::ParseFault;
+use js_core::{FORM_HEIGHT_LIMIT, OutOfMemory, PLAIN_HEIGHT_LIMIT, Script, Units};
+use js_grammar::law_derived_trees_are_syntax;
+use js_lexer::{LexFault, strict, tokens};
+use js_print::law_tokens_can_be_written;
+use scope_analysis::{EarlyRule, early, has_high_function, has_reserved_name, in_form};
+use script_parser::script;
 use std::alloc::Global;
 
 /// Why a text is not the script of a page, in the order in which the causes are tried.
@@ -80,15 +78,12 @@ impl From<ParseFault> for ScriptFault {
 }
 
 /// The script with this text, in a page of this kind. The first cause that there is against it is the answer.
-pub fn page_script(alloc: Global, kind: Kind, text: &Units) -> Result<Script, ScriptFault>
-    ensures ok { IfOk result (IsPageScript kind text.now) }
-    ensures refused { IfErr result (IsScriptFault kind text.now) }
+pub fn page_script(alloc: Global, kind: Kind, text: Units) -> Result<Script, ScriptFault>
+    ensures ok { IfOk result (IsPageScript kind text) }
+    ensures rules { IfOk result (KeepsRules kind) }
+    ensures refused { IfErr result (IsScriptFault kind text) }
 {
-    let tokens = tokens(alloc, text)?;
-    let script = script(alloc, tokens.as_slice())?;
-    if !strict(tokens.as_slice()) {
-        return Err(ScriptFault::NotStrict);
-    }
+    let script = strict_script(alloc, text)?;
     if let Some(rule) = early(alloc, &script)? {
         return Err(ScriptFault::Early(rule));
     }
@@ -97,6 +92,22 @@ pub fn page_script(alloc: Global, kind: Kind, text: &Units) -> Result<Script, Sc
     }
     if !keeps_form(alloc, kind, &script)? {
         return Err(without_form(kind));
+    }
+    Ok(script)
+}
+
+/// The strict script with this text. Its text and its tokens take as much memory as its tree, and go as soon as it is read.
+fn strict_script(alloc: Global, text: Units) -> Result<Script, ScriptFault>
+    ensures ok { IfOk result (IsStrictScript text) }
+    ensures syntax { IfOk result IsSyntax }
+    ensures refused { (kind : PageKind) → IfErr result (IsScriptFault kind text) }
+{
+    law_tokens_can_be_written();
+    law_derived_trees_are_syntax();
+    let tokens = tokens(alloc, &text)?;
+    let script = script(alloc, tokens.as_slice())?;
+    if !strict(tokens.as_slice()) {
+        return Err(ScriptFault::NotStrict);
     }
     Ok(script)
 }

@@ -4,10 +4,8 @@ ghost use Rattle.std.specs.Prelude.{◌≡◌, [], IfOk, OnErr, OnOk, false, tru
 ghost use Rattle.page_meaning.specs.Pages.{after_scripts, do_event, load_of};
 
 use code_table::FunctionCode;
-use js_core::memory::OutOfMemory;
-use js_core::syntax::Script;
-use js_values::event::Event;
-use js_values::line::Line;
+use js_core::{OutOfMemory, Script};
+use js_values::{Event, Line};
 use page_check::Accepted;
 use page_machine::{Task, run_task};
 use page_state::State;
@@ -34,11 +32,11 @@ impl Model for Session {
 
 /// The page once its scripts have run, in document order.
 pub fn load(alloc: Global, page: Accepted) -> Result<Session, OutOfMemory>
-    ensures page { IfOk result (λ s. s.page ≡ load_of page.scripts.items) }
+    ensures page { IfOk result (λ s. s.page ≡ load_of page.scripts) }
     ensures fresh { IfOk result (λ s. s.is_spent ≡ false) }
 {
     let mut state = State::pristine(alloc)?;
-    run_scripts(alloc, &mut state, page.scripts)?;
+    run_scripts(alloc, &mut state, page.into_scripts())?;
     Ok(Session {
         state,
         is_spent: false,

@@ -1,9 +1,8 @@
-use Rattle.command_line.specs.Page.{page_of}
 use Rattle.command_line.proofs.reading.open_bytes.Goals as goal
 
 pub returns-in-Ok-open_page-clause-ok : goal.returns-in-Ok-open_page-clause-ok
 returns-in-Ok-open_page-clause-ok c = record {
-  page = page_of c.in-Ok.page;
+  page = c.in-Ok.page;
   accepted = c.in-Ok.ensures.ok;
   opens = c.in-Ok-open_page.ensures.text;
   numbered = c.in-Ok-open_page.ensures.numbered;

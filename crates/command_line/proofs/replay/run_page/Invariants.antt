@@ -3,4 +3,4 @@ use Rattle.page_meaning.specs.Pages.{run_all, run_of}
 use Rattle.command_line.proofs.replay.run_page.Given as goal
 
 abbrev pub invariant-loop-event : goal.invariant-loop-event
-invariant-loop-event l = run_all l.session.page (drop l.event-index l.list) ≡ run_of l.fn.page.scripts.items l.list
+invariant-loop-event l = run_all l.session.page (drop l.event-index l.list) ≡ run_of l.fn.page.scripts l.list

@@ -1,7 +1,8 @@
+use Rattle.std.proofs.Common.{◌∙◌, sym}
 use Rattle.opened_pages.proofs.Texts.{opens_as_plain}
 use Rattle.opened_pages.proofs.opening.open_page.Goals as goal
 
 pub returns-in-Plain-clause-text : goal.returns-in-Plain-clause-text
 returns-in-Plain-clause-text c =
-    opens_as_plain c.args.page.now.kind c.args.bytes.now c.args.page.now.scripts.items c.as_slice.result.now (λ t. t.items) c.open_plain.result
-    c.in-Plain.is c.as_slice.ensures.value c.open_plain.ensures.text
+    opens_as_plain c.args.page.now.kind c.args.bytes.now c.args.page.now.scripts c.scripts.result.now (λ t. t.items) c.open_plain.result
+    (sym c.kind.ensures.kind ∙ c.in-Plain.is) c.scripts.ensures c.open_plain.ensures.text

@@ -1,0 +1,49 @@
+-- Opened scripts of plain pages keep the rules of form pages.
+use Rattle.std.proofs.Common.{◌≡◌, refl, ap, ◌∙◌, ℕ, ◌+◌, ◌≤◌, Bool, true, false, ◌||◌, not, List, [], ◌∷◌}
+use Rattle.std.specs.List.{All}
+use Rattle.std.proofs.lemmas.Bool.{le-ltb, ltb-false}
+use Rattle.std.proofs.lemmas.List.Elements.{All-cons, All-head, All-nil, All-tail, All-weaker}
+use Rattle.js_core.specs.Height.{stmts_height}
+use Rattle.js_core.specs.Tree as tree
+use Rattle.instrumenter.specs.Counting.{stmts_scopes}
+use Rattle.instrumenter.specs.Opened.{IsPlainScript, OpenedScriptsAreForm}
+use Rattle.instrumenter.specs.Opening.{open_from, open_script}
+use Rattle.js_grammar.specs.Syntax.{IsSyntax}
+use Rattle.page_check.specs.Rules.{AllKeepRules, KeepsRules}
+use Rattle.page_check.specs.declared.page.Kind.TheVariants.{Form, Plain}
+use Rattle.scope_analysis.specs.Form.{has_high_function, has_reserved_name}
+use Rattle.scope_analysis.specs.FormScripts.{IsFormPageScript}
+use Rattle.scope_analysis.specs.Limits.{form_height_limit, plain_height_limit}
+
+not_true : (b : Bool) → not b ≡ true → b ≡ false
+not_true true h = absurd (cc h)
+not_true false h = refl
+
+low_of : (script : tree.Stmts) → KeepsRules Plain script → stmts_height script ≤ plain_height_limit
+low_of script keeps = ltb-false plain_height_limit (stmts_height script) keeps.low
+
+plain_of : (script : tree.Stmts) → KeepsRules Plain script → IsPlainScript script
+plain_of script keeps = record {
+  syntax = keeps.syntax;
+  orderly = keeps.orderly;
+  low = low_of script keeps;
+  plain = not_true (has_reserved_name script) keeps.formed;
+}
+
+form_of : (script : tree.Stmts) → IsSyntax script → IsFormPageScript script → KeepsRules Form script
+form_of script syntax form = record {
+  syntax = syntax;
+  orderly = form.form.orderly;
+  low = ap (λ (b : Bool). b || has_high_function script) (le-ltb form_height_limit (stmts_height script) form.form.low) ∙ form.functions;
+  formed = form.form.formed;
+}
+
+pub all_low : (scripts : List tree.Stmts) → AllKeepRules Plain scripts → All (λ body. stmts_height body ≤ plain_height_limit) scripts
+all_low scripts keep = All-weaker (KeepsRules Plain) (λ body. stmts_height body ≤ plain_height_limit) low_of scripts keep
+
+pub all_form : OpenedScriptsAreForm → (n : ℕ) (scripts : List tree.Stmts) → AllKeepRules Plain scripts → AllKeepRules Form (open_from n scripts)
+all_form formed n [] keep = All-nil (KeepsRules Form)
+all_form formed n (body ∷ bodies) keep =
+    let is = formed n body (plain_of body (All-head (KeepsRules Plain) body bodies keep)) in
+    All-cons (KeepsRules Form) (open_script n body) (open_from (n + stmts_scopes body) bodies) (form_of (open_script n body) is.0 is.1)
+    (all_form formed (n + stmts_scopes body) bodies (All-tail (KeepsRules Plain) body bodies keep))
