@@ -8,8 +8,8 @@ cat >"$work/crates/lexer_bench/src/main.rt" <<'END'
 //! Prints for each file that is named how many units it has, and the nanoseconds in which its tokens are found.
 #![tactic(auto)]
 
-use js_core::units::Units;
-use js_lexer::tokens::tokens;
+use js_core::Units;
+use js_lexer::tokens;
 use std::fs;
 use std::io;
 use std::time::Instant;

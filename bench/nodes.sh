@@ -11,8 +11,8 @@ cat >"$work/crates/nodes_bench/src/main.rt" <<'END'
 #![tactic(auto)]
 
 use dom_tree::Dom;
-use js_core::units::Units;
-use js_values::ids::NodeId;
+use js_core::Units;
+use js_values::NodeId;
 use std::alloc::Global;
 use std::io;
 use std::time::Instant;

@@ -8,10 +8,9 @@ cat >"$work/crates/parser_bench/src/main.rt" <<'END'
 //! Prints for each file that is named how many statements its script has, and the nanoseconds in which it is parsed.
 #![tactic(auto)]
 
-use js_core::token::Token;
-use js_core::units::Units;
-use js_lexer::tokens::tokens;
-use script_parser::script::script;
+use js_core::{Token, Units};
+use js_lexer::tokens;
+use script_parser::script;
 use std::fs;
 use std::io;
 use std::time::Instant;

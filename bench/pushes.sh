@@ -10,12 +10,9 @@ cat >"$work/crates/heap_bench/src/main.rt" <<'END'
 //! where the word begins with `pop-`, loses them again.
 #![tactic(auto)]
 
-use js_core::units::Units;
-use js_core::whole::Whole;
-use js_values::ids::ObjId;
-use js_values::value::Value;
-use object_heap::heap::Heap;
-use object_heap::object::Class;
+use js_core::{Units, Whole};
+use js_values::{ObjId, Value};
+use object_heap::{Class, Heap};
 use std::alloc::Global;
 use std::io;
 use std::time::Instant;

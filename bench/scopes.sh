@@ -8,11 +8,10 @@ cat >"$work/crates/scopes_bench/src/main.rt" <<'END'
 //! Prints for each file that is named how many bytes its script has, and the nanoseconds in which its scopes are found.
 #![tactic(auto)]
 
-use js_core::syntax::Script;
-use js_core::units::Units;
-use js_lexer::tokens::tokens;
-use scope_analysis::scopes::resolve;
-use script_parser::script::script;
+use js_core::{Script, Units};
+use js_lexer::tokens;
+use scope_analysis::resolve;
+use script_parser::script;
 use std::fs;
 use std::io;
 use std::time::Instant;

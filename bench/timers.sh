@@ -10,16 +10,17 @@ cat >"$work/crates/timers_bench/src/main.rt" <<'END'
 
 ghost use Rattle.std.specs.Prelude.{◌≤◌, length};
 
-use js_values::ids::ObjId;
+use js_core::TIMER_LIMIT;
+use js_values::ObjId;
 use std::io;
 use std::time::{Duration, Instant};
-use timer_queue::{MOST_TIMERS, Queue};
+use timer_queue::Queue;
 
 const CALLS: u64 = 1000;
 
 // Starts an interval. Periods differ, so that due times mix.
 fn start(rt: &HostRuntime, queue: &mut Queue, number: u64) -> bool {
-    if queue.live().len() >= MOST_TIMERS {
+    if queue.live().len() >= TIMER_LIMIT {
         return false;
     }
     let period = number % 977 + 1;

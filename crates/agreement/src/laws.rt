@@ -9,7 +9,7 @@ ghost use Rattle.agreement.specs.Laws.{
   StandingPagesAgree,
 };
 
-use page_meaning::laws::law_heaps_stay_sound;
+use page_meaning::law_heaps_stay_sound;
 
 /// Each built-in function keeps agreement (ECMA-262 5.1 section 15).
 pub fn law_rows_agree()

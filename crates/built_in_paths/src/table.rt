@@ -3,7 +3,7 @@
 ghost use Rattle.std.specs.Prelude.{◌≡◌, map, option_copied, slice_get};
 ghost use Rattle.built_in_paths.specs.Paths.{path_of};
 
-use js_values::ids::ObjId;
+use js_values::ObjId;
 
 /// All paths, in the order of the objects' places, by families as the built-in objects.
 const PATHS: [&[u8]; 93] = [

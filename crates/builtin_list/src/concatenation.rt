@@ -8,9 +8,8 @@ ghost use Rattle.page_state.specs.Turns.{Ends};
 ghost use Rattle.builtin_list.specs.Lists.{for_object};
 
 use crate::copying::copy_all;
-use js_core::memory::OutOfMemory;
-use js_values::ids::ObjId;
-use js_values::value::Value;
+use js_core::OutOfMemory;
+use js_values::{ObjId, Value};
 use page_state::{Halt, State, further};
 
 // The elements of an array, or the value itself, from a place on.

@@ -4,8 +4,7 @@ ghost use Rattle.page_meaning.specs.ListRows as spec;
 ghost use Rattle.page_state.specs.Does.{Gives, no_value};
 ghost use Rattle.page_state.specs.Turns.{Ends};
 
-use js_values::ids::ObjId;
-use js_values::value::Value;
+use js_values::{ObjId, Value};
 use page_state::{Fault, Halt, State, further, take_turn};
 
 // An element becomes one of a new array; a hole becomes none.

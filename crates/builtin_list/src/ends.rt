@@ -5,8 +5,7 @@ ghost use Rattle.page_state.specs.Does.{Gives, itself};
 ghost use Rattle.page_state.specs.Turns.{Ends};
 
 use crate::copying::{move_down, move_up};
-use js_values::ids::ObjId;
-use js_values::value::Value;
+use js_values::{ObjId, Value};
 use page_state::{Fault, Halt, State, further};
 
 // The last element goes, and the value is given.

@@ -9,12 +9,8 @@ ghost use Rattle.page_state.specs.Does.{Gives, itself};
 ghost use Rattle.page_state.specs.Turns.{Ends};
 ghost use Rattle.builtin_list.specs.Lists.{for_text};
 
-use js_core::ascii::ascii_text;
-use js_core::memory::OutOfMemory;
-use js_core::units::Units;
-use js_values::ids::ObjId;
-use js_values::throw::Throw;
-use js_values::value::Value;
+use js_core::{OutOfMemory, Units, ascii_text};
+use js_values::{ObjId, Throw, Value};
 use page_state::{Fault, Halt, State, are_short, argument, take_turn};
 use std::alloc::Global;
 

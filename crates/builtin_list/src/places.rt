@@ -3,7 +3,7 @@
 ghost use Rattle.std.specs.Prelude.{◌≡◌, ◌≤◌, min};
 ghost use Rattle.page_meaning.specs.ListRows as spec;
 
-use js_core::whole::Whole;
+use js_core::Whole;
 
 /// A place in an array of this length, from its end where the number is negative.
 pub fn place_in(length: u64, number: Whole) -> u64

@@ -8,8 +8,7 @@ ghost use Rattle.page_state.specs.Does.{Gives, itself, no_value};
 ghost use Rattle.page_state.specs.Turns.{Ends};
 
 use crate::copying::put_or_delete;
-use js_values::ids::ObjId;
-use js_values::value::Value;
+use js_values::{ObjId, Value};
 use page_state::{Fault, Halt, State, take_turn};
 
 // Each of two elements is put where the other was.

@@ -13,10 +13,7 @@ use crate::reversal::reverse;
 use crate::searching::{index_of, last_index_of};
 use crate::slicing::slice;
 use crate::splicing::splice;
-use js_values::built_in::BuiltIn;
-use js_values::ids::ObjId;
-use js_values::throw::Throw;
-use js_values::value::Value;
+use js_values::{BuiltIn, ObjId, Throw, Value};
 use page_state::{Fault, Halt, State};
 
 /// What a built-in function of arrays does when it is called on `this` with the arguments, with so many steps left: its value, what it

@@ -8,12 +8,10 @@ ghost use Rattle.page_state.specs.Does.{itself};
 ghost use Rattle.page_state.specs.Turns.{Ends};
 
 use crate::places::{count_to, place_in};
-use js_core::memory::OutOfMemory;
-use js_core::whole::Whole;
-use js_values::ids::ObjId;
-use js_values::value::Value;
+use js_core::{OutOfMemory, Whole};
+use js_values::{ObjId, Value};
 use page_state::{Halt, State, argument, further, index_value, take_turn};
-use whole_ops::equality::same;
+use whole_ops::same;
 
 // Whether an array has the value at an index.
 fn is_there(state: &State, list: ObjId, index: u64, value: &Value) -> Result<bool, OutOfMemory>

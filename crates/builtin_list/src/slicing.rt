@@ -9,10 +9,8 @@ ghost use Rattle.page_state.specs.Turns.{Ends};
 
 use crate::copying::copy_all;
 use crate::places::place_in;
-use js_core::memory::OutOfMemory;
-use js_core::whole::Whole;
-use js_values::ids::ObjId;
-use js_values::value::Value;
+use js_core::{OutOfMemory, Whole};
+use js_values::{ObjId, Value};
 use page_state::{Fault, Halt, State, argument};
 
 // The elements between two places.

@@ -8,9 +8,8 @@ ghost use Rattle.page_state.specs.Turns.{Ends};
 use crate::copying::{copy_all, delete_last, move_down, move_up};
 use crate::ends::put_all;
 use crate::places::{count_in, place_in};
-use js_core::whole::Whole;
-use js_values::ids::ObjId;
-use js_values::value::Value;
+use js_core::Whole;
+use js_values::{ObjId, Value};
 use page_state::{Halt, State, argument, arguments_from, further};
 
 // What stands behind the elements that go moves down, and what is left at the end goes.

@@ -11,17 +11,15 @@ ghost use Rattle.page_meaning.specs.ObjectRows as rows;
 ghost use Rattle.page_state.specs.Does.{Gives, no_value};
 
 use crate::descriptors::change_in;
-use js_core::units::Units;
-use js_core::whole::Whole;
-use js_values::ids::ObjId;
-use js_values::throw::Throw;
-use js_values::value::Value;
-use object_heap::property::Change;
+use js_core::{Units, Whole};
+use js_values::{ObjId, Throw, Value};
+use object_heap::Change;
 use page_state::{Fault, State, number_of};
 
 // Defines the property, or throws what is refused.
 fn define_or_throw(state: &mut State, at: ObjId, name: &Units, change: &Change) -> Result<(), Fault>
-    ensures { Gives no_value (λ _. spec.define_or_throw at name.now change.now) state.old state.new result }
+    ensures { Gives no_value (λ _. spec.define_or_throw at name.now change.now) state.old state.new
+        result }
 {
     match state.define_at(at, name, change)? {
         None => Ok(()),
@@ -37,7 +35,8 @@ fn define_number(
     change: &Change,
     number: Whole,
 ) -> Result<(), Fault>
-    ensures { Gives no_value (λ _. spec.define_or_throw at name.now (spec.change_to change.now (Num number))) state.old state.new result }
+    ensures { Gives no_value (λ _. spec.define_or_throw at name.now
+        (spec.change_to change.now (Num number))) state.old state.new result }
 {
     let change = Change {
         value: Some(Value::Num(number)),
@@ -56,7 +55,9 @@ fn define_length_to(
     change: &Change,
     value: &Value,
 ) -> Result<(), Fault>
-    ensures { Gives no_value (λ _. also (settle (spec_number value.now)) (λ n. spec.define_or_throw at name.now (spec.change_to change.now n))) state.old state.new result }
+    ensures { Gives no_value (λ _. also (settle (spec_number value.now))
+        (λ n. spec.define_or_throw at name.now (spec.change_to change.now n))) state.old state.new
+        result }
 {
     match number_of(value) {
         Ok(number) => define_number(state, at, name, change, number),
@@ -67,7 +68,8 @@ fn define_length_to(
 // Defines the length of an array.
 fn define_length(state: &mut State, at: ObjId, name: &Units, change: &Change) -> Result<(), Fault>
     requires { name.now ≡ length_name }
-    ensures { Gives no_value (λ _. spec.define_length at change.now change.now.value) state.old state.new result }
+    ensures { Gives no_value (λ _. spec.define_length at change.now change.now.value) state.old
+        state.new result }
 {
     match &change.value {
         Some(value) => define_length_to(state, at, name, change, value),
@@ -77,7 +79,8 @@ fn define_length(state: &mut State, at: ObjId, name: &Units, change: &Change) ->
 
 /// [[DefineOwnProperty]], which makes the value of an array's length a number first (sections 8.12.9 and 15.4.5.1).
 pub fn define_in(state: &mut State, at: ObjId, name: &Units, change: &Change) -> Result<(), Fault>
-    ensures { Gives no_value (λ _. spec.define_in at name.now change.now) state.old state.new result }
+    ensures { Gives no_value (λ _. spec.define_in at name.now change.now) state.old state.new
+        result }
 {
     if state.is_length_of(at, name) {
         define_length(state, at, name, change)
@@ -88,7 +91,8 @@ pub fn define_in(state: &mut State, at: ObjId, name: &Units, change: &Change) ->
 
 // Defines the property, and gives the object.
 fn defined(state: &mut State, at: ObjId, name: &Units, change: &Change) -> Result<ObjId, Fault>
-    ensures { Gives Object (λ _. rows.define_as at name.now (Some change.now)) state.old state.new result }
+    ensures { Gives Object (λ _. rows.define_as at name.now (Some change.now)) state.old state.new
+        result }
 {
     define_in(state, at, name, change)?;
     Ok(at)
@@ -101,7 +105,8 @@ pub fn define_by(
     name: &Units,
     descriptor: &Value,
 ) -> Result<ObjId, Fault>
-    ensures { Gives Object (λ _. asking (λ s. spec.change_in s descriptor.now) (rows.define_as at name.now)) state.old state.new result }
+    ensures { Gives Object (λ _. asking (λ s. spec.change_in s descriptor.now)
+        (rows.define_as at name.now)) state.old state.new result }
 {
     match change_in(state, descriptor)? {
         Some(change) => defined(state, at, name, &change),

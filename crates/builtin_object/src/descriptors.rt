@@ -6,21 +6,17 @@ ghost use Rattle.page_meaning.specs.Descriptors as spec;
 ghost use Rattle.page_meaning.specs.Primitives.{make};
 ghost use Rattle.page_state.specs.Does.{Does};
 
-use js_core::ascii::ascii_text;
-use js_core::memory::OutOfMemory;
-use js_core::units::Units;
-use js_values::ids::ObjId;
-use js_values::value::Value;
-use object_heap::object::Class;
-use object_heap::properties::Properties;
-use object_heap::property::{Change, Prop};
+use js_core::{OutOfMemory, Units, ascii_text};
+use js_values::{ObjId, Value};
+use object_heap::{Change, Class, Prop, Properties};
 use page_state::{OBJECT_PROTOTYPE, State};
 use std::alloc::Global;
-use whole_ops::conversions::is_true;
+use whole_ops::is_true;
 
 /// A new descriptor of a property (section 8.10.4).
 pub fn new_descriptor(state: &mut State, prop: &Prop) -> Result<ObjId, OutOfMemory>
-    ensures { IfOk result (λ at. Does (λ _. make (spec.descriptor_object prop.now) (spec.descriptor_fit prop.now)) state.old at state.new) }
+    ensures { IfOk result (λ at. Does (λ _. make (spec.descriptor_object prop.now)
+        (spec.descriptor_fit prop.now)) state.old at state.new) }
 {
     let props = descriptor_props(state.alloc(), prop)?;
     state.make(Class::Plain, Some(OBJECT_PROTOTYPE), props)

@@ -10,21 +10,16 @@ ghost use Rattle.page_meaning.specs.Primitives.{make};
 ghost use Rattle.page_meaning.specs.ValueRows as spec;
 ghost use Rattle.page_state.specs.Does.{Does, Gives};
 
-use js_core::ascii::ascii_text;
-use js_core::memory::OutOfMemory;
-use js_core::units::Units;
-use js_values::ids::ObjId;
-use js_values::throw::ErrorKind;
-use js_values::value::Value;
-use object_heap::object::Class;
-use object_heap::properties::Properties;
-use object_heap::property::Prop;
+use js_core::{OutOfMemory, Units, ascii_text};
+use js_values::{ErrorKind, ObjId, Value};
+use object_heap::{Class, Prop, Properties};
 use page_state::{Fault, State, error_prototype};
 use std::alloc::Global;
 
 // A new error without a message of its own.
 fn make_silent(state: &mut State, kind: ErrorKind) -> Result<ObjId, OutOfMemory>
-    ensures { IfOk result (λ at. Does (λ _. make (spec.silent_error kind) (spec.silent_fit kind)) state.old at state.new) }
+    ensures { IfOk result (λ at. Does (λ _. make (spec.silent_error kind) (spec.silent_fit kind))
+        state.old at state.new) }
 {
     let props = Properties::new(state.alloc());
     state.make(Class::Fault, Some(error_prototype(kind)), props)
@@ -32,7 +27,8 @@ fn make_silent(state: &mut State, kind: ErrorKind) -> Result<ObjId, OutOfMemory>
 
 // A new error that says this.
 fn make_saying(state: &mut State, kind: ErrorKind, message: Units) -> Result<ObjId, OutOfMemory>
-    ensures { IfOk result (λ at. Does (λ _. make (spec.error_saying kind message) (spec.saying_fit kind message)) state.old at state.new) }
+    ensures { IfOk result (λ at. Does (λ _. make (spec.error_saying kind message)
+        (spec.saying_fit kind message)) state.old at state.new) }
 {
     let props = message_props(state.alloc(), message)?;
     state.make(Class::Fault, Some(error_prototype(kind)), props)
@@ -48,20 +44,24 @@ fn message_props(alloc: Global, message: Units) -> Result<Properties, OutOfMemor
 }
 
 fn silent_error(state: &mut State, kind: ErrorKind) -> Result<ObjId, Fault>
-    ensures { Gives Object (λ _. bind (make (spec.silent_error kind) (spec.silent_fit kind)) object_of) state.old state.new result }
+    ensures { Gives Object (λ _. bind (make (spec.silent_error kind) (spec.silent_fit kind))
+        object_of) state.old state.new result }
 {
     Ok(make_silent(state, kind)?)
 }
 
 fn error_saying(state: &mut State, kind: ErrorKind, message: Units) -> Result<ObjId, Fault>
-    ensures { Gives Object (λ _. bind (make (spec.error_saying kind message) (spec.saying_fit kind message)) object_of) state.old state.new result }
+    ensures { Gives Object (λ _. bind (make (spec.error_saying kind message)
+        (spec.saying_fit kind message)) object_of) state.old state.new result }
 {
     Ok(make_saying(state, kind, message)?)
 }
 
 // A new error whose message is the text of the value.
 fn error_about(state: &mut State, kind: ErrorKind, value: &Value) -> Result<ObjId, Fault>
-    ensures { Gives Object (λ calls. also (to_text calls value.now) (λ t. bind (make (spec.error_saying kind (text_in t)) (spec.saying_fit kind (text_in t))) object_of)) state.old state.new result }
+    ensures { Gives Object (λ calls. also (to_text calls value.now)
+        (λ t. bind (make (spec.error_saying kind (text_in t)) (spec.saying_fit kind (text_in t)))
+        object_of)) state.old state.new result }
 {
     let message = state.to_text(value)?;
     error_saying(state, kind, message)
@@ -69,7 +69,8 @@ fn error_about(state: &mut State, kind: ErrorKind, value: &Value) -> Result<ObjI
 
 /// A new error of the kind, with a message of its own where one is given and is not undefined.
 pub fn error_from(state: &mut State, kind: ErrorKind, value: &Value) -> Result<ObjId, Fault>
-    ensures { Gives Object (λ calls. spec.error_from calls kind value.now) state.old state.new result }
+    ensures { Gives Object (λ calls. spec.error_from calls kind value.now) state.old state.new
+        result }
 {
     match value {
         Value::Undefined => silent_error(state, kind),

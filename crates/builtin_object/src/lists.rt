@@ -12,14 +12,9 @@ ghost use Rattle.page_meaning.specs.ValueRows as spec;
 ghost use Rattle.page_state.specs.Does.{Gives};
 ghost use Rattle.builtin_object.specs.Lists.{for_object, is_a_length as spec_length, lone_number as spec_lone};
 
-use js_core::ascii::ascii_text;
-use js_core::units::Units;
-use js_core::whole::Whole;
-use js_values::ids::ObjId;
-use js_values::throw::Throw;
-use js_values::value::Value;
-use object_heap::index::index_name;
-use object_heap::property::Change;
+use js_core::{Units, Whole, ascii_text};
+use js_values::{ObjId, Throw, Value};
+use object_heap::{Change, index_name};
 use page_state::{Fault, State};
 
 // A property that may be written, listed and configured.
@@ -40,14 +35,16 @@ fn define_whole(state: &mut State, at: ObjId, name: &Units, value: Value) -> Res
 
 // The element of an array at an index.
 fn define_element(state: &mut State, list: ObjId, index: u64, value: &Value) -> Result<(), Fault>
-    ensures { Gives (λ _. value.now) (λ _. define_member list (decimal index) value.now) state.old state.new result }
+    ensures { Gives (λ _. value.now) (λ _. define_member list (decimal index) value.now) state.old
+        state.new result }
 {
     let name = index_name(state.alloc(), index)?;
     define_whole(state, list, &name, value.clone()?)
 }
 
 fn define_text(state: &mut State, list: ObjId, index: u64, text: &Units) -> Result<(), Fault>
-    ensures { Gives (λ _. Text text.now) (λ _. define_member list (decimal index) (Text text.now)) state.old state.new result }
+    ensures { Gives (λ _. Text text.now) (λ _. define_member list (decimal index) (Text text.now))
+        state.old state.new result }
 {
     let name = index_name(state.alloc(), index)?;
     define_whole(state, list, &name, Value::Text(text.clone()?))
@@ -55,7 +52,8 @@ fn define_text(state: &mut State, list: ObjId, index: u64, text: &Units) -> Resu
 
 // The values become the elements of an array from its start.
 fn fill_values(state: &mut State, list: ObjId, values: &[Value]) -> Result<(), Fault>
-    ensures { Gives (for_object list) (λ _. spec.list_values list 0 values.now) state.old state.new result }
+    ensures { Gives (for_object list) (λ _. spec.list_values list 0 values.now) state.old state.new
+        result }
 {
     for index in 0..values.len() {
         define_element(state, list, index as u64, &values[index])?;
@@ -65,7 +63,8 @@ fn fill_values(state: &mut State, list: ObjId, values: &[Value]) -> Result<(), F
 
 // The texts become the elements of an array from its start.
 fn fill_texts(state: &mut State, list: ObjId, texts: &[Units]) -> Result<(), Fault>
-    ensures { Gives (for_object list) (λ _. list_texts list 0 texts.now) state.old state.new result }
+    ensures { Gives (for_object list) (λ _. list_texts list 0 texts.now) state.old state.new
+        result }
 {
     for index in 0..texts.len() {
         define_text(state, list, index as u64, &texts[index])?;
@@ -75,7 +74,8 @@ fn fill_texts(state: &mut State, list: ObjId, texts: &[Units]) -> Result<(), Fau
 
 // A new array of these values.
 fn list_of(state: &mut State, values: &[Value]) -> Result<ObjId, Fault>
-    ensures { Gives Object (λ _. bind new_list (λ a. spec.list_values a 0 values.now)) state.old state.new result }
+    ensures { Gives Object (λ _. bind new_list (λ a. spec.list_values a 0 values.now)) state.old
+        state.new result }
 {
     let list = state.new_list()?;
     fill_values(state, list, values)?;
@@ -93,7 +93,8 @@ pub fn new_texts(state: &mut State, texts: &[Units]) -> Result<ObjId, Fault>
 
 // The length of an array becomes the number.
 fn set_length(state: &mut State, list: ObjId, length: Whole) -> Result<(), Fault>
-    ensures { Gives (for_object list) (λ _. also (put_in list length_name (Num length)) (λ _. give (Object list))) state.old state.new result }
+    ensures { Gives (for_object list) (λ _. also (put_in list length_name (Num length))
+        (λ _. give (Object list))) state.old state.new result }
 {
     let name = ascii_text(state.alloc(), b"length")?;
     state.put_in(list, &name, Value::Num(length))?;
@@ -102,7 +103,9 @@ fn set_length(state: &mut State, list: ObjId, length: Whole) -> Result<(), Fault
 
 // A new array of this length without elements.
 fn sized_list(state: &mut State, length: Whole) -> Result<ObjId, Fault>
-    ensures { Gives Object (λ _. bind new_list (λ a. also (put_in a length_name (Num length)) (λ _. give (Object a)))) state.old state.new result }
+    ensures { Gives Object (λ _. bind new_list
+        (λ a. also (put_in a length_name (Num length)) (λ _. give (Object a)))) state.old state.new
+        result }
 {
     let list = state.new_list()?;
     set_length(state, list, length)?;
@@ -121,7 +124,8 @@ fn is_a_length(number: Whole) -> bool
 
 // A new array of a length that is to be one.
 fn list_of_length(state: &mut State, length: Whole) -> Result<ObjId, Fault>
-    ensures { Gives Object (λ _. spec.list_of_length (valid_length (Num length))) state.old state.new result }
+    ensures { Gives Object (λ _. spec.list_of_length (valid_length (Num length))) state.old
+        state.new result }
 {
     if is_a_length(length) {
         sized_list(state, length)

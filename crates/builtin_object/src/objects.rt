@@ -17,12 +17,9 @@ use crate::definitions::{define_by, define_in};
 use crate::descriptors::new_descriptor;
 use crate::lists::new_texts;
 use crate::own::{all_changes, are_fast, enumerable_names};
-use js_core::memory::OutOfMemory;
-use js_core::units::Units;
-use js_values::ids::ObjId;
-use js_values::throw::Throw;
-use js_values::value::Value;
-use object_heap::property::{Change, Prop};
+use js_core::{OutOfMemory, Units};
+use js_values::{ObjId, Throw, Value};
+use object_heap::{Change, Prop};
 use page_state::{Fault, State};
 
 /// `Object(..)` and `new Object(..)` (sections 15.2.1.1 and 15.2.2.1).
@@ -47,7 +44,8 @@ fn prototype_value(state: &State, at: ObjId) -> Value
 
 /// `Object.getPrototypeOf` (section 15.2.3.2).
 pub fn get_prototype_of(state: &mut State, value: &Value) -> Result<Value, Fault>
-    ensures { Gives itself (λ _. on_object value.now spec.get_prototype) state.old state.new result }
+    ensures { Gives itself (λ _. on_object value.now spec.get_prototype) state.old state.new
+        result }
 {
     match value {
         Value::Object(at) => Ok(prototype_value(state, *at)),
@@ -63,7 +61,8 @@ fn descriptor_value(state: &mut State, prop: &Prop) -> Result<Value, Fault>
 
 // The descriptor of an own property, or undefined.
 fn described(state: &mut State, at: ObjId, name: &Units) -> Result<Value, Fault>
-    ensures { Gives itself (λ _. asking (λ s. own_property (spec.props_at s at) name.now) spec.described) state.old state.new result }
+    ensures { Gives itself (λ _. asking (λ s. own_property (spec.props_at s at) name.now)
+        spec.described) state.old state.new result }
 {
     match state.own(at, name) {
         None => Ok(Value::Undefined),
@@ -75,7 +74,8 @@ fn described(state: &mut State, at: ObjId, name: &Units) -> Result<Value, Fault>
 }
 
 fn get_descriptor(state: &mut State, at: ObjId, name: &Value) -> Result<Value, Fault>
-    ensures { Gives itself (λ calls. spec.get_descriptor calls name.now at) state.old state.new result }
+    ensures { Gives itself (λ calls. spec.get_descriptor calls name.now at) state.old state.new
+        result }
 {
     let name = state.to_text(name)?;
     described(state, at, &name)
@@ -87,7 +87,8 @@ pub fn get_own_property_descriptor(
     value: &Value,
     name: &Value,
 ) -> Result<Value, Fault>
-    ensures { Gives itself (λ calls. on_object value.now (spec.get_descriptor calls name.now)) state.old state.new result }
+    ensures { Gives itself (λ calls. on_object value.now (spec.get_descriptor calls name.now))
+        state.old state.new result }
 {
     match value {
         Value::Object(at) => get_descriptor(state, *at, name),
@@ -121,7 +122,8 @@ fn own_enumerable_names(state: &mut State, at: ObjId) -> Result<ObjId, Fault>
 
 /// `Object.keys`, in the order of creation (section 15.2.3.14).
 pub fn keys(state: &mut State, value: &Value) -> Result<ObjId, Fault>
-    ensures { Gives Object (λ _. on_object value.now spec.own_enumerable_names) state.old state.new result }
+    ensures { Gives Object (λ _. on_object value.now spec.own_enumerable_names) state.old state.new
+        result }
 {
     match value {
         Value::Object(at) => own_enumerable_names(state, *at),
@@ -135,7 +137,8 @@ fn define_named(
     name: &Value,
     descriptor: &Value,
 ) -> Result<ObjId, Fault>
-    ensures { Gives Object (λ calls. spec.define_property calls name.now descriptor.now at) state.old state.new result }
+    ensures { Gives Object (λ calls. spec.define_property calls name.now descriptor.now at)
+        state.old state.new result }
 {
     let name = state.to_text(name)?;
     define_by(state, at, &name, descriptor)
@@ -148,7 +151,8 @@ pub fn define_property(
     name: &Value,
     descriptor: &Value,
 ) -> Result<ObjId, Fault>
-    ensures { Gives Object (λ calls. on_object value.now (spec.define_property calls name.now descriptor.now)) state.old state.new result }
+    ensures { Gives Object (λ calls. on_object value.now
+        (spec.define_property calls name.now descriptor.now)) state.old state.new result }
 {
     match value {
         Value::Object(at) => define_named(state, *at, name, descriptor),
@@ -158,7 +162,8 @@ pub fn define_property(
 
 // The properties are defined in order.
 fn define_each(state: &mut State, at: ObjId, changes: &[(Units, Change)]) -> Result<(), Fault>
-    ensures { Gives (for_object at) (λ _. spec.define_each at changes.now) state.old state.new result }
+    ensures { Gives (for_object at) (λ _. spec.define_each at changes.now) state.old state.new
+        result }
 {
     for named in changes {
         define_in(state, at, &named.0, &named.1)?;
@@ -168,7 +173,8 @@ fn define_each(state: &mut State, at: ObjId, changes: &[(Units, Change)]) -> Res
 
 // All descriptors are read before a property is defined.
 fn define_all(state: &mut State, from: ObjId, at: ObjId) -> Result<(), Fault>
-    ensures { Gives (for_object at) (λ _. asking (λ s. spec.all_changes s from) (spec.define_given at)) state.old state.new result }
+    ensures { Gives (for_object at) (λ _. asking (λ s. spec.all_changes s from)
+        (spec.define_given at)) state.old state.new result }
 {
     match all_changes(state, from)? {
         Some(changes) => define_each(state, at, changes.as_slice()),
@@ -178,7 +184,8 @@ fn define_all(state: &mut State, from: ObjId, at: ObjId) -> Result<(), Fault>
 
 // Defines the properties that a value has as descriptors.
 fn define_from(state: &mut State, descriptors: &Value, at: ObjId) -> Result<(), Fault>
-    ensures { Gives (for_object at) (λ _. spec.define_properties descriptors.now at) state.old state.new result }
+    ensures { Gives (for_object at) (λ _. spec.define_properties descriptors.now at) state.old
+        state.new result }
 {
     match descriptors {
         Value::Object(from) => define_all(state, *from, at),
@@ -190,7 +197,8 @@ fn define_from(state: &mut State, descriptors: &Value, at: ObjId) -> Result<(), 
 
 // The units of a text are no descriptors.
 fn define_from_text(state: &mut State, text: &Units, at: ObjId) -> Result<(), Fault>
-    ensures { Gives (for_object at) (λ _. spec.define_properties (Words text.now) at) state.old state.new result }
+    ensures { Gives (for_object at) (λ _. spec.define_properties (Words text.now) at) state.old
+        state.new result }
 {
     match text.as_slice() {
         [] => Ok(()),
@@ -199,7 +207,8 @@ fn define_from_text(state: &mut State, text: &Units, at: ObjId) -> Result<(), Fa
 }
 
 fn define_properties_in(state: &mut State, at: ObjId, descriptors: &Value) -> Result<ObjId, Fault>
-    ensures { Gives Object (λ _. spec.define_properties descriptors.now at) state.old state.new result }
+    ensures { Gives Object (λ _. spec.define_properties descriptors.now at) state.old state.new
+        result }
 {
     define_from(state, descriptors, at)?;
     Ok(at)
@@ -211,7 +220,8 @@ pub fn define_properties(
     value: &Value,
     descriptors: &Value,
 ) -> Result<ObjId, Fault>
-    ensures { Gives Object (λ _. on_object value.now (spec.define_properties descriptors.now)) state.old state.new result }
+    ensures { Gives Object (λ _. on_object value.now (spec.define_properties descriptors.now))
+        state.old state.new result }
 {
     match value {
         Value::Object(at) => define_properties_in(state, *at, descriptors),
@@ -273,7 +283,8 @@ fn freezing() -> Change
 
 // The same is asked of each of the properties.
 fn change_each(state: &mut State, at: ObjId, change: &Change, names: &[Units]) -> Result<(), Fault>
-    ensures { Gives no_value (λ _. spec.change_each at change.now names.now) state.old state.new result }
+    ensures { Gives no_value (λ _. spec.change_each at change.now names.now) state.old state.new
+        result }
 {
     for name in names {
         define_in(state, at, name, change)?;
@@ -282,7 +293,8 @@ fn change_each(state: &mut State, at: ObjId, change: &Change, names: &[Units]) -
 }
 
 fn change_own(state: &mut State, at: ObjId, change: &Change) -> Result<(), Fault>
-    ensures { Gives no_value (λ _. asking (λ s. keys_of (spec.props_at s at)) (spec.change_each at change.now)) state.old state.new result }
+    ensures { Gives no_value (λ _. asking (λ s. keys_of (spec.props_at s at))
+        (spec.change_each at change.now)) state.old state.new result }
 {
     let names = state.own_keys(at)?;
     change_each(state, at, change, names.as_slice())
@@ -306,7 +318,8 @@ fn prevent(state: &mut State, at: ObjId) -> Result<ObjId, Fault>
 
 /// `Object.seal` (section 15.2.3.8).
 pub fn seal(state: &mut State, value: &Value) -> Result<ObjId, Fault>
-    ensures { Gives Object (λ _. on_object value.now (spec.change_all spec.sealing)) state.old state.new result }
+    ensures { Gives Object (λ _. on_object value.now (spec.change_all spec.sealing)) state.old
+        state.new result }
 {
     match value {
         Value::Object(at) => change_all(state, *at, &sealing()),
@@ -316,7 +329,8 @@ pub fn seal(state: &mut State, value: &Value) -> Result<ObjId, Fault>
 
 /// `Object.freeze` (section 15.2.3.9).
 pub fn freeze(state: &mut State, value: &Value) -> Result<ObjId, Fault>
-    ensures { Gives Object (λ _. on_object value.now (spec.change_all spec.freezing)) state.old state.new result }
+    ensures { Gives Object (λ _. on_object value.now (spec.change_all spec.freezing)) state.old
+        state.new result }
 {
     match value {
         Value::Object(at) => change_all(state, *at, &freezing()),
@@ -335,7 +349,8 @@ pub fn prevent_extensions(state: &mut State, value: &Value) -> Result<ObjId, Fau
 }
 
 fn is_closed(state: &State, at: ObjId, frozen: bool) -> Result<bool, OutOfMemory>
-    ensures { IfOk result (λ b. b ≡ (not (spec.heap_object state.now at).extensible && list_all (λ e. is_fast frozen e.1) (spec.props_at state.now at))) }
+    ensures { IfOk result (λ b. b ≡ (not (spec.heap_object state.now at).extensible
+        && list_all (λ e. is_fast frozen e.1) (spec.props_at state.now at))) }
 {
     if state.is_extensible(at) {
         Ok(false)
@@ -346,7 +361,8 @@ fn is_closed(state: &State, at: ObjId, frozen: bool) -> Result<bool, OutOfMemory
 
 /// `Object.isSealed` (section 15.2.3.11).
 pub fn is_sealed(state: &mut State, value: &Value) -> Result<bool, Fault>
-    ensures { Gives Truth (λ _. on_object value.now (spec.telling spec.is_sealed)) state.old state.new result }
+    ensures { Gives Truth (λ _. on_object value.now (spec.telling spec.is_sealed)) state.old
+        state.new result }
 {
     match value {
         Value::Object(at) => Ok(is_closed(state, *at, false)?),
@@ -356,7 +372,8 @@ pub fn is_sealed(state: &mut State, value: &Value) -> Result<bool, Fault>
 
 /// `Object.isFrozen` (section 15.2.3.12).
 pub fn is_frozen(state: &mut State, value: &Value) -> Result<bool, Fault>
-    ensures { Gives Truth (λ _. on_object value.now (spec.telling spec.is_frozen)) state.old state.new result }
+    ensures { Gives Truth (λ _. on_object value.now (spec.telling spec.is_frozen)) state.old
+        state.new result }
 {
     match value {
         Value::Object(at) => Ok(is_closed(state, *at, true)?),
@@ -366,7 +383,8 @@ pub fn is_frozen(state: &mut State, value: &Value) -> Result<bool, Fault>
 
 /// `Object.isExtensible` (section 15.2.3.13).
 pub fn is_extensible(state: &mut State, value: &Value) -> Result<bool, Fault>
-    ensures { Gives Truth (λ _. on_object value.now (spec.telling (λ o. o.extensible))) state.old state.new result }
+    ensures { Gives Truth (λ _. on_object value.now (spec.telling (λ o. o.extensible))) state.old
+        state.new result }
 {
     match value {
         Value::Object(at) => Ok(state.is_extensible(*at)),

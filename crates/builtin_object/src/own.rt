@@ -9,15 +9,15 @@ ghost use Rattle.page_meaning.specs.Properties.{get_at};
 ghost use Rattle.builtin_object.specs.Own.{enumerable_name, fast_or_none, is_fast as spec_fast};
 
 use crate::descriptors::change_in;
-use js_core::memory::OutOfMemory;
-use js_core::units::Units;
-use js_values::ids::ObjId;
-use object_heap::property::{Change, Prop};
+use js_core::{OutOfMemory, Units};
+use js_values::ObjId;
+use object_heap::{Change, Prop};
 use page_state::State;
 
 /// The names of the own properties that are enumerable, in the order of creation.
 pub fn enumerable_names(state: &State, at: ObjId) -> Result<Vec<Units>, OutOfMemory>
-    ensures { IfOk result (λ names. names.items ≡ spec.enumerable_names (spec.props_at state.now at)) }
+    ensures { IfOk result (λ names. names.items
+        ≡ spec.enumerable_names (spec.props_at state.now at)) }
 {
     let keys = state.own_keys(at)?;
     let mut names = Vec::new(state.alloc());
@@ -34,7 +34,8 @@ fn push_enumerable(
     place: u64,
     names: &mut Vec<Units>,
 ) -> Result<(), OutOfMemory>
-    ensures { OnOk result (names.new.items ≡ names.old.items ++ enumerable_name (slice_get (spec.props_at state.now at) place)) }
+    ensures { OnOk result (names.new.items ≡ names.old.items
+        ++ enumerable_name (slice_get (spec.props_at state.now at) place)) }
 {
     match state.own_at(at, place) {
         Some((name, prop)) if prop.enumerable => {
@@ -47,7 +48,8 @@ fn push_enumerable(
 
 /// Whether all own properties are sealed, or frozen.
 pub fn are_fast(state: &State, at: ObjId, frozen: bool) -> Result<bool, OutOfMemory>
-    ensures { IfOk result (λ b. b ≡ list_all (λ e. spec_fast frozen e.1) (spec.props_at state.now at)) }
+    ensures { IfOk result (λ b. b ≡ list_all (λ e. spec_fast frozen e.1)
+        (spec.props_at state.now at)) }
 {
     let keys = state.own_keys(at)?;
     for place in 0..keys.len() {
@@ -75,7 +77,8 @@ fn is_fast(prop: &Prop, frozen: bool) -> bool
 
 /// What the enumerable properties of an object ask for as descriptors, or `None` exactly where one of them is none.
 pub fn all_changes(state: &State, from: ObjId) -> Result<Option<Vec<(Units, Change)>>, OutOfMemory>
-    ensures { IfOk result (λ changes. option_map (λ c. c.items) changes ≡ spec.all_changes state.now from) }
+    ensures { IfOk result (λ changes. option_map (λ c. c.items) changes
+        ≡ spec.all_changes state.now from) }
 {
     let names = enumerable_names(state, from)?;
     changes_in(state, from, names.as_slice())
@@ -86,7 +89,8 @@ fn changes_in(
     from: ObjId,
     names: &[Units],
 ) -> Result<Option<Vec<(Units, Change)>>, OutOfMemory>
-    ensures { IfOk result (λ changes. option_map (λ c. c.items) changes ≡ spec.changes_in state.now from names.now) }
+    ensures { IfOk result (λ changes. option_map (λ c. c.items) changes
+        ≡ spec.changes_in state.now from names.now) }
 {
     let mut changes = Vec::new(state.alloc());
     for name in names {
@@ -100,7 +104,8 @@ fn changes_in(
 
 // What a property of an object asks for as a descriptor.
 fn change_named(state: &State, from: ObjId, name: &Units) -> Result<Option<Change>, OutOfMemory>
-    ensures { IfOk result (λ change. change ≡ spec_change state.now (get_at state.now from name.now)) }
+    ensures { IfOk result (λ change. change ≡ spec_change state.now
+        (get_at state.now from name.now)) }
 {
     match state.get(from, name) {
         Some(value) => change_in(state, value),

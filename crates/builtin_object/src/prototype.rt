@@ -8,13 +8,9 @@ ghost use Rattle.page_meaning.specs.Convert.{text_in, to_text};
 ghost use Rattle.page_meaning.specs.ObjectRows as spec;
 ghost use Rattle.page_state.specs.Does.{Gives, itself};
 
-use js_core::ascii::push_ascii;
-use js_core::memory::OutOfMemory;
-use js_core::units::Units;
-use js_values::ids::ObjId;
-use js_values::throw::Throw;
-use js_values::value::Value;
-use object_heap::index::array_index;
+use js_core::{OutOfMemory, Units, push_ascii};
+use js_values::{ObjId, Throw, Value};
+use object_heap::array_index;
 use page_state::{Fault, State, class_name, own_of_text};
 
 // What `toString` calls a value.
@@ -32,7 +28,8 @@ fn tag(state: &State, value: &Value) -> &'static [u8]
 }
 
 fn tag_text(state: &State, value: &Value) -> Result<Units, OutOfMemory>
-    ensures { IfOk result (λ t. t ≡ codes "[object " ++ spec.tag_of state.now value.now ++ codes "]") }
+    ensures { IfOk result (λ t. t ≡ codes "[object " ++ spec.tag_of state.now value.now
+        ++ codes "]") }
 {
     let mut out = Vec::new(state.alloc());
     push_ascii(b"[object ", &mut out)?;
@@ -78,7 +75,8 @@ fn has_own(state: &mut State, value: &Value, name: &Units) -> Result<bool, Fault
 
 /// `Object.prototype.hasOwnProperty` (section 15.2.4.5).
 pub fn has_own_property(state: &mut State, this: &Value, name: &Value) -> Result<bool, Fault>
-    ensures { Gives Truth (λ calls. also (to_text calls name.now) (λ x. spec.has_own this.now (text_in x))) state.old state.new result }
+    ensures { Gives Truth (λ calls. also (to_text calls name.now)
+        (λ x. spec.has_own this.now (text_in x))) state.old state.new result }
 {
     let name = state.to_text(name)?;
     has_own(state, this, &name)
@@ -117,7 +115,8 @@ fn is_unit_name(text: &Units, name: &Units) -> bool
 
 /// `Object.prototype.propertyIsEnumerable` (section 15.2.4.7).
 pub fn property_is_enumerable(state: &mut State, this: &Value, name: &Value) -> Result<bool, Fault>
-    ensures { Gives Truth (λ calls. also (to_text calls name.now) (λ x. spec.lists_own this.now (text_in x))) state.old state.new result }
+    ensures { Gives Truth (λ calls. also (to_text calls name.now)
+        (λ x. spec.lists_own this.now (text_in x))) state.old state.new result }
 {
     let name = state.to_text(name)?;
     lists_own(state, this, &name)
@@ -125,7 +124,8 @@ pub fn property_is_enumerable(state: &mut State, this: &Value, name: &Value) -> 
 
 /// `Object.prototype.isPrototypeOf` (section 15.2.4.6).
 pub fn is_prototype_of(state: &mut State, this: &Value, value: &Value) -> Result<bool, Fault>
-    ensures { Gives Truth (λ _. spec.is_prototype_of this.now value.now) state.old state.new result }
+    ensures { Gives Truth (λ _. spec.is_prototype_of this.now value.now) state.old state.new
+        result }
 {
     match value {
         Value::Object(at) => is_prototype_of_object(state, this, *at),
@@ -134,7 +134,8 @@ pub fn is_prototype_of(state: &mut State, this: &Value, value: &Value) -> Result
 }
 
 fn is_prototype_of_object(state: &mut State, this: &Value, at: ObjId) -> Result<bool, Fault>
-    ensures { Gives Truth (λ _. spec.is_prototype_of this.now (Object at)) state.old state.new result }
+    ensures { Gives Truth (λ _. spec.is_prototype_of this.now (Object at)) state.old state.new
+        result }
 {
     match this {
         Value::Object(above) => Ok(state.is_above(*above, at)),

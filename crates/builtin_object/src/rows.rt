@@ -13,11 +13,8 @@ use crate::lines::{alert, log};
 use crate::lists::list_from;
 use crate::values::{is_array, truth_from, truth_itself, truth_text};
 use crate::{objects, prototype};
-use js_core::units::Units;
-use js_values::built_in::BuiltIn;
-use js_values::ids::ObjId;
-use js_values::throw::{ErrorKind, Throw};
-use js_values::value::Value;
+use js_core::Units;
+use js_values::{BuiltIn, ErrorKind, ObjId, Throw, Value};
 use page_state::{Fault, State, argument};
 
 /// What a built-in function does when it is called or constructed with `this` and the arguments: its value, or what it throws.
@@ -28,7 +25,8 @@ pub fn row(
     this: &Value,
     args: &[Value],
 ) -> Result<Value, Fault>
-    ensures { Gives itself (λ calls. object_row calls construct which this.now args.now) state.old state.new result }
+    ensures { Gives itself (λ calls. object_row calls construct which this.now args.now) state.old
+        state.new result }
 {
     let first = argument(args, 0)?;
     let second = argument(args, 1)?;
@@ -50,7 +48,8 @@ fn row_on(
     requires first { first.now ≡ spec_argument args.now 0 }
     requires second { second.now ≡ spec_argument args.now 1 }
     requires third { third.now ≡ spec_argument args.now 2 }
-    ensures { Gives itself (λ calls. object_row calls construct which this.now args.now) state.old state.new result }
+    ensures { Gives itself (λ calls. object_row calls construct which this.now args.now) state.old
+        state.new result }
 {
     match which {
         BuiltIn::Alert => alert(state, first),
@@ -103,7 +102,8 @@ fn row_on(
 }
 
 fn as_object(answer: Result<ObjId, Fault>) -> Result<Value, Fault>
-    ensures { (act : Calls → Act) (s t : Store) → Gives Object act s t answer → Gives itself act s t result }
+    ensures { (act : Calls → Act) (s t : Store) → Gives Object act s t answer
+        → Gives itself act s t result }
 {
     match answer {
         Ok(given) => Ok(Value::Object(given)),
@@ -112,7 +112,8 @@ fn as_object(answer: Result<ObjId, Fault>) -> Result<Value, Fault>
 }
 
 fn as_truth(answer: Result<bool, Fault>) -> Result<Value, Fault>
-    ensures { (act : Calls → Act) (s t : Store) → Gives Truth act s t answer → Gives itself act s t result }
+    ensures { (act : Calls → Act) (s t : Store) → Gives Truth act s t answer
+        → Gives itself act s t result }
 {
     match answer {
         Ok(given) => Ok(Value::Bool(given)),
@@ -121,7 +122,8 @@ fn as_truth(answer: Result<bool, Fault>) -> Result<Value, Fault>
 }
 
 fn as_text(answer: Result<Units, Fault>) -> Result<Value, Fault>
-    ensures { (act : Calls → Act) (s t : Store) → Gives Words act s t answer → Gives itself act s t result }
+    ensures { (act : Calls → Act) (s t : Store) → Gives Words act s t answer
+        → Gives itself act s t result }
 {
     match answer {
         Ok(given) => Ok(Value::Text(given)),

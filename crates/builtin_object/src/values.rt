@@ -5,10 +5,9 @@ ghost use Rattle.js_values.specs.declared.value.Value.TheVariants.{Bool as Truth
 ghost use Rattle.page_meaning.specs.ValueRows as spec;
 ghost use Rattle.page_state.specs.Does.{Gives, itself};
 
-use js_values::throw::Throw;
-use js_values::value::Value;
+use js_values::{Throw, Value};
 use page_state::{Fault, State, text_of};
-use whole_ops::conversions::is_true;
+use whole_ops::is_true;
 
 /// `Array.isArray` (section 15.4.3.2).
 pub fn is_array(state: &State, value: &Value) -> bool

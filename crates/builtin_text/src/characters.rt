@@ -5,9 +5,7 @@ ghost use Rattle.std.specs.Char as char;
 ghost use Rattle.page_meaning.specs.StringRows as spec;
 
 use crate::positions::to_integer;
-use js_core::memory::OutOfMemory;
-use js_core::units::Units;
-use js_core::whole::Whole;
+use js_core::{OutOfMemory, Units, Whole};
 use std::alloc::Global;
 
 /// The number as a unit (section 9.7).

@@ -4,8 +4,8 @@ ghost use Rattle.std.specs.Prelude.{◌≡◌, ◌≤◌, length, slice_range};
 ghost use Rattle.page_meaning.specs.StringRows as spec;
 
 use crate::positions::{end_of, from_either_end, to_integer, within};
-use js_core::whole::Whole;
-use js_values::value::Value;
+use js_core::Whole;
+use js_values::Value;
 
 /// The units from one place to another, and none where the other comes before it.
 fn range(units: &[u16], from: usize, to: usize) -> &[u16]

@@ -10,11 +10,10 @@ ghost use Rattle.page_state.specs.Does.{Gives};
 ghost use Rattle.whole_ops.specs.Power.{whole_pow};
 ghost use Rattle.builtin_text.specs.Picks.{pick_of as spec_pick};
 
-use js_core::whole::Whole;
-use js_values::throw::Throw;
-use js_values::value::Value;
+use js_core::Whole;
+use js_values::{Throw, Value};
 use page_state::{Fault, State};
-use whole_ops::power::pow;
+use whole_ops::pow;
 
 /// Which of two numbers is picked.
 #[derive(Clone, Copy)]

@@ -9,9 +9,8 @@ ghost use Rattle.builtin_text.specs.Methods.{method_of};
 use crate::parts::split;
 use crate::strings::concat;
 use crate::texts;
-use js_core::units::Units;
-use js_values::throw::Throw;
-use js_values::value::Value;
+use js_core::Units;
+use js_values::{Throw, Value};
 use page_state::{Fault, State, argument};
 
 /// A function of the prototype of texts.

@@ -10,10 +10,8 @@ ghost use Rattle.page_state.specs.Does.{Gives, itself};
 
 use crate::parsing::parsed;
 use crate::radix::{radix_of, text_in_radix};
-use js_core::units::Units;
-use js_core::whole::Whole;
-use js_values::throw::Throw;
-use js_values::value::Value;
+use js_core::{Units, Whole};
+use js_values::{Throw, Value};
 use page_state::{Fault, State};
 
 /// `Number(..)`; there are no objects of numbers (section 15.7.1.1).

@@ -12,10 +12,8 @@ ghost use Rattle.whole_ops.specs.Numeral as numeral;
 ghost use Rattle.whole_ops.specs.WhiteSpace.{behind, is_str_white_space as spec_white};
 
 use crate::radix::radix_in_range;
-use js_core::whole::Whole;
-use whole_ops::bits::to_uint32;
-use whole_ops::fault::OpFault;
-use whole_ops::white_space::is_str_white_space;
+use js_core::Whole;
+use whole_ops::{OpFault, is_str_white_space, to_uint32};
 
 /// The size of the largest number.
 const LARGEST: u64 = Whole::LARGEST as u64;

@@ -13,15 +13,11 @@ ghost use Rattle.page_state.specs.Does.{Gives, itself};
 use crate::splitting::parts_of;
 use crate::strings::is_short;
 use builtin_object::new_texts;
-use js_core::memory::OutOfMemory;
-use js_core::units::Units;
-use js_core::whole::Whole;
-use js_values::ids::ObjId;
-use js_values::throw::Throw;
-use js_values::value::Value;
+use js_core::{OutOfMemory, Units, Whole};
+use js_values::{ObjId, Throw, Value};
 use page_state::{Fault, State};
 use std::alloc::Global;
-use whole_ops::bits::to_uint32;
+use whole_ops::to_uint32;
 
 /// `split`: the limit is converted before the separator.
 pub fn split(

@@ -3,8 +3,8 @@
 ghost use Rattle.std.specs.Prelude.{◌≡◌, ◌≤◌};
 ghost use Rattle.page_meaning.specs.StringRows as spec;
 
-use js_core::whole::Whole;
-use js_values::value::Value;
+use js_core::Whole;
+use js_values::Value;
 
 /// The number as a whole number: NaN counts as 0 (section 9.4).
 pub fn to_integer(number: Whole) -> i64

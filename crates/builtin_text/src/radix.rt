@@ -4,11 +4,8 @@ ghost use Rattle.std.specs.Prelude.{◌≡◌, ◌++◌, ◌≤◌, ◌<◌, dro
 ghost use Rattle.std.specs.Fmt.{digit_glyph, digits};
 ghost use Rattle.page_meaning.specs.NumberRows as spec;
 
-use js_core::ascii::ascii_text;
-use js_core::memory::OutOfMemory;
-use js_core::units::Units;
-use js_core::whole::Whole;
-use js_values::value::Value;
+use js_core::{OutOfMemory, Units, Whole, ascii_text};
+use js_values::Value;
 use std::alloc::Global;
 
 /// The number as a radix, or `None` exactly where it is none.

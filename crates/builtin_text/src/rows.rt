@@ -12,10 +12,8 @@ use crate::math::{self, Pick};
 use crate::methods::{Method, on_text};
 use crate::numbers;
 use crate::strings::{from_char_code, text_from};
-use js_core::whole::Whole;
-use js_values::built_in::BuiltIn;
-use js_values::throw::Throw;
-use js_values::value::Value;
+use js_core::Whole;
+use js_values::{BuiltIn, Throw, Value};
 use page_state::{Fault, State, argument};
 
 /// What a built-in function of texts or numbers does when it is called or constructed with `this` and the arguments: its value,

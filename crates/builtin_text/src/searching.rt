@@ -7,9 +7,7 @@ ghost use Rattle.std.specs.Prelude.{◌≡◌, ◌≤◌, ◌+◌, length, IfOk,
 ghost use Rattle.page_meaning.specs.StringRows as spec;
 
 use crate::positions::{last_start, to_integer, within};
-use js_core::memory::OutOfMemory;
-use js_core::units::Units;
-use js_core::whole::Whole;
+use js_core::{OutOfMemory, Units, Whole};
 
 fn stands_at(units: &[u16], part: &[u16], place: usize) -> bool
     requires { place ≤ length units.now }

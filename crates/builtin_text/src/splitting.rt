@@ -4,8 +4,7 @@ ghost use Rattle.std.specs.Prelude.{◌≡◌, ◌≤◌, ◌∷◌, [], IfOk, d
 ghost use Rattle.page_meaning.specs.StringRows as spec;
 
 use crate::searching::first_place;
-use js_core::memory::OutOfMemory;
-use js_core::units::Units;
+use js_core::{OutOfMemory, Units};
 use std::alloc::Global;
 
 /// The parts of the text between the places of the separator, at most `limit` of them. The work is that of one search through

@@ -8,11 +8,9 @@ ghost use Rattle.page_state.specs.Does.{Gives, itself};
 ghost use Rattle.builtin_text.specs.Texts.{for_text};
 
 use crate::characters::to_uint16;
-use js_core::memory::OutOfMemory;
-use js_core::units::Units;
-use js_values::throw::Throw;
-use js_values::value::Value;
-use page_state::{Fault, State, TEXT_LIMIT, are_short};
+use js_core::{OutOfMemory, TEXT_LIMIT, Units};
+use js_values::{Throw, Value};
+use page_state::{Fault, State, are_short};
 use std::alloc::Global;
 
 /// Whether a text may have so many units.
@@ -20,7 +18,7 @@ use std::alloc::Global;
 pub fn is_short(units: &[u16]) -> bool
     ensures { result ≡ nat_le (length units.now) text_limit }
 {
-    units.len() <= TEXT_LIMIT
+    units.len() <= TEXT_LIMIT as usize
 }
 
 /// The text of these units, which may be too many.

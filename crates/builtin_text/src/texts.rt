@@ -11,11 +11,10 @@ use crate::characters::{lower_case, unit_at, unit_number, unit_text, upper_case}
 use crate::cutting::{sliced, substring_of};
 use crate::searching::{last_place_from, place_from, place_number};
 use crate::strings::give_text;
-use js_core::units::Units;
-use js_core::whole::Whole;
-use js_values::value::Value;
+use js_core::{Units, Whole};
+use js_values::Value;
 use page_state::{Fault, State};
-use whole_ops::white_space::trimmed;
+use whole_ops::trimmed;
 
 /// `charAt` (section 15.5.4.4).
 pub fn char_at(state: &mut State, text: &Units, position: &Value) -> Result<Value, Fault>

@@ -13,9 +13,7 @@ use crate::kind::Kind;
 use crate::rows::{Entry, Rows, entry_at, number_at};
 use crate::statements::push_body;
 use crate::variables::push_variables;
-use js_core::memory::OutOfMemory;
-use js_core::syntax::{Code, Script};
-use js_core::units::Units;
+use js_core::{Code, OutOfMemory, Script, Units};
 use std::alloc::Global;
 use std::marker::Model;
 use std::rc::Rc;
@@ -113,7 +111,8 @@ impl FunctionCode {
         requires rows { map row_of entries.items ≡ rows_of code.now.value }
         requires few { length entries.items ≤ no_number }
         requires body { body ≡ length (with_parts [] (stmts_parts (body_of code.now.value))) }
-        requires functions { map declared_as functions.items ≡ functions_of (body_of code.now.value) }
+        requires functions { map declared_as functions.items
+            ≡ functions_of (body_of code.now.value) }
         ensures { IfOk result (λ f. f ≡ held named code.now.value) }
     {
         let mut variables = Vec::new(alloc);

@@ -8,10 +8,7 @@ ghost use Rattle.code_table.specs.Rows.{with_parts, with_numbers};
 
 use crate::rows::Rows;
 use crate::shallow::{expr_kind, is_property, takes_place};
-use js_core::memory::OutOfMemory;
-use js_core::operators::UnaryOp;
-use js_core::syntax::{Expr, ExprNode};
-use js_core::units::Units;
+use js_core::{Expr, ExprNode, OutOfMemory, UnaryOp, Units};
 use std::alloc::Global;
 
 /// The number of a part that is absent.
@@ -25,8 +22,11 @@ pub fn push_expr(
     parts: &mut Vec<u32>,
     e: &Expr,
 ) -> Result<(), OutOfMemory>
-    ensures rows { OnOk result (rows.new ≡ with_parts rows.old (node.part (node.expr_node e.now) (node.expr_parts e.now))) }
-    ensures parts { OnOk result (parts.new.items ≡ with_numbers rows.old parts.old.items (node.part (node.expr_node e.now) (node.expr_parts e.now))) }
+    ensures rows { OnOk result (rows.new ≡ with_parts rows.old
+        (node.part (node.expr_node e.now) (node.expr_parts e.now))) }
+    ensures parts { OnOk result (parts.new.items
+        ≡ with_numbers rows.old parts.old.items
+        (node.part (node.expr_node e.now) (node.expr_parts e.now))) }
 {
     let mut inside = Vec::new(alloc);
     push_expr_parts(alloc, rows, &mut inside, e)?;
@@ -43,7 +43,8 @@ fn push_expr_parts(
     e: &Expr,
 ) -> Result<(), OutOfMemory>
     ensures rows { OnOk result (rows.new ≡ with_parts rows.old (node.expr_parts e.now)) }
-    ensures parts { OnOk result (parts.new.items ≡ with_numbers rows.old parts.old.items (node.expr_parts e.now)) }
+    ensures parts { OnOk result (parts.new.items
+        ≡ with_numbers rows.old parts.old.items (node.expr_parts e.now)) }
 {
     match &e.node {
         ExprNode::Name(_)
@@ -83,8 +84,13 @@ fn push_two(
     a: &Expr,
     b: &Expr,
 ) -> Result<(), OutOfMemory>
-    ensures rows { OnOk result (rows.new ≡ with_parts rows.old (node.join (node.part (node.expr_node a.now) (node.expr_parts a.now)) (node.part (node.expr_node b.now) (node.expr_parts b.now)))) }
-    ensures parts { OnOk result (parts.new.items ≡ with_numbers rows.old parts.old.items (node.join (node.part (node.expr_node a.now) (node.expr_parts a.now)) (node.part (node.expr_node b.now) (node.expr_parts b.now)))) }
+    ensures rows { OnOk result (rows.new ≡ with_parts rows.old
+        (node.join (node.part (node.expr_node a.now) (node.expr_parts a.now))
+        (node.part (node.expr_node b.now) (node.expr_parts b.now)))) }
+    ensures parts { OnOk result (parts.new.items
+        ≡ with_numbers rows.old parts.old.items
+        (node.join (node.part (node.expr_node a.now) (node.expr_parts a.now))
+        (node.part (node.expr_node b.now) (node.expr_parts b.now)))) }
 {
     push_expr(alloc, rows, parts, a)?;
     push_expr(alloc, rows, parts, b)
@@ -100,8 +106,15 @@ fn push_three(
     b: &Expr,
     c: &Expr,
 ) -> Result<(), OutOfMemory>
-    ensures rows { OnOk result (rows.new ≡ with_parts rows.old (node.join (node.part (node.expr_node a.now) (node.expr_parts a.now)) (node.join (node.part (node.expr_node b.now) (node.expr_parts b.now)) (node.part (node.expr_node c.now) (node.expr_parts c.now))))) }
-    ensures parts { OnOk result (parts.new.items ≡ with_numbers rows.old parts.old.items (node.join (node.part (node.expr_node a.now) (node.expr_parts a.now)) (node.join (node.part (node.expr_node b.now) (node.expr_parts b.now)) (node.part (node.expr_node c.now) (node.expr_parts c.now))))) }
+    ensures rows { OnOk result (rows.new ≡ with_parts rows.old
+        (node.join (node.part (node.expr_node a.now) (node.expr_parts a.now))
+        (node.join (node.part (node.expr_node b.now) (node.expr_parts b.now))
+        (node.part (node.expr_node c.now) (node.expr_parts c.now))))) }
+    ensures parts { OnOk result (parts.new.items
+        ≡ with_numbers rows.old parts.old.items
+        (node.join (node.part (node.expr_node a.now) (node.expr_parts a.now))
+        (node.join (node.part (node.expr_node b.now) (node.expr_parts b.now))
+        (node.part (node.expr_node c.now) (node.expr_parts c.now))))) }
 {
     push_expr(alloc, rows, parts, a)?;
     push_two(alloc, rows, parts, b, c)
@@ -116,8 +129,13 @@ fn push_new(
     f: &Expr,
     es: &[Expr],
 ) -> Result<(), OutOfMemory>
-    ensures rows { OnOk result (rows.new ≡ with_parts rows.old (node.join (node.part (node.expr_node f.now) (node.expr_parts f.now)) (node.exprs_parts (exprs_of es.now)))) }
-    ensures parts { OnOk result (parts.new.items ≡ with_numbers rows.old parts.old.items (node.join (node.part (node.expr_node f.now) (node.expr_parts f.now)) (node.exprs_parts (exprs_of es.now)))) }
+    ensures rows { OnOk result (rows.new ≡ with_parts rows.old
+        (node.join (node.part (node.expr_node f.now) (node.expr_parts f.now))
+        (node.exprs_parts (exprs_of es.now)))) }
+    ensures parts { OnOk result (parts.new.items
+        ≡ with_numbers rows.old parts.old.items
+        (node.join (node.part (node.expr_node f.now) (node.expr_parts f.now))
+        (node.exprs_parts (exprs_of es.now)))) }
 {
     push_expr(alloc, rows, parts, f)?;
     push_exprs(alloc, rows, parts, es)
@@ -133,8 +151,13 @@ fn push_call(
     f: &Expr,
     es: &[Expr],
 ) -> Result<(), OutOfMemory>
-    ensures rows { OnOk result (rows.new ≡ with_parts rows.old (node.join (node.of_place (node.is_property f.now) f.now (node.expr_parts f.now)) (node.exprs_parts (exprs_of es.now)))) }
-    ensures parts { OnOk result (parts.new.items ≡ with_numbers rows.old parts.old.items (node.join (node.of_place (node.is_property f.now) f.now (node.expr_parts f.now)) (node.exprs_parts (exprs_of es.now)))) }
+    ensures rows { OnOk result (rows.new ≡ with_parts rows.old
+        (node.join (node.of_place (node.is_property f.now) f.now (node.expr_parts f.now))
+        (node.exprs_parts (exprs_of es.now)))) }
+    ensures parts { OnOk result (parts.new.items
+        ≡ with_numbers rows.old parts.old.items
+        (node.join (node.of_place (node.is_property f.now) f.now (node.expr_parts f.now))
+        (node.exprs_parts (exprs_of es.now)))) }
 {
     let in_place = is_property(f);
     push_place(alloc, rows, parts, in_place, f)?;
@@ -150,8 +173,11 @@ fn push_place(
     in_place: bool,
     e: &Expr,
 ) -> Result<(), OutOfMemory>
-    ensures rows { OnOk result (rows.new ≡ with_parts rows.old (node.of_place in_place e.now (node.expr_parts e.now))) }
-    ensures parts { OnOk result (parts.new.items ≡ with_numbers rows.old parts.old.items (node.of_place in_place e.now (node.expr_parts e.now))) }
+    ensures rows { OnOk result (rows.new ≡ with_parts rows.old
+        (node.of_place in_place e.now (node.expr_parts e.now))) }
+    ensures parts { OnOk result (parts.new.items
+        ≡ with_numbers rows.old parts.old.items
+        (node.of_place in_place e.now (node.expr_parts e.now))) }
 {
     if in_place {
         push_expr_parts(alloc, rows, parts, e)
@@ -169,8 +195,11 @@ fn push_operand(
     op: UnaryOp,
     e: &Expr,
 ) -> Result<(), OutOfMemory>
-    ensures rows { OnOk result (rows.new ≡ with_parts rows.old (node.of_place (node.takes_place op e.now) e.now (node.expr_parts e.now))) }
-    ensures parts { OnOk result (parts.new.items ≡ with_numbers rows.old parts.old.items (node.of_place (node.takes_place op e.now) e.now (node.expr_parts e.now))) }
+    ensures rows { OnOk result (rows.new ≡ with_parts rows.old
+        (node.of_place (node.takes_place op e.now) e.now (node.expr_parts e.now))) }
+    ensures parts { OnOk result (parts.new.items
+        ≡ with_numbers rows.old parts.old.items
+        (node.of_place (node.takes_place op e.now) e.now (node.expr_parts e.now))) }
 {
     let in_place = takes_place(op, e);
     push_place(alloc, rows, parts, in_place, e)
@@ -186,8 +215,13 @@ fn push_assign(
     a: &Expr,
     b: &Expr,
 ) -> Result<(), OutOfMemory>
-    ensures rows { OnOk result (rows.new ≡ with_parts rows.old (node.join (node.expr_parts a.now) (node.part (node.expr_node b.now) (node.expr_parts b.now)))) }
-    ensures parts { OnOk result (parts.new.items ≡ with_numbers rows.old parts.old.items (node.join (node.expr_parts a.now) (node.part (node.expr_node b.now) (node.expr_parts b.now)))) }
+    ensures rows { OnOk result (rows.new ≡ with_parts rows.old
+        (node.join (node.expr_parts a.now) (node.part (node.expr_node b.now)
+        (node.expr_parts b.now)))) }
+    ensures parts { OnOk result (parts.new.items
+        ≡ with_numbers rows.old parts.old.items
+        (node.join (node.expr_parts a.now) (node.part (node.expr_node b.now)
+        (node.expr_parts b.now)))) }
 {
     push_expr_parts(alloc, rows, parts, a)?;
     push_expr(alloc, rows, parts, b)
@@ -201,8 +235,10 @@ fn push_exprs(
     parts: &mut Vec<u32>,
     es: &[Expr],
 ) -> Result<(), OutOfMemory>
-    ensures rows { OnOk result (rows.new ≡ with_parts rows.old (node.exprs_parts (exprs_of es.now))) }
-    ensures parts { OnOk result (parts.new.items ≡ with_numbers rows.old parts.old.items (node.exprs_parts (exprs_of es.now))) }
+    ensures rows { OnOk result (rows.new ≡ with_parts rows.old
+        (node.exprs_parts (exprs_of es.now))) }
+    ensures parts { OnOk result (parts.new.items
+        ≡ with_numbers rows.old parts.old.items (node.exprs_parts (exprs_of es.now))) }
 {
     let mut rest = es;
     while let [e, after @ ..] = rest {
@@ -220,8 +256,10 @@ pub fn push_maybe_expr(
     parts: &mut Vec<u32>,
     e: &Option<Expr>,
 ) -> Result<(), OutOfMemory>
-    ensures rows { OnOk result (rows.new ≡ with_parts rows.old (node.maybe_expr_parts (maybe_expr e.now))) }
-    ensures parts { OnOk result (parts.new.items ≡ with_numbers rows.old parts.old.items (node.maybe_expr_parts (maybe_expr e.now))) }
+    ensures rows { OnOk result (rows.new ≡ with_parts rows.old
+        (node.maybe_expr_parts (maybe_expr e.now))) }
+    ensures parts { OnOk result (parts.new.items
+        ≡ with_numbers rows.old parts.old.items (node.maybe_expr_parts (maybe_expr e.now))) }
 {
     match e {
         None => {
@@ -241,8 +279,10 @@ fn push_holes(
     parts: &mut Vec<u32>,
     es: &[Option<Expr>],
 ) -> Result<(), OutOfMemory>
-    ensures rows { OnOk result (rows.new ≡ with_parts rows.old (node.holes_parts (holes_of es.now))) }
-    ensures parts { OnOk result (parts.new.items ≡ with_numbers rows.old parts.old.items (node.holes_parts (holes_of es.now))) }
+    ensures rows { OnOk result (rows.new ≡ with_parts rows.old
+        (node.holes_parts (holes_of es.now))) }
+    ensures parts { OnOk result (parts.new.items
+        ≡ with_numbers rows.old parts.old.items (node.holes_parts (holes_of es.now))) }
 {
     let mut rest = es;
     while let [e, after @ ..] = rest {
@@ -260,8 +300,10 @@ fn push_fields(
     parts: &mut Vec<u32>,
     fs: &[(Units, Expr)],
 ) -> Result<(), OutOfMemory>
-    ensures rows { OnOk result (rows.new ≡ with_parts rows.old (node.fields_parts (fields_of fs.now))) }
-    ensures parts { OnOk result (parts.new.items ≡ with_numbers rows.old parts.old.items (node.fields_parts (fields_of fs.now))) }
+    ensures rows { OnOk result (rows.new ≡ with_parts rows.old
+        (node.fields_parts (fields_of fs.now))) }
+    ensures parts { OnOk result (parts.new.items
+        ≡ with_numbers rows.old parts.old.items (node.fields_parts (fields_of fs.now))) }
 {
     let mut rest = fs;
     while let [(_, e), after @ ..] = rest {

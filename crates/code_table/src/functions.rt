@@ -10,8 +10,7 @@ ghost use Rattle.code_table.specs.Table.{declared_as, row_of};
 use crate::code::{Declared, FunctionCode};
 use crate::kind::Kind;
 use crate::rows::{Entry, NodeKind, Numbered};
-use js_core::memory::OutOfMemory;
-use js_core::syntax::{Code, Stmt, StmtNode};
+use js_core::{Code, OutOfMemory, Stmt, StmtNode};
 use std::alloc::Global;
 use std::rc::Rc;
 
@@ -55,7 +54,8 @@ pub fn push_functions(
     ss: &[Stmt],
     out: &mut Vec<Declared>,
 ) -> Result<(), OutOfMemory>
-    ensures { OnOk result (map declared_as out.new.items ≡ map declared_as out.old.items ++ functions_of (stmts_of ss.now)) }
+    ensures { OnOk result (map declared_as out.new.items ≡ map declared_as out.old.items
+        ++ functions_of (stmts_of ss.now)) }
 {
     let mut rest = ss;
     while let [s, after @ ..] = rest {
@@ -68,7 +68,8 @@ pub fn push_functions(
 // Appends the function that a statement declares, if it does.
 #[cycle(making)]
 fn push_function(alloc: Global, s: &Stmt, out: &mut Vec<Declared>) -> Result<(), OutOfMemory>
-    ensures { OnOk result (map declared_as out.new.items ≡ map declared_as out.old.items ++ functions_of (tree.then_stmt s.now tree.no_stmts)) }
+    ensures { OnOk result (map declared_as out.new.items ≡ map declared_as out.old.items
+        ++ functions_of (tree.then_stmt s.now tree.no_stmts)) }
 {
     match &s.node {
         StmtNode::Function(code) => push_declared(alloc, code, out),
@@ -79,7 +80,8 @@ fn push_function(alloc: Global, s: &Stmt, out: &mut Vec<Declared>) -> Result<(),
 // Appends a declared function.
 #[cycle(making)]
 fn push_declared(alloc: Global, code: &Rc<Code>, out: &mut Vec<Declared>) -> Result<(), OutOfMemory>
-    ensures { OnOk result (map declared_as out.new.items ≡ map declared_as out.old.items ++ (name_of code.now.value, unnamed code.now.value) ∷ []) }
+    ensures { OnOk result (map declared_as out.new.items ≡ map declared_as out.old.items
+        ++ (name_of code.now.value, unnamed code.now.value) ∷ []) }
 {
     let made = FunctionCode::of(alloc, code, false)?;
     out.push(Declared::of(code, made)?)?;

@@ -3,9 +3,7 @@
 ghost use Rattle.std.specs.Prelude.{◌≡◌};
 
 use crate::code::FunctionCode;
-use js_core::operators::{BinaryOp, UnaryOp};
-use js_core::units::Units;
-use js_core::whole::Whole;
+use js_core::{BinaryOp, UnaryOp, Units, Whole};
 use std::marker::Model;
 
 /// A node without its parts. A property's name, where the code has it, is part of the kind.

@@ -6,8 +6,7 @@ ghost use Rattle.code_table.specs.Numbered.{known, numbered_row};
 ghost use Rattle.code_table.specs.Table.{number_in};
 
 use crate::kind::Kind;
-use js_core::memory::OutOfMemory;
-use js_core::syntax::Code;
+use js_core::{Code, OutOfMemory};
 use std::alloc::Global;
 use std::marker::Model;
 use std::rc::Rc;
@@ -69,7 +68,8 @@ impl Rows {
 
     /// Numbers a node, whose parts have these numbers. More than 2^32 - 1 nodes are want of memory.
     pub fn push(&mut self, kind: NodeKind, parts: Vec<u32>) -> Result<u32, OutOfMemory>
-        ensures row { OnOk result (self.new ≡ self.old ++ record { kind = known kind; parts = parts.items } ∷ []) }
+        ensures row { OnOk result (self.new ≡ self.old
+            ++ record { kind = known kind; parts = parts.items } ∷ []) }
         ensures number { IfOk result (λ number. number ≡ length self.old) }
     {
         let number = self.nodes.len();
@@ -87,7 +87,8 @@ impl Rows {
         inside: Vec<u32>,
         parts: &mut Vec<u32>,
     ) -> Result<(), OutOfMemory>
-        ensures row { OnOk result (self.new ≡ self.old ++ record { kind = known kind; parts = inside.items } ∷ []) }
+        ensures row { OnOk result (self.new ≡ self.old
+            ++ record { kind = known kind; parts = inside.items } ∷ []) }
         ensures part { OnOk result (parts.new.items ≡ parts.old.items ++ length self.old ∷ []) }
     {
         let number = self.push(kind, inside)?;

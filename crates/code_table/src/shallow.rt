@@ -9,10 +9,7 @@ ghost use Rattle.code_table.specs.Numbered.{known};
 
 use crate::kind::{Kind, Names};
 use crate::rows::NodeKind;
-use js_core::memory::OutOfMemory;
-use js_core::operators::{BinaryOp, UnaryOp};
-use js_core::syntax::{Catch, Expr, ExprNode, Stmt, StmtNode};
-use js_core::units::Units;
+use js_core::{BinaryOp, Catch, Expr, ExprNode, OutOfMemory, Stmt, StmtNode, UnaryOp, Units};
 use std::alloc::Global;
 
 /// Whether it is a property, named by a member expression (ECMA-262 5.1 section 11.2.1).

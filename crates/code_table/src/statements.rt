@@ -12,9 +12,7 @@ use crate::expressions::{ABSENT, push_expr, push_maybe_expr};
 use crate::kind::Kind;
 use crate::rows::{NodeKind, Rows};
 use crate::shallow::stmt_kind;
-use js_core::memory::OutOfMemory;
-use js_core::syntax::{Case, Catch, Declarator, Expr, ForInit, Stmt, StmtNode};
-use js_core::units::Units;
+use js_core::{Case, Catch, Declarator, Expr, ForInit, OutOfMemory, Stmt, StmtNode, Units};
 use std::alloc::Global;
 
 // Numbers a statement, as a part.
@@ -25,8 +23,11 @@ fn push_stmt(
     parts: &mut Vec<u32>,
     s: &Stmt,
 ) -> Result<(), OutOfMemory>
-    ensures rows { OnOk result (rows.new ≡ with_parts rows.old (node.part (node.stmt_node s.now) (node.stmt_parts s.now))) }
-    ensures parts { OnOk result (parts.new.items ≡ with_numbers rows.old parts.old.items (node.part (node.stmt_node s.now) (node.stmt_parts s.now))) }
+    ensures rows { OnOk result (rows.new ≡ with_parts rows.old
+        (node.part (node.stmt_node s.now) (node.stmt_parts s.now))) }
+    ensures parts { OnOk result (parts.new.items
+        ≡ with_numbers rows.old parts.old.items
+        (node.part (node.stmt_node s.now) (node.stmt_parts s.now))) }
 {
     let mut inside = Vec::new(alloc);
     push_stmt_parts(alloc, rows, &mut inside, s)?;
@@ -43,7 +44,8 @@ fn push_stmt_parts(
     s: &Stmt,
 ) -> Result<(), OutOfMemory>
     ensures rows { OnOk result (rows.new ≡ with_parts rows.old (node.stmt_parts s.now)) }
-    ensures parts { OnOk result (parts.new.items ≡ with_numbers rows.old parts.old.items (node.stmt_parts s.now)) }
+    ensures parts { OnOk result (parts.new.items
+        ≡ with_numbers rows.old parts.old.items (node.stmt_parts s.now)) }
 {
     match &s.node {
         StmtNode::Function(_) | StmtNode::Empty | StmtNode::Continue | StmtNode::Break => Ok(()),
@@ -84,8 +86,17 @@ fn push_if(
     a: &[Stmt],
     b: &Option<Vec<Stmt>>,
 ) -> Result<(), OutOfMemory>
-    ensures rows { OnOk result (rows.new ≡ with_parts rows.old (node.join (node.part (node.expr_node e.now) (node.expr_parts e.now)) (node.join (node.part (node.block_node (stmts_of a.now)) (node.stmts_parts (stmts_of a.now))) (node.maybe_stmts_parts (maybe_stmts (option_map (λ v. v.items) b.now)))))) }
-    ensures parts { OnOk result (parts.new.items ≡ with_numbers rows.old parts.old.items (node.join (node.part (node.expr_node e.now) (node.expr_parts e.now)) (node.join (node.part (node.block_node (stmts_of a.now)) (node.stmts_parts (stmts_of a.now))) (node.maybe_stmts_parts (maybe_stmts (option_map (λ v. v.items) b.now)))))) }
+    ensures rows { OnOk result (rows.new ≡ with_parts rows.old
+        (node.join (node.part (node.expr_node e.now) (node.expr_parts e.now))
+        (node.join (node.part (node.block_node (stmts_of a.now))
+        (node.stmts_parts (stmts_of a.now))) (node.maybe_stmts_parts
+        (maybe_stmts (option_map (λ v. v.items) b.now)))))) }
+    ensures parts { OnOk result (parts.new.items
+        ≡ with_numbers rows.old parts.old.items
+        (node.join (node.part (node.expr_node e.now) (node.expr_parts e.now))
+        (node.join (node.part (node.block_node (stmts_of a.now))
+        (node.stmts_parts (stmts_of a.now))) (node.maybe_stmts_parts
+        (maybe_stmts (option_map (λ v. v.items) b.now)))))) }
 {
     push_expr(alloc, rows, parts, e)?;
     push_block(alloc, rows, parts, a)?;
@@ -101,8 +112,15 @@ fn push_do(
     a: &[Stmt],
     e: &Expr,
 ) -> Result<(), OutOfMemory>
-    ensures rows { OnOk result (rows.new ≡ with_parts rows.old (node.join (node.part (node.block_node (stmts_of a.now)) (node.stmts_parts (stmts_of a.now))) (node.part (node.expr_node e.now) (node.expr_parts e.now)))) }
-    ensures parts { OnOk result (parts.new.items ≡ with_numbers rows.old parts.old.items (node.join (node.part (node.block_node (stmts_of a.now)) (node.stmts_parts (stmts_of a.now))) (node.part (node.expr_node e.now) (node.expr_parts e.now)))) }
+    ensures rows { OnOk result (rows.new ≡ with_parts rows.old
+        (node.join (node.part (node.block_node (stmts_of a.now))
+        (node.stmts_parts (stmts_of a.now))) (node.part (node.expr_node e.now)
+        (node.expr_parts e.now)))) }
+    ensures parts { OnOk result (parts.new.items
+        ≡ with_numbers rows.old parts.old.items
+        (node.join (node.part (node.block_node (stmts_of a.now))
+        (node.stmts_parts (stmts_of a.now))) (node.part (node.expr_node e.now)
+        (node.expr_parts e.now)))) }
 {
     push_block(alloc, rows, parts, a)?;
     push_expr(alloc, rows, parts, e)
@@ -117,8 +135,13 @@ fn push_while(
     e: &Expr,
     a: &[Stmt],
 ) -> Result<(), OutOfMemory>
-    ensures rows { OnOk result (rows.new ≡ with_parts rows.old (node.join (node.part (node.expr_node e.now) (node.expr_parts e.now)) (node.part (node.block_node (stmts_of a.now)) (node.stmts_parts (stmts_of a.now))))) }
-    ensures parts { OnOk result (parts.new.items ≡ with_numbers rows.old parts.old.items (node.join (node.part (node.expr_node e.now) (node.expr_parts e.now)) (node.part (node.block_node (stmts_of a.now)) (node.stmts_parts (stmts_of a.now))))) }
+    ensures rows { OnOk result (rows.new ≡ with_parts rows.old
+        (node.join (node.part (node.expr_node e.now) (node.expr_parts e.now))
+        (node.part (node.block_node (stmts_of a.now)) (node.stmts_parts (stmts_of a.now))))) }
+    ensures parts { OnOk result (parts.new.items
+        ≡ with_numbers rows.old parts.old.items
+        (node.join (node.part (node.expr_node e.now) (node.expr_parts e.now))
+        (node.part (node.block_node (stmts_of a.now)) (node.stmts_parts (stmts_of a.now))))) }
 {
     push_expr(alloc, rows, parts, e)?;
     push_block(alloc, rows, parts, a)
@@ -136,8 +159,17 @@ fn push_for(
     s: &Option<Expr>,
     a: &[Stmt],
 ) -> Result<(), OutOfMemory>
-    ensures rows { OnOk result (rows.new ≡ with_parts rows.old (node.join (node.init_parts (init_of i.now)) (node.join (node.maybe_expr_parts (maybe_expr t.now)) (node.join (node.maybe_expr_parts (maybe_expr s.now)) (node.part (node.block_node (stmts_of a.now)) (node.stmts_parts (stmts_of a.now))))))) }
-    ensures parts { OnOk result (parts.new.items ≡ with_numbers rows.old parts.old.items (node.join (node.init_parts (init_of i.now)) (node.join (node.maybe_expr_parts (maybe_expr t.now)) (node.join (node.maybe_expr_parts (maybe_expr s.now)) (node.part (node.block_node (stmts_of a.now)) (node.stmts_parts (stmts_of a.now))))))) }
+    ensures rows { OnOk result (rows.new ≡ with_parts rows.old
+        (node.join (node.init_parts (init_of i.now))
+        (node.join (node.maybe_expr_parts (maybe_expr t.now))
+        (node.join (node.maybe_expr_parts (maybe_expr s.now))
+        (node.part (node.block_node (stmts_of a.now)) (node.stmts_parts (stmts_of a.now))))))) }
+    ensures parts { OnOk result (parts.new.items
+        ≡ with_numbers rows.old parts.old.items
+        (node.join (node.init_parts (init_of i.now))
+        (node.join (node.maybe_expr_parts (maybe_expr t.now))
+        (node.join (node.maybe_expr_parts (maybe_expr s.now))
+        (node.part (node.block_node (stmts_of a.now)) (node.stmts_parts (stmts_of a.now))))))) }
 {
     push_init(alloc, rows, parts, i)?;
     push_for_rest(alloc, rows, parts, t, s, a)
@@ -154,8 +186,15 @@ fn push_for_rest(
     s: &Option<Expr>,
     a: &[Stmt],
 ) -> Result<(), OutOfMemory>
-    ensures rows { OnOk result (rows.new ≡ with_parts rows.old (node.join (node.maybe_expr_parts (maybe_expr t.now)) (node.join (node.maybe_expr_parts (maybe_expr s.now)) (node.part (node.block_node (stmts_of a.now)) (node.stmts_parts (stmts_of a.now)))))) }
-    ensures parts { OnOk result (parts.new.items ≡ with_numbers rows.old parts.old.items (node.join (node.maybe_expr_parts (maybe_expr t.now)) (node.join (node.maybe_expr_parts (maybe_expr s.now)) (node.part (node.block_node (stmts_of a.now)) (node.stmts_parts (stmts_of a.now)))))) }
+    ensures rows { OnOk result (rows.new ≡ with_parts rows.old
+        (node.join (node.maybe_expr_parts (maybe_expr t.now))
+        (node.join (node.maybe_expr_parts (maybe_expr s.now))
+        (node.part (node.block_node (stmts_of a.now)) (node.stmts_parts (stmts_of a.now)))))) }
+    ensures parts { OnOk result (parts.new.items
+        ≡ with_numbers rows.old parts.old.items
+        (node.join (node.maybe_expr_parts (maybe_expr t.now))
+        (node.join (node.maybe_expr_parts (maybe_expr s.now))
+        (node.part (node.block_node (stmts_of a.now)) (node.stmts_parts (stmts_of a.now)))))) }
 {
     push_maybe_expr(alloc, rows, parts, t)?;
     push_for_end(alloc, rows, parts, s, a)
@@ -171,8 +210,13 @@ fn push_for_end(
     s: &Option<Expr>,
     a: &[Stmt],
 ) -> Result<(), OutOfMemory>
-    ensures rows { OnOk result (rows.new ≡ with_parts rows.old (node.join (node.maybe_expr_parts (maybe_expr s.now)) (node.part (node.block_node (stmts_of a.now)) (node.stmts_parts (stmts_of a.now))))) }
-    ensures parts { OnOk result (parts.new.items ≡ with_numbers rows.old parts.old.items (node.join (node.maybe_expr_parts (maybe_expr s.now)) (node.part (node.block_node (stmts_of a.now)) (node.stmts_parts (stmts_of a.now))))) }
+    ensures rows { OnOk result (rows.new ≡ with_parts rows.old
+        (node.join (node.maybe_expr_parts (maybe_expr s.now))
+        (node.part (node.block_node (stmts_of a.now)) (node.stmts_parts (stmts_of a.now))))) }
+    ensures parts { OnOk result (parts.new.items
+        ≡ with_numbers rows.old parts.old.items
+        (node.join (node.maybe_expr_parts (maybe_expr s.now))
+        (node.part (node.block_node (stmts_of a.now)) (node.stmts_parts (stmts_of a.now))))) }
 {
     push_maybe_expr(alloc, rows, parts, s)?;
     push_block(alloc, rows, parts, a)
@@ -188,8 +232,15 @@ fn push_for_in(
     e: &Expr,
     a: &[Stmt],
 ) -> Result<(), OutOfMemory>
-    ensures rows { OnOk result (rows.new ≡ with_parts rows.old (node.join (node.part (node.expr_node t.now) (node.expr_parts t.now)) (node.join (node.part (node.expr_node e.now) (node.expr_parts e.now)) (node.part (node.block_node (stmts_of a.now)) (node.stmts_parts (stmts_of a.now)))))) }
-    ensures parts { OnOk result (parts.new.items ≡ with_numbers rows.old parts.old.items (node.join (node.part (node.expr_node t.now) (node.expr_parts t.now)) (node.join (node.part (node.expr_node e.now) (node.expr_parts e.now)) (node.part (node.block_node (stmts_of a.now)) (node.stmts_parts (stmts_of a.now)))))) }
+    ensures rows { OnOk result (rows.new ≡ with_parts rows.old
+        (node.join (node.part (node.expr_node t.now) (node.expr_parts t.now))
+        (node.join (node.part (node.expr_node e.now) (node.expr_parts e.now))
+        (node.part (node.block_node (stmts_of a.now)) (node.stmts_parts (stmts_of a.now)))))) }
+    ensures parts { OnOk result (parts.new.items
+        ≡ with_numbers rows.old parts.old.items
+        (node.join (node.part (node.expr_node t.now) (node.expr_parts t.now))
+        (node.join (node.part (node.expr_node e.now) (node.expr_parts e.now))
+        (node.part (node.block_node (stmts_of a.now)) (node.stmts_parts (stmts_of a.now)))))) }
 {
     push_expr(alloc, rows, parts, t)?;
     push_expr(alloc, rows, parts, e)?;
@@ -207,8 +258,15 @@ fn push_try(
     c: &Option<Catch>,
     l: &Option<Vec<Stmt>>,
 ) -> Result<(), OutOfMemory>
-    ensures rows { OnOk result (rows.new ≡ with_parts rows.old (node.join (node.part (node.block_node (stmts_of a.now)) (node.stmts_parts (stmts_of a.now))) (node.join (node.catch_parts (catch_of c.now)) (node.maybe_stmts_parts (maybe_stmts (option_map (λ v. v.items) l.now)))))) }
-    ensures parts { OnOk result (parts.new.items ≡ with_numbers rows.old parts.old.items (node.join (node.part (node.block_node (stmts_of a.now)) (node.stmts_parts (stmts_of a.now))) (node.join (node.catch_parts (catch_of c.now)) (node.maybe_stmts_parts (maybe_stmts (option_map (λ v. v.items) l.now)))))) }
+    ensures rows { OnOk result (rows.new ≡ with_parts rows.old
+        (node.join (node.part (node.block_node (stmts_of a.now))
+        (node.stmts_parts (stmts_of a.now))) (node.join (node.catch_parts (catch_of c.now))
+        (node.maybe_stmts_parts (maybe_stmts (option_map (λ v. v.items) l.now)))))) }
+    ensures parts { OnOk result (parts.new.items
+        ≡ with_numbers rows.old parts.old.items
+        (node.join (node.part (node.block_node (stmts_of a.now))
+        (node.stmts_parts (stmts_of a.now))) (node.join (node.catch_parts (catch_of c.now))
+        (node.maybe_stmts_parts (maybe_stmts (option_map (λ v. v.items) l.now)))))) }
 {
     push_block(alloc, rows, parts, a)?;
     push_handlers(alloc, rows, parts, c, l)
@@ -224,8 +282,13 @@ fn push_handlers(
     c: &Option<Catch>,
     l: &Option<Vec<Stmt>>,
 ) -> Result<(), OutOfMemory>
-    ensures rows { OnOk result (rows.new ≡ with_parts rows.old (node.join (node.catch_parts (catch_of c.now)) (node.maybe_stmts_parts (maybe_stmts (option_map (λ v. v.items) l.now))))) }
-    ensures parts { OnOk result (parts.new.items ≡ with_numbers rows.old parts.old.items (node.join (node.catch_parts (catch_of c.now)) (node.maybe_stmts_parts (maybe_stmts (option_map (λ v. v.items) l.now))))) }
+    ensures rows { OnOk result (rows.new ≡ with_parts rows.old
+        (node.join (node.catch_parts (catch_of c.now))
+        (node.maybe_stmts_parts (maybe_stmts (option_map (λ v. v.items) l.now))))) }
+    ensures parts { OnOk result (parts.new.items
+        ≡ with_numbers rows.old parts.old.items
+        (node.join (node.catch_parts (catch_of c.now))
+        (node.maybe_stmts_parts (maybe_stmts (option_map (λ v. v.items) l.now))))) }
 {
     push_catch(alloc, rows, parts, c)?;
     push_maybe_block(alloc, rows, parts, l)
@@ -240,8 +303,13 @@ fn push_switch(
     e: &Expr,
     cs: &[Case],
 ) -> Result<(), OutOfMemory>
-    ensures rows { OnOk result (rows.new ≡ with_parts rows.old (node.join (node.part (node.expr_node e.now) (node.expr_parts e.now)) (node.cases_parts (cases_of cs.now)))) }
-    ensures parts { OnOk result (parts.new.items ≡ with_numbers rows.old parts.old.items (node.join (node.part (node.expr_node e.now) (node.expr_parts e.now)) (node.cases_parts (cases_of cs.now)))) }
+    ensures rows { OnOk result (rows.new ≡ with_parts rows.old
+        (node.join (node.part (node.expr_node e.now) (node.expr_parts e.now))
+        (node.cases_parts (cases_of cs.now)))) }
+    ensures parts { OnOk result (parts.new.items
+        ≡ with_numbers rows.old parts.old.items
+        (node.join (node.part (node.expr_node e.now) (node.expr_parts e.now))
+        (node.cases_parts (cases_of cs.now)))) }
 {
     push_expr(alloc, rows, parts, e)?;
     push_cases(alloc, rows, parts, cs)
@@ -255,8 +323,11 @@ fn push_block(
     parts: &mut Vec<u32>,
     ss: &[Stmt],
 ) -> Result<(), OutOfMemory>
-    ensures rows { OnOk result (rows.new ≡ with_parts rows.old (node.part (node.block_node (stmts_of ss.now)) (node.stmts_parts (stmts_of ss.now)))) }
-    ensures parts { OnOk result (parts.new.items ≡ with_numbers rows.old parts.old.items (node.part (node.block_node (stmts_of ss.now)) (node.stmts_parts (stmts_of ss.now)))) }
+    ensures rows { OnOk result (rows.new ≡ with_parts rows.old
+        (node.part (node.block_node (stmts_of ss.now)) (node.stmts_parts (stmts_of ss.now)))) }
+    ensures parts { OnOk result (parts.new.items
+        ≡ with_numbers rows.old parts.old.items
+        (node.part (node.block_node (stmts_of ss.now)) (node.stmts_parts (stmts_of ss.now)))) }
 {
     let number = push_body(alloc, rows, ss)?;
     parts.push(number)?;
@@ -266,8 +337,10 @@ fn push_block(
 /// Numbers statements in turn, and gives the number.
 #[cycle(statements)]
 pub fn push_body(alloc: Global, rows: &mut Rows, ss: &[Stmt]) -> Result<u32, OutOfMemory>
-    ensures rows { OnOk result (rows.new ≡ with_parts rows.old (node.part (node.block_node (stmts_of ss.now)) (node.stmts_parts (stmts_of ss.now)))) }
-    ensures number { IfOk result (λ number. number ≡ length (with_parts rows.old (node.stmts_parts (stmts_of ss.now)))) }
+    ensures rows { OnOk result (rows.new ≡ with_parts rows.old
+        (node.part (node.block_node (stmts_of ss.now)) (node.stmts_parts (stmts_of ss.now)))) }
+    ensures number { IfOk result (λ number. number
+        ≡ length (with_parts rows.old (node.stmts_parts (stmts_of ss.now)))) }
 {
     let mut inside = Vec::new(alloc);
     push_stmts(alloc, rows, &mut inside, ss)?;
@@ -282,8 +355,10 @@ fn push_stmts(
     parts: &mut Vec<u32>,
     ss: &[Stmt],
 ) -> Result<(), OutOfMemory>
-    ensures rows { OnOk result (rows.new ≡ with_parts rows.old (node.stmts_parts (stmts_of ss.now))) }
-    ensures parts { OnOk result (parts.new.items ≡ with_numbers rows.old parts.old.items (node.stmts_parts (stmts_of ss.now))) }
+    ensures rows { OnOk result (rows.new ≡ with_parts rows.old
+        (node.stmts_parts (stmts_of ss.now))) }
+    ensures parts { OnOk result (parts.new.items
+        ≡ with_numbers rows.old parts.old.items (node.stmts_parts (stmts_of ss.now))) }
 {
     let mut rest = ss;
     while let [s, after @ ..] = rest {
@@ -301,8 +376,11 @@ fn push_maybe_block(
     parts: &mut Vec<u32>,
     b: &Option<Vec<Stmt>>,
 ) -> Result<(), OutOfMemory>
-    ensures rows { OnOk result (rows.new ≡ with_parts rows.old (node.maybe_stmts_parts (maybe_stmts (option_map (λ v. v.items) b.now)))) }
-    ensures parts { OnOk result (parts.new.items ≡ with_numbers rows.old parts.old.items (node.maybe_stmts_parts (maybe_stmts (option_map (λ v. v.items) b.now)))) }
+    ensures rows { OnOk result (rows.new ≡ with_parts rows.old
+        (node.maybe_stmts_parts (maybe_stmts (option_map (λ v. v.items) b.now)))) }
+    ensures parts { OnOk result (parts.new.items
+        ≡ with_numbers rows.old parts.old.items
+        (node.maybe_stmts_parts (maybe_stmts (option_map (λ v. v.items) b.now)))) }
 {
     match b {
         None => {
@@ -321,8 +399,10 @@ fn push_catch(
     parts: &mut Vec<u32>,
     c: &Option<Catch>,
 ) -> Result<(), OutOfMemory>
-    ensures rows { OnOk result (rows.new ≡ with_parts rows.old (node.catch_parts (catch_of c.now))) }
-    ensures parts { OnOk result (parts.new.items ≡ with_numbers rows.old parts.old.items (node.catch_parts (catch_of c.now))) }
+    ensures rows { OnOk result (rows.new ≡ with_parts rows.old
+        (node.catch_parts (catch_of c.now))) }
+    ensures parts { OnOk result (parts.new.items
+        ≡ with_numbers rows.old parts.old.items (node.catch_parts (catch_of c.now))) }
 {
     match c {
         None => {
@@ -341,8 +421,10 @@ fn push_declarators(
     parts: &mut Vec<u32>,
     ds: &[Declarator],
 ) -> Result<(), OutOfMemory>
-    ensures rows { OnOk result (rows.new ≡ with_parts rows.old (node.declarators_parts (declarators_of ds.now))) }
-    ensures parts { OnOk result (parts.new.items ≡ with_numbers rows.old parts.old.items (node.declarators_parts (declarators_of ds.now))) }
+    ensures rows { OnOk result (rows.new ≡ with_parts rows.old
+        (node.declarators_parts (declarators_of ds.now))) }
+    ensures parts { OnOk result (parts.new.items
+        ≡ with_numbers rows.old parts.old.items (node.declarators_parts (declarators_of ds.now))) }
 {
     let mut rest = ds;
     while let [d, after @ ..] = rest {
@@ -360,8 +442,10 @@ fn push_declarator(
     x: &Units,
     e: &Option<Expr>,
 ) -> Result<(), OutOfMemory>
-    ensures rows { OnOk result (rows.new ≡ with_parts rows.old (node.declarator_parts x.now (maybe_expr e.now))) }
-    ensures parts { OnOk result (parts.new.items ≡ with_numbers rows.old parts.old.items (node.declarator_parts x.now (maybe_expr e.now))) }
+    ensures rows { OnOk result (rows.new ≡ with_parts rows.old
+        (node.declarator_parts x.now (maybe_expr e.now))) }
+    ensures parts { OnOk result (parts.new.items
+        ≡ with_numbers rows.old parts.old.items (node.declarator_parts x.now (maybe_expr e.now))) }
 {
     match e {
         None => Ok(()),
@@ -377,8 +461,13 @@ fn push_initialiser(
     x: &Units,
     e: &Expr,
 ) -> Result<(), OutOfMemory>
-    ensures rows { OnOk result (rows.new ≡ with_parts rows.old (node.part (node.declarator_node x.now e.now) (node.part (node.expr_node e.now) (node.expr_parts e.now)))) }
-    ensures parts { OnOk result (parts.new.items ≡ with_numbers rows.old parts.old.items (node.part (node.declarator_node x.now e.now) (node.part (node.expr_node e.now) (node.expr_parts e.now)))) }
+    ensures rows { OnOk result (rows.new ≡ with_parts rows.old
+        (node.part (node.declarator_node x.now e.now)
+        (node.part (node.expr_node e.now) (node.expr_parts e.now)))) }
+    ensures parts { OnOk result (parts.new.items
+        ≡ with_numbers rows.old parts.old.items
+        (node.part (node.declarator_node x.now e.now)
+        (node.part (node.expr_node e.now) (node.expr_parts e.now)))) }
 {
     let mut inside = Vec::new(alloc);
     push_expr(alloc, rows, &mut inside, e)?;
@@ -393,7 +482,8 @@ fn push_init(
     i: &ForInit,
 ) -> Result<(), OutOfMemory>
     ensures rows { OnOk result (rows.new ≡ with_parts rows.old (node.init_parts (init_of i.now))) }
-    ensures parts { OnOk result (parts.new.items ≡ with_numbers rows.old parts.old.items (node.init_parts (init_of i.now))) }
+    ensures parts { OnOk result (parts.new.items
+        ≡ with_numbers rows.old parts.old.items (node.init_parts (init_of i.now))) }
 {
     match i {
         ForInit::Nothing => {
@@ -412,8 +502,13 @@ fn push_var(
     parts: &mut Vec<u32>,
     ds: &[Declarator],
 ) -> Result<(), OutOfMemory>
-    ensures rows { OnOk result (rows.new ≡ with_parts rows.old (node.part (node.stmt_node (tree.var (declarators_of ds.now))) (node.declarators_parts (declarators_of ds.now)))) }
-    ensures parts { OnOk result (parts.new.items ≡ with_numbers rows.old parts.old.items (node.part (node.stmt_node (tree.var (declarators_of ds.now))) (node.declarators_parts (declarators_of ds.now)))) }
+    ensures rows { OnOk result (rows.new ≡ with_parts rows.old
+        (node.part (node.stmt_node (tree.var (declarators_of ds.now)))
+        (node.declarators_parts (declarators_of ds.now)))) }
+    ensures parts { OnOk result (parts.new.items
+        ≡ with_numbers rows.old parts.old.items
+        (node.part (node.stmt_node (tree.var (declarators_of ds.now)))
+        (node.declarators_parts (declarators_of ds.now)))) }
 {
     let mut inside = Vec::new(alloc);
     push_declarators(alloc, rows, &mut inside, ds)?;
@@ -429,8 +524,10 @@ fn push_cases(
     parts: &mut Vec<u32>,
     cs: &[Case],
 ) -> Result<(), OutOfMemory>
-    ensures rows { OnOk result (rows.new ≡ with_parts rows.old (node.cases_parts (cases_of cs.now))) }
-    ensures parts { OnOk result (parts.new.items ≡ with_numbers rows.old parts.old.items (node.cases_parts (cases_of cs.now))) }
+    ensures rows { OnOk result (rows.new ≡ with_parts rows.old
+        (node.cases_parts (cases_of cs.now))) }
+    ensures parts { OnOk result (parts.new.items
+        ≡ with_numbers rows.old parts.old.items (node.cases_parts (cases_of cs.now))) }
 {
     let mut rest = cs;
     while let [case, after @ ..] = rest {
@@ -450,8 +547,13 @@ fn push_case(
     e: &Option<Expr>,
     ss: &[Stmt],
 ) -> Result<(), OutOfMemory>
-    ensures rows { OnOk result (rows.new ≡ with_parts rows.old (node.join (node.maybe_expr_parts (maybe_expr e.now)) (node.part (node.block_node (stmts_of ss.now)) (node.stmts_parts (stmts_of ss.now))))) }
-    ensures parts { OnOk result (parts.new.items ≡ with_numbers rows.old parts.old.items (node.join (node.maybe_expr_parts (maybe_expr e.now)) (node.part (node.block_node (stmts_of ss.now)) (node.stmts_parts (stmts_of ss.now))))) }
+    ensures rows { OnOk result (rows.new ≡ with_parts rows.old
+        (node.join (node.maybe_expr_parts (maybe_expr e.now))
+        (node.part (node.block_node (stmts_of ss.now)) (node.stmts_parts (stmts_of ss.now))))) }
+    ensures parts { OnOk result (parts.new.items
+        ≡ with_numbers rows.old parts.old.items
+        (node.join (node.maybe_expr_parts (maybe_expr e.now))
+        (node.part (node.block_node (stmts_of ss.now)) (node.stmts_parts (stmts_of ss.now))))) }
 {
     push_maybe_expr(alloc, rows, parts, e)?;
     push_block(alloc, rows, parts, ss)

@@ -6,9 +6,9 @@ ghost use Rattle.js_core.specs.Tree.{stmts_of, maybe_stmts};
 ghost use Rattle.js_core.specs.Views.{declarators_of, init_of, catch_of, cases_of};
 ghost use Rattle.code_table.specs.Declarations as spec;
 
-use js_core::memory::OutOfMemory;
-use js_core::syntax::{Case, Catch, Declarator, Expr, ExprNode, ForInit, Stmt, StmtNode};
-use js_core::units::Units;
+use js_core::{
+    Case, Catch, Declarator, Expr, ExprNode, ForInit, OutOfMemory, Stmt, StmtNode, Units,
+};
 
 /// Appends the names that statements declare, in source order.
 #[cycle(declaring)]
@@ -71,7 +71,8 @@ fn push_stmt_variables(s: &Stmt, out: &mut Vec<Units>) -> Result<(), OutOfMemory
 }
 
 fn push_declarators(ds: &[Declarator], out: &mut Vec<Units>) -> Result<(), OutOfMemory>
-    ensures { OnOk result (out.new.items ≡ out.old.items ++ spec.declarator_names (declarators_of ds.now)) }
+    ensures { OnOk result (out.new.items ≡ out.old.items
+        ++ spec.declarator_names (declarators_of ds.now)) }
 {
     let mut rest = ds;
     while let [d, after @ ..] = rest {
@@ -115,7 +116,8 @@ fn push_name(target: &Expr, out: &mut Vec<Units>) -> Result<(), OutOfMemory>
 
 #[cycle(declaring)]
 fn push_body_variables(body: &Option<Vec<Stmt>>, out: &mut Vec<Units>) -> Result<(), OutOfMemory>
-    ensures { OnOk result (out.new.items ≡ out.old.items ++ spec.body_variables (maybe_stmts (option_map (λ v. v.items) body.now))) }
+    ensures { OnOk result (out.new.items ≡ out.old.items
+        ++ spec.body_variables (maybe_stmts (option_map (λ v. v.items) body.now))) }
 {
     match body {
         None => Ok(()),
@@ -125,7 +127,8 @@ fn push_body_variables(body: &Option<Vec<Stmt>>, out: &mut Vec<Units>) -> Result
 
 #[cycle(declaring)]
 fn push_catch_variables(catch: &Option<Catch>, out: &mut Vec<Units>) -> Result<(), OutOfMemory>
-    ensures { OnOk result (out.new.items ≡ out.old.items ++ spec.catch_variables (catch_of catch.now)) }
+    ensures { OnOk result (out.new.items ≡ out.old.items
+        ++ spec.catch_variables (catch_of catch.now)) }
 {
     match catch {
         None => Ok(()),
@@ -135,7 +138,8 @@ fn push_catch_variables(catch: &Option<Catch>, out: &mut Vec<Units>) -> Result<(
 
 #[cycle(declaring)]
 fn push_case_variables(cases: &[Case], out: &mut Vec<Units>) -> Result<(), OutOfMemory>
-    ensures { OnOk result (out.new.items ≡ out.old.items ++ spec.case_variables (cases_of cases.now)) }
+    ensures { OnOk result (out.new.items ≡ out.old.items
+        ++ spec.case_variables (cases_of cases.now)) }
 {
     let mut rest = cases;
     while let [case, after @ ..] = rest {

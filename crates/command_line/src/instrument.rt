@@ -6,8 +6,7 @@ ghost use Rattle.command_line.specs.Texts.{PutsText};
 
 use crate::reading::read_opened;
 use crate::status::Status;
-use page_io::files::Files;
-use page_io::sink::Sink;
+use page_io::{Files, Sink};
 use std::alloc::Global;
 
 /// Writes the page of this name with opened scopes, where it is accepted.

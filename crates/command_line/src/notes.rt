@@ -7,8 +7,8 @@ use crate::status::Status;
 use heap_walker::Weight;
 use itoa::Buffer;
 use page_check::Refusal;
-use page_io::sink::{PutFault, Sink};
-use scope_analysis::early_rule::EarlyRule;
+use page_io::{PutFault, Sink};
+use scope_analysis::EarlyRule;
 
 // Puts two pieces, the second one where the first was taken.
 fn put_two<N: Sink>(notes: &mut N, first: &[u8], second: &[u8]) -> Result<(), PutFault>

@@ -14,9 +14,7 @@ use crate::notes::write_note;
 use crate::replay::replay;
 use crate::save::save;
 use crate::status::Status;
-use page_io::files::Files;
-use page_io::keeper::Keeper;
-use page_io::sink::Sink;
+use page_io::{Files, Keeper, Sink};
 use std::alloc::Global;
 
 // Does what the words ask for.

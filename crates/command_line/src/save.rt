@@ -11,8 +11,7 @@ use crate::status::Status;
 use moved_pages::{law_accepted_scripts_are_in_form, law_moved_pages_go_on};
 use opened_pages::{law_opened_pages_are_accepted, law_opened_pages_put_out_the_same};
 use page_check::law_one_answer;
-use page_io::files::Files;
-use page_io::sink::Sink;
+use page_io::{Files, Sink};
 use std::alloc::Global;
 
 /// Writes the page of this name as it is after the events. The order is: reading and accepting the page, reading the

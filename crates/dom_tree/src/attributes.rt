@@ -6,8 +6,7 @@ ghost use Rattle.dom_tree.specs.Attributes.{value_of, with_value_of, without_val
 ghost use Rattle.dom_tree.specs.Name.{folded};
 
 use crate::names::{fold, is_folded_to};
-use js_core::memory::OutOfMemory;
-use js_core::units::Units;
+use js_core::{OutOfMemory, Units};
 use std::alloc::Global;
 use std::marker::Model;
 

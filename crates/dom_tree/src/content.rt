@@ -4,7 +4,7 @@ ghost use Rattle.std.specs.Prelude.{◌≡◌};
 ghost use Rattle.dom_tree.specs.Node.{is_document, is_element, is_text, may_have_children};
 
 use crate::attributes::Attributes;
-use js_core::units::Units;
+use js_core::Units;
 
 /// What kind of node it is (DOM Level 2 Core, interface Node), with what only nodes of this kind have.
 #[derive(Debug, Drop)]

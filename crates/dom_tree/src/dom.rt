@@ -38,9 +38,8 @@ use crate::content::{Content, Kind};
 use crate::fault::DomFault;
 use crate::links::{Linked, Links, link_in, link_out};
 use crate::names::is_name;
-use js_core::memory::OutOfMemory;
-use js_core::units::Units;
-use js_values::ids::NodeId;
+use js_core::{OutOfMemory, Units};
+use js_values::NodeId;
 use std::alloc::Global;
 use std::marker::Model;
 
@@ -189,7 +188,8 @@ impl Dom {
     pub fn set_text(&mut self, node: NodeId, text: Units)
         requires there { node.0 < length self.old }
         requires text { IsTrue (has_text (node_at self.old node.0).content.kind) }
-        ensures { self.new ≡ with_content self.old node (with_text (node_at self.old node.0).content text) }
+        ensures { self.new ≡ with_content self.old node
+            (with_text (node_at self.old node.0).content text) }
     {
         let kind = &mut self.nodes[node.0 as usize].content.kind;
         *kind = kind_with_text(kind, text);
@@ -199,7 +199,8 @@ impl Dom {
     pub fn set_value(&mut self, node: NodeId, text: Units)
         requires there { node.0 < length self.old }
         requires value { IsTrue (takes_value (node_at self.old node.0).content.kind) }
-        ensures { self.new ≡ with_content self.old node (with_value (node_at self.old node.0).content text) }
+        ensures { self.new ≡ with_content self.old node
+            (with_value (node_at self.old node.0).content text) }
     {
         self.nodes[node.0 as usize].content.value = Some(text);
     }
@@ -214,7 +215,8 @@ impl Dom {
     ) -> Result<(), DomFault>
         requires there { node.0 < length self.old }
         requires element { IsTrue (is_element (node_at self.old node.0).content.kind) }
-        ensures ok { OnOk result (self.new ≡ with_content self.old node (with_attribute (node_at self.old node.0).content name.now value.now)) }
+        ensures ok { OnOk result (self.new ≡ with_content self.old node
+            (with_attribute (node_at self.old node.0).content name.now value.now)) }
         ensures named { OnOk result (is_name name.now ≡ true) }
         ensures err { IfErr result (λ e. IsNameFault name.now e) }
         ensures kept { OnErr result (self.new ≡ self.old) }
@@ -232,7 +234,8 @@ impl Dom {
     pub fn remove_attribute(&mut self, node: NodeId, name: &Units)
         requires there { node.0 < length self.old }
         requires element { IsTrue (is_element (node_at self.old node.0).content.kind) }
-        ensures { self.new ≡ with_content self.old node (without_attribute (node_at self.old node.0).content name.now) }
+        ensures { self.new ≡ with_content self.old node
+            (without_attribute (node_at self.old node.0).content name.now) }
     {
         let attributes = &mut self.nodes[node.0 as usize].content.attributes;
         attributes.remove(name);

@@ -2,7 +2,7 @@
 
 ghost use Rattle.std.specs.Prelude.{◌≡◌};
 
-use js_core::memory::OutOfMemory;
+use js_core::OutOfMemory;
 
 /// Why a call on nodes did not do what it was asked.
 #[derive(Clone, Copy, Debug, PartialEq, Eq)]

@@ -6,7 +6,7 @@ ghost use Rattle.dom_tree.specs.Change.{Answers, breaks_hierarchy, has_other_ele
 
 use crate::dom::{Dom, is_this};
 use crate::fault::DomFault;
-use js_values::ids::NodeId;
+use js_values::NodeId;
 
 impl Dom {
     /// Puts the child under the parent, directly before the reference, which is a child of the parent, or at the end. A
@@ -23,7 +23,8 @@ impl Dom {
         requires parent { parent.0 < length self.old }
         requires child { child.0 < length self.old }
         requires before { ForSome before (λ r. r.0 < length self.old) }
-        ensures { Answers (insertion_fault self.old parent child before) (inserted self.old parent child before) self.old self.new result }
+        ensures { Answers (insertion_fault self.old parent child before)
+            (inserted self.old parent child before) self.old self.new result }
     {
         self.recall_sound();
         if self.breaks_hierarchy(parent, child) {
@@ -45,7 +46,8 @@ impl Dom {
     pub fn remove_child(&mut self, parent: NodeId, child: NodeId) -> Result<(), DomFault>
         requires parent { parent.0 < length self.old }
         requires child { child.0 < length self.old }
-        ensures { Answers (removal_fault self.old parent child) (taken_out self.old child) self.old self.new result }
+        ensures { Answers (removal_fault self.old parent child)
+            (taken_out self.old child) self.old self.new result }
     {
         if self.is_missing(parent, Some(child)) {
             return Err(DomFault::NotFound);

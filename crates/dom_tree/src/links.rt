@@ -5,7 +5,7 @@ ghost use Rattle.std.specs.Option.{ForSome};
 ghost use Rattle.dom_tree.specs.Links.{backward, beside, forward, joined, linked_in, linked_out, place_of, with_backward, with_forward, with_link_up};
 
 use crate::content::Content;
-use js_values::ids::NodeId;
+use js_values::NodeId;
 
 /// The parent of a node, its first and its last child, and the nodes beside it under its parent.
 #[derive(Clone, Copy, Debug)]

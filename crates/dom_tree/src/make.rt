@@ -14,8 +14,8 @@ use crate::content::{Content, Kind};
 use crate::dom::Dom;
 use crate::fault::DomFault;
 use crate::names::{fold, is_name};
-use js_core::units::Units;
-use js_values::ids::NodeId;
+use js_core::Units;
+use js_values::NodeId;
 use std::alloc::Global;
 
 impl Dom {
@@ -23,7 +23,8 @@ impl Dom {
     /// an error nothing has changed.
     pub fn create_element(&mut self, alloc: Global, name: &Units) -> Result<NodeId, DomFault>
         ensures id { IfOk result (λ at. at.0 ≡ length self.old) }
-        ensures ok { OnOk result (self.new ≡ with_new self.old (new_content (kind.Element (folded name.now)))) }
+        ensures ok { OnOk result (self.new ≡ with_new self.old
+            (new_content (kind.Element (folded name.now)))) }
         ensures named { OnOk result (is_name name.now ≡ true) }
         ensures err { IfErr result (λ e. IsNameFault name.now e) }
         ensures kept { OnErr result (self.new ≡ self.old) }
@@ -49,7 +50,8 @@ impl Dom {
     /// A new comment, alone. The only error is want of memory, after which nothing has changed.
     pub fn create_comment(&mut self, alloc: Global, text: &Units) -> Result<NodeId, DomFault>
         ensures id { IfOk result (λ at. at.0 ≡ length self.old) }
-        ensures ok { OnOk result (self.new ≡ with_new self.old (new_content (kind.Comment text.now))) }
+        ensures ok { OnOk result (self.new ≡ with_new self.old
+            (new_content (kind.Comment text.now))) }
         ensures err { IfErr result (λ e. e ≡ fault.OutOfMemory) }
         ensures kept { OnErr result (self.new ≡ self.old) }
     {
@@ -104,7 +106,8 @@ impl Dom {
     /// The value of the attribute whose name is this one in lower case, or `None` exactly where there is none.
     pub fn attribute(&self, node: NodeId, name: &Units) -> Option<&Units>
         requires { node.0 < length self.now }
-        ensures { option_copied result ≡ value_of (folded name.now) (node_at self.now node.0).content.attributes }
+        ensures { option_copied result ≡ value_of (folded name.now)
+            (node_at self.now node.0).content.attributes }
     {
         self.content(node).attributes.get(name)
     }
@@ -112,7 +115,8 @@ impl Dom {
     /// The attribute at the place, in order of first setting, or `None` exactly past the last.
     pub fn attribute_at(&self, node: NodeId, index: u64) -> Option<(&Units, &Units)>
         requires { node.0 < length self.now }
-        ensures { option_map deref_pair result ≡ slice_get (node_at self.now node.0).content.attributes index }
+        ensures { option_map deref_pair result
+            ≡ slice_get (node_at self.now node.0).content.attributes index }
     {
         self.content(node).attributes.at(index as usize)
     }

@@ -5,8 +5,7 @@ ghost use Rattle.dom_tree.specs.Name.{folded, is_name, is_name_part, is_name_sta
 ghost use Rattle.std.specs.Char.{to_ascii_lowercase};
 ghost use Rattle.std.specs.List.{list_all};
 
-use js_core::memory::OutOfMemory;
-use js_core::units::Units;
+use js_core::{OutOfMemory, Units};
 use std::alloc::Global;
 
 /// Whether the text is a name: an ASCII letter, `_` or `:`, and then such characters, ASCII digits, `-` or `.`.

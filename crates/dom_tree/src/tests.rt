@@ -6,8 +6,8 @@ ghost use Rattle.std.specs.Option.{ForSome};
 
 use crate::dom::Dom;
 use crate::fault::DomFault;
-use js_core::units::Units;
-use js_values::ids::NodeId;
+use js_core::Units;
+use js_values::NodeId;
 use std::alloc::Global;
 use std::test::Fail;
 

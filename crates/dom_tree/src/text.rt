@@ -22,11 +22,8 @@ use crate::attributes::Attributes;
 use crate::content::Kind;
 use crate::dom::Dom;
 use crate::walk::Visit;
-use js_core::ascii::push_ascii;
-use js_core::limits::TEXT_LIMIT;
-use js_core::memory::OutOfMemory;
-use js_core::units::Units;
-use js_values::ids::NodeId;
+use js_core::{OutOfMemory, TEXT_LIMIT, Units, push_ascii};
+use js_values::NodeId;
 use std::alloc::Global;
 
 const VOID_NAMES: &[&[u8]] = &[
@@ -83,7 +80,10 @@ impl Dom {
     /// The joined text of the text nodes under the node, or `None` exactly where it has more than 1,048,576 units.
     pub fn text_content(&self, alloc: Global, node: NodeId) -> Result<Option<Units>, OutOfMemory>
         requires { node.0 < length self.now }
-        ensures { IfOk result (λ text. MatchOption text (TEXT_LIMIT < length (text_content self.now node)) (λ units. (units ≡ text_content self.now node) × (length (text_content self.now node) ≤ TEXT_LIMIT))) }
+        ensures { IfOk result (λ text. MatchOption text
+            (TEXT_LIMIT < length (text_content self.now node))
+            (λ units. (units ≡ text_content self.now node)
+            × (length (text_content self.now node) ≤ TEXT_LIMIT))) }
     {
         self.recall_sound();
         let mut units = Vec::new(alloc);

@@ -6,8 +6,8 @@ ghost use Rattle.dom_tree.specs.Trees.{find_id, has_id};
 ghost use Rattle.dom_tree.specs.Visits.{IsIn, entered_with_id, visited, visits_after, visits_on};
 
 use crate::dom::Dom;
-use js_core::units::Units;
-use js_values::ids::NodeId;
+use js_core::Units;
+use js_values::NodeId;
 
 /// A step of a walk: a node is entered before the nodes under it, and left after them.
 #[derive(Clone, Copy, Debug)]
@@ -20,7 +20,8 @@ impl Dom {
     /// The visit after this one in a walk of the tree under the root, or `None` at its end.
     pub(crate) fn visit_after(&self, root: NodeId, visit: Visit) -> Option<Visit>
         requires { IsIn self.now root.0 visit }
-        ensures visits { visits_on self.now root.0 (Some visit) ≡ visit ∷ visits_on self.now root.0 result }
+        ensures visits { visits_on self.now root.0 (Some visit) ≡ visit
+            ∷ visits_on self.now root.0 result }
         ensures inside { IfSome result (λ v. IsIn self.now root.0 v) }
     {
         match visit {
@@ -31,7 +32,8 @@ impl Dom {
 
     fn visit_after_entering(&self, root: NodeId, node: NodeId) -> Option<Visit>
         requires { IsIn self.now root.0 (visit.Enter node) }
-        ensures visits { visits_on self.now root.0 (Some (visit.Enter node)) ≡ visit.Enter node ∷ visits_on self.now root.0 result }
+        ensures visits { visits_on self.now root.0 (Some (visit.Enter node)) ≡ visit.Enter node
+            ∷ visits_on self.now root.0 result }
         ensures inside { IfSome result (λ v. IsIn self.now root.0 v) }
     {
         self.recall_sound();

@@ -1,6 +1,6 @@
 //! Why a file holds no events.
 
-use js_core::memory::OutOfMemory;
+use js_core::OutOfMemory;
 use std::alloc::AllocFailed;
 
 /// Why a file holds no list of events.

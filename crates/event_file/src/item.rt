@@ -7,14 +7,10 @@ ghost use Rattle.serde_json.specs.View.{view};
 ghost use Rattle.event_file.specs.Items as spec;
 
 use crate::kind::{Kind, Kinds};
-use js_core::memory::OutOfMemory;
-use js_core::units::Units;
-use js_values::event::Event;
+use js_core::{OutOfMemory, TICK_LIMIT, Units};
+use js_values::Event;
 use serde_json::Value;
 use std::alloc::Global;
-
-/// A tick lasts at most so many milliseconds.
-const LONGEST_TICK: u64 = 1_000_000_000;
 
 // The text at a key.
 fn text_at<'a>(item: &'a Value, key: &str) -> Option<&'a str>
@@ -39,7 +35,7 @@ fn tick_of(item: &Value) -> Option<u64>
     ensures few { IfSome result (λ length. length ≤ longest_tick) }
 {
     let length = item.get("tick").and_then(Value::as_u64)?;
-    if length <= LONGEST_TICK {
+    if length <= TICK_LIMIT {
         Some(length)
     } else {
         None

@@ -11,4 +11,4 @@ mod tests;
 
 pub use fault::EventFault;
 pub use laws::law_numbers_items;
-pub use reading::{MOST_EVENTS, calls, events};
+pub use reading::{calls, events};

@@ -9,12 +9,10 @@ ghost use Rattle.event_file.specs.Events as spec;
 use crate::fault::EventFault;
 use crate::item::to_event;
 use crate::kind::Kinds;
-use js_values::event::Event;
+use js_core::EVENT_LIMIT;
+use js_values::Event;
 use serde_json::Value;
 use std::alloc::Global;
-
-/// A file has at most so many events.
-pub const MOST_EVENTS: u32 = 100_000;
 
 // The events of the items.
 fn each(alloc: Global, kinds: Kinds, items: &[Value]) -> Result<Vec<Event>, EventFault>
@@ -24,7 +22,7 @@ fn each(alloc: Global, kinds: Kinds, items: &[Value]) -> Result<Vec<Event>, Even
     let mut found = Vec::new(alloc);
     let mut number = 1;
     for item in items {
-        if number > MOST_EVENTS {
+        if number > EVENT_LIMIT {
             return Err(EventFault::NotEvents(number));
         }
         match to_event(alloc, kinds, item)? {

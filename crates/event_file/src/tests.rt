@@ -1,6 +1,6 @@
 use crate::{EventFault, calls, events};
-use js_core::units::Units;
-use js_values::event::Event;
+use js_core::Units;
+use js_values::Event;
 use std::test::Fail;
 
 const FILE: &[u8] =

@@ -5,9 +5,8 @@ ghost use Rattle.event_file.specs.Events.{calls_of, events_of};
 ghost use Rattle.event_lines.specs.Answers as spec;
 
 use event_file::{EventFault, calls, events};
-use js_core::memory::OutOfMemory;
-use js_core::units::Units;
-use js_values::event::Event;
+use js_core::{OutOfMemory, Units};
+use js_values::Event;
 use std::alloc::Global;
 
 fn truth_word(truth: bool) -> &'static [u8]
@@ -116,7 +115,8 @@ fn push_reading(
 
 /// Appends what a line is read as.
 pub fn push_events_of(alloc: Global, line: &[u8], out: &mut Vec<u8>) -> Result<(), OutOfMemory>
-    ensures { OnOk result (out.new.items ≡ out.old.items ++ spec.reading_text (events_of line.now)) }
+    ensures { OnOk result (out.new.items ≡ out.old.items
+        ++ spec.reading_text (events_of line.now)) }
 {
     let read = events(alloc, line);
     push_reading(alloc, read, out)

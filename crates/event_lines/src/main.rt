@@ -7,7 +7,7 @@ ghost use Rattle.event_lines.specs.Answers as spec;
 mod answer;
 
 use answer::{push_calls_of, push_events_of};
-use js_core::memory::OutOfMemory;
+use js_core::OutOfMemory;
 use std::alloc::Global;
 use std::io;
 use std::io::Write;

@@ -12,10 +12,8 @@ use crate::grammar::Grammar;
 use crate::lists::{further, separated};
 use crate::nodes;
 use crate::operators::{assignment_of, prefix_of};
-use js_core::syntax::{Expr, Stmt};
-use js_core::token::Punct;
-use js_grammar::operators::Level;
-use js_grammar::sign::Sign;
+use js_core::{Expr, Punct, Stmt};
+use js_grammar::{Level, Sign};
 use std::alloc::Global;
 
 /// The expression with these parts: the part, where it is the only one.
@@ -39,8 +37,10 @@ impl<
         level: Level,
         tokens: &mut Cursor<'_>,
     ) -> Result<Expr, ParseFault>
-        requires { Nests self.now.depth (E.pre self.now.expression) (E.post self.now.expression) (B.pre self.now.body) (B.post self.now.body) }
-        ensures { Reads (reader.at_level limit (expression_in self.now.depth) (body_in self.now.depth) inn level tokens.old) result tokens.new }
+        requires { Nests self.now.depth (E.pre self.now.expression) (E.post self.now.expression)
+            (B.pre self.now.body) (B.post self.now.body) }
+        ensures { Reads (reader.at_level limit (expression_in self.now.depth)
+            (body_in self.now.depth) inn level tokens.old) result tokens.new }
     {
         match level {
             Level::Sequence => self.all(inn, tokens),
@@ -53,8 +53,10 @@ impl<
     /// Reads an expression, with commas.
     #[tactic(auto, unfolding(js_grammar::specs::ExpressionReader::all))]
     pub fn all(&self, inn: bool, tokens: &mut Cursor<'_>) -> Result<Expr, ParseFault>
-        requires { Nests self.now.depth (E.pre self.now.expression) (E.post self.now.expression) (B.pre self.now.body) (B.post self.now.body) }
-        ensures { Reads (reader.all limit (expression_in self.now.depth) (body_in self.now.depth) inn tokens.old) result tokens.new }
+        requires { Nests self.now.depth (E.pre self.now.expression) (E.post self.now.expression)
+            (B.pre self.now.body) (B.post self.now.body) }
+        ensures { Reads (reader.all limit (expression_in self.now.depth)
+            (body_in self.now.depth) inn tokens.old) result tokens.new }
     {
         let parts = self.items(inn, tokens)?;
         joined(parts)
@@ -62,8 +64,10 @@ impl<
 
     /// Reads assignment expressions with commas between them.
     fn items(&self, inn: bool, tokens: &mut Cursor<'_>) -> Result<Vec<Expr>, ParseFault>
-        requires { Nests self.now.depth (E.pre self.now.expression) (E.post self.now.expression) (B.pre self.now.body) (B.post self.now.body) }
-        ensures { ReadsAll (separated (reader.one limit (expression_in self.now.depth) (body_in self.now.depth) inn) tokens.old) result tokens.new }
+        requires { Nests self.now.depth (E.pre self.now.expression) (E.post self.now.expression)
+            (B.pre self.now.body) (B.post self.now.body) }
+        ensures { ReadsAll (separated (reader.one limit (expression_in self.now.depth)
+            (body_in self.now.depth) inn) tokens.old) result tokens.new }
     {
         separated(self.alloc, tokens, |tokens| self.one(inn, tokens))
     }
@@ -76,8 +80,10 @@ impl<
         first: Expr,
         tokens: &mut Cursor<'_>,
     ) -> Result<Expr, ParseFault>
-        requires { Nests self.now.depth (E.pre self.now.expression) (E.post self.now.expression) (B.pre self.now.body) (B.post self.now.body) }
-        ensures { Reads (reader.all_from limit (expression_in self.now.depth) (body_in self.now.depth) inn first tokens.old) result tokens.new }
+        requires { Nests self.now.depth (E.pre self.now.expression) (E.post self.now.expression)
+            (B.pre self.now.body) (B.post self.now.body) }
+        ensures { Reads (reader.all_from limit (expression_in self.now.depth)
+            (body_in self.now.depth) inn first tokens.old) result tokens.new }
     {
         let parts = self.more_items(inn, first, tokens)?;
         joined(parts)
@@ -90,8 +96,10 @@ impl<
         first: Expr,
         tokens: &mut Cursor<'_>,
     ) -> Result<Vec<Expr>, ParseFault>
-        requires { Nests self.now.depth (E.pre self.now.expression) (E.post self.now.expression) (B.pre self.now.body) (B.post self.now.body) }
-        ensures { ReadsAll (reader.more_items limit (expression_in self.now.depth) (body_in self.now.depth) inn first tokens.old) result tokens.new }
+        requires { Nests self.now.depth (E.pre self.now.expression) (E.post self.now.expression)
+            (B.pre self.now.body) (B.post self.now.body) }
+        ensures { ReadsAll (reader.more_items limit (expression_in self.now.depth)
+            (body_in self.now.depth) inn first tokens.old) result tokens.new }
     {
         let mut found = Vec::new(self.alloc);
         found.push(first)?;
@@ -101,8 +109,10 @@ impl<
     /// Reads an assignment expression.
     #[tactic(auto, unfolding(js_grammar::specs::ExpressionReader::one))]
     pub fn one(&self, inn: bool, tokens: &mut Cursor<'_>) -> Result<Expr, ParseFault>
-        requires { Nests self.now.depth (E.pre self.now.expression) (E.post self.now.expression) (B.pre self.now.body) (B.post self.now.body) }
-        ensures { Reads (reader.one limit (expression_in self.now.depth) (body_in self.now.depth) inn tokens.old) result tokens.new }
+        requires { Nests self.now.depth (E.pre self.now.expression) (E.post self.now.expression)
+            (B.pre self.now.body) (B.post self.now.body) }
+        ensures { Reads (reader.one limit (expression_in self.now.depth)
+            (body_in self.now.depth) inn tokens.old) result tokens.new }
     {
         match prefix_of(tokens.sign()) {
             Some(operator) => {
@@ -125,8 +135,10 @@ impl<
         target: Expr,
         tokens: &mut Cursor<'_>,
     ) -> Result<Expr, ParseFault>
-        requires { Nests self.now.depth (E.pre self.now.expression) (E.post self.now.expression) (B.pre self.now.body) (B.post self.now.body) }
-        ensures { Reads (reader.assigned limit (expression_in self.now.depth) (body_in self.now.depth) inn target tokens.old) result tokens.new }
+        requires { Nests self.now.depth (E.pre self.now.expression) (E.post self.now.expression)
+            (B.pre self.now.body) (B.post self.now.body) }
+        ensures { Reads (reader.assigned limit (expression_in self.now.depth)
+            (body_in self.now.depth) inn target tokens.old) result tokens.new }
     {
         match assignment_of(tokens.sign()) {
             Some(operator) => {
@@ -144,8 +156,10 @@ impl<
     /// Reads an assignment expression that begins with this unary expression.
     #[tactic(auto, unfolding(js_grammar::specs::ExpressionReader::rest))]
     fn rest(&self, inn: bool, first: Expr, tokens: &mut Cursor<'_>) -> Result<Expr, ParseFault>
-        requires { Nests self.now.depth (E.pre self.now.expression) (E.post self.now.expression) (B.pre self.now.body) (B.post self.now.body) }
-        ensures { Reads (reader.rest limit (expression_in self.now.depth) (body_in self.now.depth) inn first tokens.old) result tokens.new }
+        requires { Nests self.now.depth (E.pre self.now.expression) (E.post self.now.expression)
+            (B.pre self.now.body) (B.post self.now.body) }
+        ensures { Reads (reader.rest limit (expression_in self.now.depth)
+            (body_in self.now.depth) inn first tokens.old) result tokens.new }
     {
         let test = self.operations(inn, 1, first, tokens)?;
         self.choice(inn, test, tokens)
@@ -154,8 +168,10 @@ impl<
     /// Reads what may stand behind a binary expression: `?` and two choices.
     #[tactic(auto, unfolding(js_grammar::specs::ExpressionReader::choice, js_grammar::specs::Parser::within_limit))]
     fn choice(&self, inn: bool, test: Expr, tokens: &mut Cursor<'_>) -> Result<Expr, ParseFault>
-        requires { Nests self.now.depth (E.pre self.now.expression) (E.post self.now.expression) (B.pre self.now.body) (B.post self.now.body) }
-        ensures { Reads (reader.choice limit (expression_in self.now.depth) (body_in self.now.depth) inn test tokens.old) result tokens.new }
+        requires { Nests self.now.depth (E.pre self.now.expression) (E.post self.now.expression)
+            (B.pre self.now.body) (B.post self.now.body) }
+        ensures { Reads (reader.choice limit (expression_in self.now.depth)
+            (body_in self.now.depth) inn test tokens.old) result tokens.new }
     {
         if !tokens.eat(Sign::Mark(Punct::QuestionMark)) {
             return Ok(test);

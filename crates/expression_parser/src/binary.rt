@@ -10,8 +10,8 @@ use crate::fault::ParseFault;
 use crate::grammar::Grammar;
 use crate::nodes;
 use crate::operators::{climbs, infix_of, level_of};
-use js_core::syntax::{Expr, Stmt};
-use js_grammar::operators::Level;
+use js_core::{Expr, Stmt};
+use js_grammar::Level;
 use std::alloc::Global;
 
 impl<
@@ -21,8 +21,10 @@ impl<
     /// Reads a binary expression of this level or a tighter one.
     #[tactic(auto, unfolding(js_grammar::specs::ExpressionReader::climb))]
     pub fn climb(&self, inn: bool, least: u32, tokens: &mut Cursor<'_>) -> Result<Expr, ParseFault>
-        requires { Nests self.now.depth (E.pre self.now.expression) (E.post self.now.expression) (B.pre self.now.body) (B.post self.now.body) }
-        ensures { Reads (reader.climb limit (expression_in self.now.depth) (body_in self.now.depth) inn least tokens.old) result tokens.new }
+        requires { Nests self.now.depth (E.pre self.now.expression) (E.post self.now.expression)
+            (B.pre self.now.body) (B.post self.now.body) }
+        ensures { Reads (reader.climb limit (expression_in self.now.depth)
+            (body_in self.now.depth) inn least tokens.old) result tokens.new }
     {
         let first = self.unary(tokens)?;
         self.operations(inn, least, first, tokens)
@@ -36,8 +38,10 @@ impl<
         mut left: Expr,
         tokens: &mut Cursor<'_>,
     ) -> Result<Expr, ParseFault>
-        requires { Nests self.now.depth (E.pre self.now.expression) (E.post self.now.expression) (B.pre self.now.body) (B.post self.now.body) }
-        ensures { Reads (reader.operations limit (expression_in self.now.depth) (body_in self.now.depth) inn least left tokens.old) result tokens.new }
+        requires { Nests self.now.depth (E.pre self.now.expression) (E.post self.now.expression)
+            (B.pre self.now.body) (B.post self.now.body) }
+        ensures { Reads (reader.operations limit (expression_in self.now.depth)
+            (body_in self.now.depth) inn least left tokens.old) result tokens.new }
     {
         for _turn in 0..tokens.left() {
             if !climbs(inn, least, tokens.sign()) {
@@ -51,8 +55,10 @@ impl<
     /// Reads an operator and its second operand.
     #[tactic(auto, unfolding(js_grammar::specs::ExpressionReader::operation, js_grammar::specs::Parser::within_limit))]
     fn operation(&self, inn: bool, left: Expr, tokens: &mut Cursor<'_>) -> Result<Expr, ParseFault>
-        requires { Nests self.now.depth (E.pre self.now.expression) (E.post self.now.expression) (B.pre self.now.body) (B.post self.now.body) }
-        ensures { Reads (reader.operation limit (expression_in self.now.depth) (body_in self.now.depth) inn left tokens.old) result tokens.new }
+        requires { Nests self.now.depth (E.pre self.now.expression) (E.post self.now.expression)
+            (B.pre self.now.body) (B.post self.now.body) }
+        ensures { Reads (reader.operation limit (expression_in self.now.depth)
+            (body_in self.now.depth) inn left tokens.old) result tokens.new }
     {
         match infix_of(inn, tokens.sign()) {
             Some(operator) => {

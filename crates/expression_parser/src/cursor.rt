@@ -12,13 +12,10 @@ ghost use Rattle.expression_parser.specs.Reads.{Reads, Gives, after_line};
 
 use crate::fault::ParseFault;
 use itoa::Buffer;
-use js_core::ascii::ascii_text;
-use js_core::keyword::{is_unused_word, keyword_of};
-use js_core::syntax::{Expr, ExprNode};
-use js_core::token::{Punct, Token, TokenKind};
-use js_core::units::Units;
-use js_core::whole::Whole;
-use js_grammar::sign::Sign;
+use js_core::{
+    Expr, ExprNode, Punct, Token, TokenKind, Units, Whole, ascii_text, is_unused_word, keyword_of,
+};
+use js_grammar::Sign;
 use std::alloc::Global;
 use std::marker::Model;
 

@@ -1,6 +1,6 @@
 //! Why tokens are not read.
 
-use js_core::memory::OutOfMemory;
+use js_core::OutOfMemory;
 use std::alloc::{AllocError, AllocFailed};
 
 /// Why tokens are not read.

@@ -5,8 +5,8 @@ ghost use Rattle.expression_parser.specs.Reads.{Reads, ReadsAll};
 
 use crate::cursor::Cursor;
 use crate::fault::ParseFault;
-use js_core::syntax::{Expr, Stmt};
-use js_grammar::operators::Level;
+use js_core::{Expr, Stmt};
+use js_grammar::Level;
 use std::alloc::Global;
 
 /// The functions that read what stands inside an expression, and how deep that may nest. The methods read the phrases of
@@ -35,7 +35,8 @@ impl<
         level: Level,
         tokens: &mut Cursor<'_>,
     ) -> Result<Expr, ParseFault>
-        requires { Nests self.now.depth (E.pre self.now.expression) (E.post self.now.expression) (B.pre self.now.body) (B.post self.now.body) }
+        requires { Nests self.now.depth (E.pre self.now.expression) (E.post self.now.expression)
+            (B.pre self.now.body) (B.post self.now.body) }
         ensures { Reads (expression_in self.now.depth inn level tokens.old) result tokens.new }
     {
         (self.expression)(self.alloc, self.depth, inn, level, tokens)
@@ -43,7 +44,8 @@ impl<
 
     /// Reads what stands between the braces of a function.
     pub fn body(&self, tokens: &mut Cursor<'_>) -> Result<Vec<Stmt>, ParseFault>
-        requires { Nests self.now.depth (E.pre self.now.expression) (E.post self.now.expression) (B.pre self.now.body) (B.post self.now.body) }
+        requires { Nests self.now.depth (E.pre self.now.expression) (E.post self.now.expression)
+            (B.pre self.now.body) (B.post self.now.body) }
         ensures { ReadsAll (body_in self.now.depth tokens.old) result tokens.new }
     {
         (self.body)(self.alloc, self.depth, tokens)

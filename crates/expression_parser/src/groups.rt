@@ -7,10 +7,8 @@ ghost use Rattle.expression_parser.specs.Reads.{Reads};
 use crate::cursor::Cursor;
 use crate::fault::ParseFault;
 use crate::grammar::Grammar;
-use js_core::syntax::{Expr, Stmt};
-use js_core::token::Punct;
-use js_grammar::operators::Level;
-use js_grammar::sign::Sign;
+use js_core::{Expr, Punct, Stmt};
+use js_grammar::{Level, Sign};
 use std::alloc::Global;
 
 impl<
@@ -21,7 +19,8 @@ impl<
     /// group begins.
     #[tactic(auto, unfolding(crate::specs::Groups::closing))]
     pub fn closed(&self, inner: Expr, tokens: &mut Cursor<'_>) -> Result<Expr, ParseFault>
-        requires { Nests self.now.depth (E.pre self.now.expression) (E.post self.now.expression) (B.pre self.now.body) (B.post self.now.body) }
+        requires { Nests self.now.depth (E.pre self.now.expression) (E.post self.now.expression)
+            (B.pre self.now.body) (B.post self.now.body) }
         ensures { Reads (closing self.now.depth inner tokens.old) result tokens.new }
     {
         tokens.expect(Sign::Mark(Punct::RightParenthesis))?;

@@ -4,7 +4,7 @@ ghost use Rattle.std.specs.Prelude.{◌≤◌, OnOk};
 ghost use Rattle.expression_parser.specs.Inside.{Keeps};
 
 use crate::fault::ParseFault;
-use js_core::limits::HEIGHT_LIMIT;
+use js_core::HEIGHT_LIMIT;
 
 /// Refuses a height above the limit.
 #[tactic(auto, unfolding(crate::specs::Inside::limit))]

@@ -11,11 +11,8 @@ use crate::grammar::Grammar;
 use crate::lists::listed;
 use crate::nodes;
 use crate::operators::is_suffix;
-use js_core::keyword::Keyword;
-use js_core::syntax::{Expr, Stmt};
-use js_core::token::Punct;
-use js_grammar::operators::Level;
-use js_grammar::sign::Sign;
+use js_core::{Expr, Keyword, Punct, Stmt};
+use js_grammar::{Level, Sign};
 use std::alloc::Global;
 
 impl<
@@ -25,8 +22,10 @@ impl<
     /// Reads a left-hand side, with calls or without.
     #[tactic(auto, unfolding(js_grammar::specs::ExpressionReader::left))]
     pub fn left(&self, calls: bool, tokens: &mut Cursor<'_>) -> Result<Expr, ParseFault>
-        requires { Nests self.now.depth (E.pre self.now.expression) (E.post self.now.expression) (B.pre self.now.body) (B.post self.now.body) }
-        ensures { Reads (reader.left limit (expression_in self.now.depth) (body_in self.now.depth) calls tokens.old) result tokens.new }
+        requires { Nests self.now.depth (E.pre self.now.expression) (E.post self.now.expression)
+            (B.pre self.now.body) (B.post self.now.body) }
+        ensures { Reads (reader.left limit (expression_in self.now.depth)
+            (body_in self.now.depth) calls tokens.old) result tokens.new }
     {
         match tokens.sign() {
             Some(Sign::Word(Keyword::New)) => {
@@ -39,8 +38,12 @@ impl<
 
     /// Reads a primary expression and what goes on with it.
     fn extended(&self, calls: bool, tokens: &mut Cursor<'_>) -> Result<Expr, ParseFault>
-        requires { Nests self.now.depth (E.pre self.now.expression) (E.post self.now.expression) (B.pre self.now.body) (B.post self.now.body) }
-        ensures { Reads (and_then (reader.primary limit (expression_in self.now.depth) (body_in self.now.depth) tokens.old) (reader.suffixes limit (expression_in self.now.depth) (body_in self.now.depth) calls)) result tokens.new }
+        requires { Nests self.now.depth (E.pre self.now.expression) (E.post self.now.expression)
+            (B.pre self.now.body) (B.post self.now.body) }
+        ensures { Reads (and_then (reader.primary limit (expression_in self.now.depth)
+            (body_in self.now.depth) tokens.old)
+            (reader.suffixes limit (expression_in self.now.depth) (body_in self.now.depth) calls))
+            result tokens.new }
     {
         let first = self.primary(tokens)?;
         self.suffixes(calls, first, tokens)
@@ -48,8 +51,10 @@ impl<
 
     /// Reads the arguments of a call and the parenthesis behind them.
     fn arguments(&self, tokens: &mut Cursor<'_>) -> Result<Vec<Expr>, ParseFault>
-        requires { Nests self.now.depth (E.pre self.now.expression) (E.post self.now.expression) (B.pre self.now.body) (B.post self.now.body) }
-        ensures { ReadsAll (reader.arguments limit (expression_in self.now.depth) (body_in self.now.depth) tokens.old) result tokens.new }
+        requires { Nests self.now.depth (E.pre self.now.expression) (E.post self.now.expression)
+            (B.pre self.now.body) (B.post self.now.body) }
+        ensures { ReadsAll (reader.arguments limit (expression_in self.now.depth)
+            (body_in self.now.depth) tokens.old) result tokens.new }
     {
         listed(self.alloc, tokens, |tokens| {
             self.expression(true, Level::Assignment, tokens)
@@ -59,8 +64,10 @@ impl<
     /// Reads the name behind a point.
     #[tactic(auto, unfolding(js_grammar::specs::ExpressionReader::dotted, js_grammar::specs::Parser::within_limit))]
     fn dotted(&self, left: Expr, tokens: &mut Cursor<'_>) -> Result<Expr, ParseFault>
-        requires { Nests self.now.depth (E.pre self.now.expression) (E.post self.now.expression) (B.pre self.now.body) (B.post self.now.body) }
-        ensures { Reads (reader.dotted limit (expression_in self.now.depth) (body_in self.now.depth) left tokens.old) result tokens.new }
+        requires { Nests self.now.depth (E.pre self.now.expression) (E.post self.now.expression)
+            (B.pre self.now.body) (B.post self.now.body) }
+        ensures { Reads (reader.dotted limit (expression_in self.now.depth)
+            (body_in self.now.depth) left tokens.old) result tokens.new }
     {
         let name = tokens.member_name()?;
         nodes::member(self.alloc, left, name)
@@ -69,8 +76,10 @@ impl<
     /// Reads the expression behind an opening bracket, and the closing one.
     #[tactic(auto, unfolding(js_grammar::specs::ExpressionReader::indexed, js_grammar::specs::Parser::within_limit))]
     fn indexed(&self, left: Expr, tokens: &mut Cursor<'_>) -> Result<Expr, ParseFault>
-        requires { Nests self.now.depth (E.pre self.now.expression) (E.post self.now.expression) (B.pre self.now.body) (B.post self.now.body) }
-        ensures { Reads (reader.indexed limit (expression_in self.now.depth) (body_in self.now.depth) left tokens.old) result tokens.new }
+        requires { Nests self.now.depth (E.pre self.now.expression) (E.post self.now.expression)
+            (B.pre self.now.body) (B.post self.now.body) }
+        ensures { Reads (reader.indexed limit (expression_in self.now.depth)
+            (body_in self.now.depth) left tokens.old) result tokens.new }
     {
         let name = self.expression(true, Level::Sequence, tokens)?;
         tokens.expect(Sign::Mark(Punct::RightBracket))?;
@@ -80,8 +89,10 @@ impl<
     /// Reads the arguments of a call, behind the opening parenthesis.
     #[tactic(auto, unfolding(js_grammar::specs::ExpressionReader::called, js_grammar::specs::Parser::within_limit))]
     fn called(&self, left: Expr, tokens: &mut Cursor<'_>) -> Result<Expr, ParseFault>
-        requires { Nests self.now.depth (E.pre self.now.expression) (E.post self.now.expression) (B.pre self.now.body) (B.post self.now.body) }
-        ensures { Reads (reader.called limit (expression_in self.now.depth) (body_in self.now.depth) left tokens.old) result tokens.new }
+        requires { Nests self.now.depth (E.pre self.now.expression) (E.post self.now.expression)
+            (B.pre self.now.body) (B.post self.now.body) }
+        ensures { Reads (reader.called limit (expression_in self.now.depth)
+            (body_in self.now.depth) left tokens.old) result tokens.new }
     {
         let found = self.arguments(tokens)?;
         nodes::call(self.alloc, left, found)
@@ -90,8 +101,10 @@ impl<
     /// Reads one thing that goes on with a left-hand side.
     #[tactic(auto, unfolding(js_grammar::specs::ExpressionReader::suffix))]
     fn suffix(&self, left: Expr, tokens: &mut Cursor<'_>) -> Result<Expr, ParseFault>
-        requires { Nests self.now.depth (E.pre self.now.expression) (E.post self.now.expression) (B.pre self.now.body) (B.post self.now.body) }
-        ensures { Reads (reader.suffix limit (expression_in self.now.depth) (body_in self.now.depth) left tokens.old) result tokens.new }
+        requires { Nests self.now.depth (E.pre self.now.expression) (E.post self.now.expression)
+            (B.pre self.now.body) (B.post self.now.body) }
+        ensures { Reads (reader.suffix limit (expression_in self.now.depth)
+            (body_in self.now.depth) left tokens.old) result tokens.new }
     {
         match tokens.sign() {
             Some(Sign::Mark(Punct::Dot)) => {
@@ -117,8 +130,10 @@ impl<
         mut left: Expr,
         tokens: &mut Cursor<'_>,
     ) -> Result<Expr, ParseFault>
-        requires { Nests self.now.depth (E.pre self.now.expression) (E.post self.now.expression) (B.pre self.now.body) (B.post self.now.body) }
-        ensures { Reads (reader.suffixes limit (expression_in self.now.depth) (body_in self.now.depth) calls left tokens.old) result tokens.new }
+        requires { Nests self.now.depth (E.pre self.now.expression) (E.post self.now.expression)
+            (B.pre self.now.body) (B.post self.now.body) }
+        ensures { Reads (reader.suffixes limit (expression_in self.now.depth)
+            (body_in self.now.depth) calls left tokens.old) result tokens.new }
     {
         for _turn in 0..tokens.left() {
             if !is_suffix(calls, tokens.sign()) {
@@ -132,8 +147,10 @@ impl<
     /// Reads what stands behind a `new`.
     #[tactic(auto, unfolding(js_grammar::specs::ExpressionReader::constructed, js_grammar::specs::Parser::within_limit))]
     fn constructed(&self, calls: bool, tokens: &mut Cursor<'_>) -> Result<Expr, ParseFault>
-        requires { Nests self.now.depth (E.pre self.now.expression) (E.post self.now.expression) (B.pre self.now.body) (B.post self.now.body) }
-        ensures { Reads (reader.constructed limit (expression_in self.now.depth) (body_in self.now.depth) calls tokens.old) result tokens.new }
+        requires { Nests self.now.depth (E.pre self.now.expression) (E.post self.now.expression)
+            (B.pre self.now.body) (B.post self.now.body) }
+        ensures { Reads (reader.constructed limit (expression_in self.now.depth)
+            (body_in self.now.depth) calls tokens.old) result tokens.new }
     {
         let callee = self.expression(true, Level::Construction, tokens)?;
         if !tokens.eat(Sign::Mark(Punct::LeftParenthesis)) {

@@ -5,16 +5,23 @@
 //! repeats stands in `lists`, over the reader of an item. `nodes` builds trees and refuses those that are too high.
 #![tactic(auto)]
 
-pub mod assignment;
-pub mod binary;
-pub mod cursor;
-pub mod fault;
-pub mod grammar;
+mod assignment;
+mod binary;
+mod cursor;
+mod fault;
+mod grammar;
 mod groups;
-pub mod height;
-pub mod left;
-pub mod lists;
-pub mod nodes;
-pub mod operators;
-pub mod primary;
-pub mod unary;
+mod height;
+mod left;
+mod lists;
+mod nodes;
+mod operators;
+mod primary;
+mod unary;
+
+pub use cursor::Cursor;
+pub use fault::ParseFault;
+pub use grammar::Grammar;
+pub use height::check_height;
+pub use lists::{many, separated};
+pub use operators::prefix_of;

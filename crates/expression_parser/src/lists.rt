@@ -8,8 +8,8 @@ ghost use Rattle.expression_parser.specs.Reads.{ReadsAll, ReadsItems, Tests};
 
 use crate::cursor::Cursor;
 use crate::fault::ParseFault;
-use js_core::token::Punct;
-use js_grammar::sign::Sign;
+use js_core::Punct;
+use js_grammar::Sign;
 use std::alloc::Global;
 
 /// Items, as long as the symbols ask for more.
@@ -21,7 +21,9 @@ pub fn many<T: Drop, G: Fn(&Cursor<'_>) -> bool, F: Fn(&mut Cursor<'_>) -> Resul
 ) -> Result<Vec<T>, ParseFault>
     requires tests { G.IsAlwaysCallable goes_on }
     requires reads { F.IsAlwaysCallable item }
-    ensures { (asks : List Lexeme → Bool) → (reader : Parser T) → Tests asks (G.post goes_on) → ReadsItems reader (F.post item) → ReadsAll (parser.many asks reader tokens.old) result tokens.new }
+    ensures { (asks : List Lexeme → Bool) → (reader : Parser T) → Tests asks (G.post goes_on)
+        → ReadsItems reader (F.post item) → ReadsAll
+        (parser.many asks reader tokens.old) result tokens.new }
 {
     let mut found = Vec::new(alloc);
     for _turn in 0..tokens.left() {
@@ -40,7 +42,9 @@ pub fn further<T: Drop, F: Fn(&mut Cursor<'_>) -> Result<T, ParseFault>>(
     item: F,
 ) -> Result<Vec<T>, ParseFault>
     requires { F.IsAlwaysCallable item }
-    ensures { (reader : Parser T) → ReadsItems reader (F.post item) → ReadsAll (parser.repeat parser.sees_comma (parser.added_behind_comma reader) (length tokens.old) found.items tokens.old) result tokens.new }
+    ensures { (reader : Parser T) → ReadsItems reader (F.post item)
+        → ReadsAll (parser.repeat parser.sees_comma (parser.added_behind_comma reader)
+        (length tokens.old) found.items tokens.old) result tokens.new }
 {
     for _turn in 0..tokens.left() {
         if !tokens.sees(Sign::Mark(Punct::Comma)) {
@@ -59,7 +63,8 @@ pub fn separated<T: Drop, F: Fn(&mut Cursor<'_>) -> Result<T, ParseFault>>(
     item: F,
 ) -> Result<Vec<T>, ParseFault>
     requires { F.IsAlwaysCallable item }
-    ensures { (reader : Parser T) → ReadsItems reader (F.post item) → ReadsAll (parser.separated reader tokens.old) result tokens.new }
+    ensures { (reader : Parser T) → ReadsItems reader (F.post item)
+        → ReadsAll (parser.separated reader tokens.old) result tokens.new }
 {
     let mut found = Vec::new(alloc);
     found.push(item(tokens)?)?;
@@ -73,7 +78,8 @@ pub fn listed<T: Drop, F: Fn(&mut Cursor<'_>) -> Result<T, ParseFault>>(
     item: F,
 ) -> Result<Vec<T>, ParseFault>
     requires { F.IsAlwaysCallable item }
-    ensures { (reader : Parser T) → ReadsItems reader (F.post item) → ReadsAll (parser.listed reader tokens.old) result tokens.new }
+    ensures { (reader : Parser T) → ReadsItems reader (F.post item)
+        → ReadsAll (parser.listed reader tokens.old) result tokens.new }
 {
     if tokens.eat(Sign::Mark(Punct::RightParenthesis)) {
         return Ok(Vec::new(alloc));

@@ -8,11 +8,10 @@ ghost use Rattle.expression_parser.specs.Inside.{Builds};
 
 use crate::fault::ParseFault;
 use crate::height::check_height;
-use js_core::height::{exprs_height, fields_height, holes_height};
-use js_core::operators::{BinaryOp, UnaryOp};
-use js_core::syntax::{Code, Expr, ExprNode, Stmt};
-use js_core::units::Units;
-use js_grammar::operators::{Infix, Prefix};
+use js_core::{
+    BinaryOp, Code, Expr, ExprNode, Stmt, UnaryOp, Units, exprs_height, fields_height, holes_height,
+};
+use js_grammar::{Infix, Prefix};
 use std::alloc::Global;
 use std::rc::Rc;
 

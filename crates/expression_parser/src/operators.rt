@@ -4,11 +4,8 @@ ghost use Rattle.std.specs.Prelude.{◌≡◌, ◌≤◌, Bool, Some};
 ghost use Rattle.js_grammar.specs.Operators as spec;
 ghost use Rattle.js_grammar.specs.declared.sign.Sign.TheVariants.{Mark, Word};
 
-use js_core::keyword::Keyword;
-use js_core::operators::{BinaryOp, UnaryOp};
-use js_core::token::Punct;
-use js_grammar::operators::{Infix, Prefix};
-use js_grammar::sign::Sign;
+use js_core::{BinaryOp, Keyword, Punct, UnaryOp};
+use js_grammar::{Infix, Prefix, Sign};
 
 /// The operator between two operands that the sign is; `in` is one only where it may stand.
 pub fn infix_of(inn: bool, sign: Option<Sign>) -> Option<Infix>

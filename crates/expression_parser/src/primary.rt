@@ -13,12 +13,8 @@ use crate::fault::ParseFault;
 use crate::grammar::Grammar;
 use crate::lists::{listed, many};
 use crate::nodes;
-use js_core::keyword::Keyword;
-use js_core::syntax::{Code, Expr, ExprNode, Stmt};
-use js_core::token::Punct;
-use js_core::units::Units;
-use js_grammar::operators::Level;
-use js_grammar::sign::Sign;
+use js_core::{Code, Expr, ExprNode, Keyword, Punct, Stmt, Units};
+use js_grammar::{Level, Sign};
 use std::alloc::Global;
 
 /// Reads the formals of a function and the parenthesis behind them.
@@ -35,8 +31,10 @@ impl<
     /// Reads a primary expression.
     #[tactic(auto, unfolding(js_grammar::specs::ExpressionReader::primary))]
     pub fn primary(&self, tokens: &mut Cursor<'_>) -> Result<Expr, ParseFault>
-        requires { Nests self.now.depth (E.pre self.now.expression) (E.post self.now.expression) (B.pre self.now.body) (B.post self.now.body) }
-        ensures { Reads (reader.primary limit (expression_in self.now.depth) (body_in self.now.depth) tokens.old) result tokens.new }
+        requires { Nests self.now.depth (E.pre self.now.expression) (E.post self.now.expression)
+            (B.pre self.now.body) (B.post self.now.body) }
+        ensures { Reads (reader.primary limit (expression_in self.now.depth)
+            (body_in self.now.depth) tokens.old) result tokens.new }
     {
         match tokens.sign() {
             Some(Sign::Word(word)) => self.primary_of_word(word, tokens),
@@ -47,8 +45,10 @@ impl<
 
     /// Reads a primary expression where this word comes next.
     fn primary_of_word(&self, word: Keyword, tokens: &mut Cursor<'_>) -> Result<Expr, ParseFault>
-        requires { Nests self.now.depth (E.pre self.now.expression) (E.post self.now.expression) (B.pre self.now.body) (B.post self.now.body) }
-        ensures { Reads (reader.primary_by limit (expression_in self.now.depth) (body_in self.now.depth) (Some (Word word)) tokens.old) result tokens.new }
+        requires { Nests self.now.depth (E.pre self.now.expression) (E.post self.now.expression)
+            (B.pre self.now.body) (B.post self.now.body) }
+        ensures { Reads (reader.primary_by limit (expression_in self.now.depth)
+            (body_in self.now.depth) (Some (Word word)) tokens.old) result tokens.new }
     {
         match word {
             Keyword::This => {
@@ -77,8 +77,10 @@ impl<
 
     /// Reads a primary expression where this punctuator comes next.
     fn primary_of_mark(&self, mark: Punct, tokens: &mut Cursor<'_>) -> Result<Expr, ParseFault>
-        requires { Nests self.now.depth (E.pre self.now.expression) (E.post self.now.expression) (B.pre self.now.body) (B.post self.now.body) }
-        ensures { Reads (reader.primary_by limit (expression_in self.now.depth) (body_in self.now.depth) (Some (Mark mark)) tokens.old) result tokens.new }
+        requires { Nests self.now.depth (E.pre self.now.expression) (E.post self.now.expression)
+            (B.pre self.now.body) (B.post self.now.body) }
+        ensures { Reads (reader.primary_by limit (expression_in self.now.depth)
+            (body_in self.now.depth) (Some (Mark mark)) tokens.old) result tokens.new }
     {
         match mark {
             Punct::LeftBracket => {
@@ -100,8 +102,10 @@ impl<
     /// Reads an element of an array literal, and the comma behind it, if one comes; `None` is an elision.
     #[tactic(auto, unfolding(js_grammar::specs::ExpressionReader::element))]
     fn element(&self, tokens: &mut Cursor<'_>) -> Result<Option<Expr>, ParseFault>
-        requires { Nests self.now.depth (E.pre self.now.expression) (E.post self.now.expression) (B.pre self.now.body) (B.post self.now.body) }
-        ensures { Reads (reader.element limit (expression_in self.now.depth) (body_in self.now.depth) tokens.old) result tokens.new }
+        requires { Nests self.now.depth (E.pre self.now.expression) (E.post self.now.expression)
+            (B.pre self.now.body) (B.post self.now.body) }
+        ensures { Reads (reader.element limit (expression_in self.now.depth)
+            (body_in self.now.depth) tokens.old) result tokens.new }
     {
         if tokens.sees(Sign::Mark(Punct::Comma)) {
             tokens.skip();
@@ -114,8 +118,11 @@ impl<
 
     /// Reads the elements of an array literal.
     fn elements(&self, tokens: &mut Cursor<'_>) -> Result<Vec<Option<Expr>>, ParseFault>
-        requires { Nests self.now.depth (E.pre self.now.expression) (E.post self.now.expression) (B.pre self.now.body) (B.post self.now.body) }
-        ensures { ReadsAll (many (reader.comes_before RightBracket) (reader.element limit (expression_in self.now.depth) (body_in self.now.depth)) tokens.old) result tokens.new }
+        requires { Nests self.now.depth (E.pre self.now.expression) (E.post self.now.expression)
+            (B.pre self.now.body) (B.post self.now.body) }
+        ensures { ReadsAll (many (reader.comes_before RightBracket)
+            (reader.element limit (expression_in self.now.depth) (body_in self.now.depth))
+            tokens.old) result tokens.new }
     {
         many(
             self.alloc,
@@ -128,8 +135,10 @@ impl<
     /// Reads an array literal, behind its bracket.
     #[tactic(auto, unfolding(js_grammar::specs::ExpressionReader::array, js_grammar::specs::Parser::within_limit))]
     fn array(&self, tokens: &mut Cursor<'_>) -> Result<Expr, ParseFault>
-        requires { Nests self.now.depth (E.pre self.now.expression) (E.post self.now.expression) (B.pre self.now.body) (B.post self.now.body) }
-        ensures { Reads (reader.array limit (expression_in self.now.depth) (body_in self.now.depth) tokens.old) result tokens.new }
+        requires { Nests self.now.depth (E.pre self.now.expression) (E.post self.now.expression)
+            (B.pre self.now.body) (B.post self.now.body) }
+        ensures { Reads (reader.array limit (expression_in self.now.depth)
+            (body_in self.now.depth) tokens.old) result tokens.new }
     {
         let found = self.elements(tokens)?;
         tokens.expect(Sign::Mark(Punct::RightBracket))?;
@@ -139,8 +148,10 @@ impl<
     /// Reads a property of an object literal, and the comma behind it, if one comes.
     #[tactic(auto, unfolding(js_grammar::specs::ExpressionReader::field))]
     fn field(&self, tokens: &mut Cursor<'_>) -> Result<(Units, Expr), ParseFault>
-        requires { Nests self.now.depth (E.pre self.now.expression) (E.post self.now.expression) (B.pre self.now.body) (B.post self.now.body) }
-        ensures { Reads (reader.field limit (expression_in self.now.depth) (body_in self.now.depth) tokens.old) result tokens.new }
+        requires { Nests self.now.depth (E.pre self.now.expression) (E.post self.now.expression)
+            (B.pre self.now.body) (B.post self.now.body) }
+        ensures { Reads (reader.field limit (expression_in self.now.depth)
+            (body_in self.now.depth) tokens.old) result tokens.new }
     {
         let name = tokens.field_name(self.alloc)?;
         tokens.expect(Sign::Mark(Punct::Colon))?;
@@ -151,8 +162,11 @@ impl<
 
     /// Reads the properties of an object literal.
     fn fields(&self, tokens: &mut Cursor<'_>) -> Result<Vec<(Units, Expr)>, ParseFault>
-        requires { Nests self.now.depth (E.pre self.now.expression) (E.post self.now.expression) (B.pre self.now.body) (B.post self.now.body) }
-        ensures { ReadsAll (many (reader.comes_before RightBrace) (reader.field limit (expression_in self.now.depth) (body_in self.now.depth)) tokens.old) result tokens.new }
+        requires { Nests self.now.depth (E.pre self.now.expression) (E.post self.now.expression)
+            (B.pre self.now.body) (B.post self.now.body) }
+        ensures { ReadsAll (many (reader.comes_before RightBrace)
+            (reader.field limit (expression_in self.now.depth) (body_in self.now.depth)) tokens.old)
+            result tokens.new }
     {
         many(
             self.alloc,
@@ -165,8 +179,10 @@ impl<
     /// Reads an object literal, behind its brace.
     #[tactic(auto, unfolding(js_grammar::specs::ExpressionReader::object, js_grammar::specs::Parser::within_limit))]
     fn object(&self, tokens: &mut Cursor<'_>) -> Result<Expr, ParseFault>
-        requires { Nests self.now.depth (E.pre self.now.expression) (E.post self.now.expression) (B.pre self.now.body) (B.post self.now.body) }
-        ensures { Reads (reader.object limit (expression_in self.now.depth) (body_in self.now.depth) tokens.old) result tokens.new }
+        requires { Nests self.now.depth (E.pre self.now.expression) (E.post self.now.expression)
+            (B.pre self.now.body) (B.post self.now.body) }
+        ensures { Reads (reader.object limit (expression_in self.now.depth)
+            (body_in self.now.depth) tokens.old) result tokens.new }
     {
         let found = self.fields(tokens)?;
         tokens.expect(Sign::Mark(Punct::RightBrace))?;
@@ -176,8 +192,10 @@ impl<
     /// Reads an expression and the parenthesis behind it.
     #[tactic(auto, unfolding(js_grammar::specs::ExpressionReader::group))]
     fn group(&self, tokens: &mut Cursor<'_>) -> Result<Expr, ParseFault>
-        requires { Nests self.now.depth (E.pre self.now.expression) (E.post self.now.expression) (B.pre self.now.body) (B.post self.now.body) }
-        ensures { Reads (reader.group limit (expression_in self.now.depth) (body_in self.now.depth) tokens.old) result tokens.new }
+        requires { Nests self.now.depth (E.pre self.now.expression) (E.post self.now.expression)
+            (B.pre self.now.body) (B.post self.now.body) }
+        ensures { Reads (reader.group limit (expression_in self.now.depth)
+            (body_in self.now.depth) tokens.old) result tokens.new }
     {
         let inner = self.expression(true, Level::Sequence, tokens)?;
         tokens.expect(Sign::Mark(Punct::RightParenthesis))?;
@@ -187,8 +205,10 @@ impl<
     /// Reads the formals and the body of the function with this name.
     #[tactic(auto, unfolding(js_grammar::specs::ExpressionReader::procedure))]
     pub fn procedure(&self, own: Option<Units>, tokens: &mut Cursor<'_>) -> Result<Code, ParseFault>
-        requires { Nests self.now.depth (E.pre self.now.expression) (E.post self.now.expression) (B.pre self.now.body) (B.post self.now.body) }
-        ensures { Reads (reader.procedure limit (expression_in self.now.depth) (body_in self.now.depth) own tokens.old) result tokens.new }
+        requires { Nests self.now.depth (E.pre self.now.expression) (E.post self.now.expression)
+            (B.pre self.now.body) (B.post self.now.body) }
+        ensures { Reads (reader.procedure limit (expression_in self.now.depth)
+            (body_in self.now.depth) own tokens.old) result tokens.new }
     {
         tokens.expect(Sign::Mark(Punct::LeftParenthesis))?;
         let formals = formal_names(self.alloc, tokens)?;
@@ -201,8 +221,10 @@ impl<
     /// Reads a function expression, behind its `function`.
     #[tactic(auto, unfolding(js_grammar::specs::ExpressionReader::function, js_grammar::specs::Parser::within_limit))]
     fn function(&self, tokens: &mut Cursor<'_>) -> Result<Expr, ParseFault>
-        requires { Nests self.now.depth (E.pre self.now.expression) (E.post self.now.expression) (B.pre self.now.body) (B.post self.now.body) }
-        ensures { Reads (reader.function limit (expression_in self.now.depth) (body_in self.now.depth) tokens.old) result tokens.new }
+        requires { Nests self.now.depth (E.pre self.now.expression) (E.post self.now.expression)
+            (B.pre self.now.body) (B.post self.now.body) }
+        ensures { Reads (reader.function limit (expression_in self.now.depth)
+            (body_in self.now.depth) tokens.old) result tokens.new }
     {
         let own = tokens.maybe_identifier()?;
         let code = self.procedure(own, tokens)?;

@@ -11,8 +11,8 @@ use crate::fault::ParseFault;
 use crate::grammar::Grammar;
 use crate::nodes;
 use crate::operators::prefix_of;
-use js_core::syntax::{Expr, Stmt};
-use js_grammar::operators::{Level, Prefix};
+use js_core::{Expr, Stmt};
+use js_grammar::{Level, Prefix};
 use std::alloc::Global;
 
 impl<
@@ -22,8 +22,10 @@ impl<
     /// Reads a unary expression.
     #[tactic(auto, unfolding(js_grammar::specs::ExpressionReader::unary))]
     pub fn unary(&self, tokens: &mut Cursor<'_>) -> Result<Expr, ParseFault>
-        requires { Nests self.now.depth (E.pre self.now.expression) (E.post self.now.expression) (B.pre self.now.body) (B.post self.now.body) }
-        ensures { Reads (reader.unary limit (expression_in self.now.depth) (body_in self.now.depth) tokens.old) result tokens.new }
+        requires { Nests self.now.depth (E.pre self.now.expression) (E.post self.now.expression)
+            (B.pre self.now.body) (B.post self.now.body) }
+        ensures { Reads (reader.unary limit (expression_in self.now.depth)
+            (body_in self.now.depth) tokens.old) result tokens.new }
     {
         match prefix_of(tokens.sign()) {
             Some(operator) => {
@@ -36,8 +38,12 @@ impl<
 
     /// Reads a left-hand side and the step behind it, if one comes.
     fn stepped(&self, tokens: &mut Cursor<'_>) -> Result<Expr, ParseFault>
-        requires { Nests self.now.depth (E.pre self.now.expression) (E.post self.now.expression) (B.pre self.now.body) (B.post self.now.body) }
-        ensures { Reads (and_then (reader.left limit (expression_in self.now.depth) (body_in self.now.depth) true tokens.old) (reader.postfix limit (expression_in self.now.depth) (body_in self.now.depth))) result tokens.new }
+        requires { Nests self.now.depth (E.pre self.now.expression) (E.post self.now.expression)
+            (B.pre self.now.body) (B.post self.now.body) }
+        ensures { Reads (and_then (reader.left limit (expression_in self.now.depth)
+            (body_in self.now.depth) true tokens.old)
+            (reader.postfix limit (expression_in self.now.depth) (body_in self.now.depth))) result
+            tokens.new }
     {
         let target = self.left(true, tokens)?;
         self.postfix(target, tokens)
@@ -46,8 +52,10 @@ impl<
     /// Reads the `++` or `--` behind this expression, if one comes in the same line.
     #[tactic(auto, unfolding(js_grammar::specs::ExpressionReader::postfix, js_grammar::specs::Parser::within_limit))]
     pub fn postfix(&self, target: Expr, tokens: &mut Cursor<'_>) -> Result<Expr, ParseFault>
-        requires { Nests self.now.depth (E.pre self.now.expression) (E.post self.now.expression) (B.pre self.now.body) (B.post self.now.body) }
-        ensures { Reads (reader.postfix limit (expression_in self.now.depth) (body_in self.now.depth) target tokens.old) result tokens.new }
+        requires { Nests self.now.depth (E.pre self.now.expression) (E.post self.now.expression)
+            (B.pre self.now.body) (B.post self.now.body) }
+        ensures { Reads (reader.postfix limit (expression_in self.now.depth)
+            (body_in self.now.depth) target tokens.old) result tokens.new }
     {
         match tokens.step() {
             Some(up) => {
@@ -61,8 +69,10 @@ impl<
     /// Reads the operand of this operator.
     #[tactic(auto, unfolding(js_grammar::specs::ExpressionReader::operated, js_grammar::specs::Parser::within_limit))]
     pub fn operated(&self, operator: Prefix, tokens: &mut Cursor<'_>) -> Result<Expr, ParseFault>
-        requires { Nests self.now.depth (E.pre self.now.expression) (E.post self.now.expression) (B.pre self.now.body) (B.post self.now.body) }
-        ensures { Reads (reader.operated limit (expression_in self.now.depth) (body_in self.now.depth) operator tokens.old) result tokens.new }
+        requires { Nests self.now.depth (E.pre self.now.expression) (E.post self.now.expression)
+            (B.pre self.now.body) (B.post self.now.body) }
+        ensures { Reads (reader.operated limit (expression_in self.now.depth)
+            (body_in self.now.depth) operator tokens.old) result tokens.new }
     {
         let operand = self.expression(true, Level::Binary(11), tokens)?;
         nodes::prefixed(self.alloc, operator, operand)

@@ -11,11 +11,9 @@ use crate::needs::needs_of;
 use crate::{BUILT_IN_COUNT, BUILT_IN_GLOBALS};
 use code_table::FunctionCode;
 use indexmap::IndexSet;
-use js_core::memory::OutOfMemory;
-use js_core::units::Units;
-use js_values::ids::{EnvId, ObjId};
-use js_values::value::Value;
-use object_heap::object::Class;
+use js_core::{OutOfMemory, Units};
+use js_values::{EnvId, ObjId, Value};
+use object_heap::Class;
 use page_state::{State, WINDOW, further};
 
 // The object is seen, if it is a thing.

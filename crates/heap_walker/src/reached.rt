@@ -6,8 +6,8 @@ ghost use Rattle.heap_walker.specs.Walking.{IsAll, IsPart};
 
 use crate::links::{see_globals, see_links};
 use indexmap::IndexSet;
-use js_core::memory::OutOfMemory;
-use js_values::ids::ObjId;
+use js_core::OutOfMemory;
+use js_values::ObjId;
 use page_state::State;
 
 /// The places of the things of a page that can be reached, each once, oldest first.

@@ -14,13 +14,10 @@ use crate::BUILT_IN_GLOBALS;
 use crate::needs::needs_of;
 use crate::reached::{Walked, walk};
 use code_table::FunctionCode;
-use js_core::memory::OutOfMemory;
-use js_core::units::Units;
-use js_print::print::{print_code, print_unnamed};
-use js_values::ids::{EnvId, ObjId};
-use js_values::value::Value;
-use object_heap::object::Class;
-use object_heap::property::Prop;
+use js_core::{OutOfMemory, Units};
+use js_print::{print_code, print_unnamed};
+use js_values::{EnvId, ObjId, Value};
+use object_heap::{Class, Prop};
 use page_state::{State, WINDOW, further};
 use std::alloc::Global;
 

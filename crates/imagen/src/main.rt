@@ -5,12 +5,7 @@ ghost use Rattle.std.specs.Prelude.{◌≡◌, IsErr};
 ghost use Rattle.command_line.specs.Notes.{note_of, Noted};
 
 use command_line::{Status, run, write_note};
-use page_io::files::Files;
-use page_io::keeper::Keeper;
-use page_io::memory_keeper::MemoryKeeper;
-use page_io::real_files::RealFiles;
-use page_io::real_sink::RealSink;
-use page_io::sink::Sink;
+use page_io::{Files, Keeper, MemoryKeeper, RealFiles, RealSink, Sink};
 use std::alloc::Global;
 use std::io;
 use std::io::ErrorKind;

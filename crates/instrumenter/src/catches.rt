@@ -16,9 +16,7 @@ use crate::levels::{Level, in_clause};
 use crate::names::{clause_fields, next_number, scope_name};
 use crate::pieces::push_clause_object;
 use crate::statements::push_statements;
-use js_core::memory::OutOfMemory;
-use js_core::syntax::Catch;
-use js_core::units::Units;
+use js_core::{Catch, OutOfMemory, Units};
 use std::alloc::Global;
 use std::rc::Rc;
 

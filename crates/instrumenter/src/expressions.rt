@@ -20,10 +20,7 @@ ghost use Rattle.instrumenter.specs.Opening as spec;
 use crate::functions::open_function_expression;
 use crate::levels::{Level, field_of};
 use crate::pieces::{field_or_name, without_this};
-use js_core::memory::OutOfMemory;
-use js_core::operators::{BinaryOp, UnaryOp};
-use js_core::syntax::{Expr, ExprNode};
-use js_core::units::Units;
+use js_core::{BinaryOp, Expr, ExprNode, OutOfMemory, UnaryOp, Units};
 use std::alloc::Global;
 use std::rc::Rc;
 

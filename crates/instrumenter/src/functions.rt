@@ -17,10 +17,8 @@ use crate::levels::{Level, field_of, in_function, is_own};
 use crate::names::{fields_in, next_number};
 use crate::pieces::{assignment, field_or_name, push_node, push_scope_object, push_var_of};
 use crate::statements::push_statement;
-use js_core::memory::OutOfMemory;
-use js_core::syntax::{Code, Expr, ExprNode, Stmt, StmtNode};
-use js_core::units::Units;
-use scope_analysis::names::{own_name, push_names};
+use js_core::{Code, Expr, ExprNode, OutOfMemory, Stmt, StmtNode, Units};
+use scope_analysis::{own_name, push_names};
 use std::alloc::Global;
 use std::rc::Rc;
 

@@ -18,9 +18,7 @@ use crate::levels::{Level, field_of, is_own};
 use crate::pieces::push_node;
 use crate::statements::open_statements;
 use crate::variables::{is_changed, open_header, push_plain_names};
-use js_core::memory::OutOfMemory;
-use js_core::syntax::{Declarator, Expr, ExprNode, ForInit, Stmt, StmtNode};
-use js_core::units::Units;
+use js_core::{Declarator, Expr, ExprNode, ForInit, OutOfMemory, Stmt, StmtNode, Units};
 use std::alloc::Global;
 use std::rc::Rc;
 

@@ -11,13 +11,10 @@ ghost use Rattle.instrumenter.specs.Around as spec;
 
 use crate::names::scope_name;
 use indexmap::IndexSet;
-use js_core::memory::OutOfMemory;
-use js_core::operators::UnaryOp;
-use js_core::syntax::{Code, Declarator, Expr, ExprNode, Stmt, StmtNode};
-use js_core::units::Units;
-use js_core::whole::Whole;
-use scope_analysis::name_table::name_table;
-use scope_analysis::names::{push_maybe_name, push_names};
+use js_core::{
+    Code, Declarator, Expr, ExprNode, OutOfMemory, Stmt, StmtNode, UnaryOp, Units, Whole,
+};
+use scope_analysis::{name_table, push_maybe_name, push_names};
 use std::alloc::Global;
 
 /// The name, as an expression.

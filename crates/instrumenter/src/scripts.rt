@@ -12,8 +12,7 @@ ghost use Rattle.instrumenter.specs.Opening as spec;
 use crate::functions::{open_declared, same_code, same_name};
 use crate::pieces::push_node;
 use crate::statements::push_statement;
-use js_core::memory::OutOfMemory;
-use js_core::syntax::{Code, Script, Stmt, StmtNode};
+use js_core::{Code, OutOfMemory, Script, Stmt, StmtNode};
 use std::alloc::Global;
 
 /// The scripts of a page, each with opened scopes. Objects are numbered from 1 through all scripts, and all have numbers that fit.

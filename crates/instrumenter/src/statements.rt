@@ -31,8 +31,7 @@ use crate::levels::Level;
 use crate::loops::{push_do, push_for, push_for_in, push_while};
 use crate::pieces::push_node;
 use crate::variables::push_variables;
-use js_core::memory::OutOfMemory;
-use js_core::syntax::{Case, Catch, Code, Expr, Stmt, StmtNode};
+use js_core::{Case, Catch, Code, Expr, OutOfMemory, Stmt, StmtNode};
 use std::alloc::Global;
 use std::rc::Rc;
 

@@ -16,9 +16,7 @@ ghost use Rattle.instrumenter.specs.Opening as spec;
 use crate::expressions::{open_expression, open_maybe_expression};
 use crate::levels::{Level, field_of, is_own};
 use crate::pieces::{assignment, field_or_name, push_node};
-use js_core::memory::OutOfMemory;
-use js_core::syntax::{Declarator, Expr, ExprNode, ForInit, Stmt, StmtNode};
-use js_core::units::Units;
+use js_core::{Declarator, Expr, ExprNode, ForInit, OutOfMemory, Stmt, StmtNode, Units};
 use std::alloc::Global;
 use std::rc::Rc;
 

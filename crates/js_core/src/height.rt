@@ -167,7 +167,8 @@ pub fn stmts_height(ss: &[Stmt]) -> u64
 
 /// The height of the highest statement of a list, or 0 where there is no list.
 pub fn maybe_stmts_height(ss: &Option<Vec<Stmt>>) -> u64
-    ensures exact { result ≡ spec.maybe_stmts_height (maybe_stmts (option_map (λ v. v.items) ss.now)) }
+    ensures exact { result ≡ spec.maybe_stmts_height
+        (maybe_stmts (option_map (λ v. v.items) ss.now)) }
     ensures small { result ≤ 1000 }
 {
     match ss {
@@ -243,7 +244,8 @@ mod tests {
     fn sum(alloc: Global, left: Expr, right: Expr) -> Result<Expr, Fail>
         requires left { spec.expr_height left < 1000 }
         requires right { spec.expr_height right < 1000 }
-        ensures { IfOk result (λ e. spec.expr_height e ≡ max (spec.expr_height left) (spec.expr_height right) + 1) }
+        ensures { IfOk result (λ e. spec.expr_height e
+            ≡ max (spec.expr_height left) (spec.expr_height right) + 1) }
     {
         Ok(Expr::new(ExprNode::Binary(
             BinaryOp::Add,
@@ -254,7 +256,8 @@ mod tests {
 
     fn statements(alloc: Global, node: StmtNode) -> Result<Vec<Stmt>, Fail>
         requires { spec.stmt_height (stmt_of node) ≤ 1000 }
-        ensures { IfOk result (λ ss. spec.stmts_height (stmts_of ss.items) ≡ spec.stmt_height (stmt_of node)) }
+        ensures { IfOk result (λ ss. spec.stmts_height (stmts_of ss.items)
+            ≡ spec.stmt_height (stmt_of node)) }
     {
         let mut body = Vec::new(alloc);
         body.push(Stmt::new(node))?;

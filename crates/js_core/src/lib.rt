@@ -1,16 +1,34 @@
 //! The base of the product: texts of 16-bit units, whole numbers, tokens and how they are written, syntax trees and limits.
 #![tactic(auto)]
 
-pub mod ascii;
-pub mod characters;
-pub mod global_names;
-pub mod height;
-pub mod keyword;
-pub mod limits;
-pub mod line_text;
-pub mod memory;
-pub mod operators;
-pub mod syntax;
-pub mod token;
-pub mod units;
-pub mod whole;
+mod ascii;
+mod characters;
+mod global_names;
+mod height;
+mod keyword;
+mod limits;
+mod line_text;
+mod memory;
+mod operators;
+mod syntax;
+mod token;
+mod units;
+mod whole;
+
+pub use ascii::{ascii_text, push_ascii};
+pub use characters::{is_line_end, is_white_space};
+pub use global_names::is_global_name;
+pub use height::{exprs_height, fields_height, holes_height};
+pub use keyword::{Keyword, is_unused_word, keyword_of};
+pub use limits::{
+    DEPTH_LIMIT, EVENT_FILE_LIMIT, EVENT_LIMIT, FORM_HEIGHT_LIMIT, FUNCTION_HEIGHT_LIMIT,
+    HEIGHT_LIMIT, PAGE_LIMIT, PLAIN_HEIGHT_LIMIT, SAVED_TEXT_LIMIT, SAVED_THINGS_LIMIT, STEP_LIMIT,
+    TEXT_LIMIT, TICK_LIMIT, TIMER_LIMIT,
+};
+pub use line_text::{push_line_text, push_unit_escape, truncate_on_error};
+pub use memory::OutOfMemory;
+pub use operators::{BinaryOp, UnaryOp};
+pub use syntax::{Case, Catch, Code, Declarator, Expr, ExprNode, ForInit, Script, Stmt, StmtNode};
+pub use token::{Punct, Token, TokenKind};
+pub use units::Units;
+pub use whole::Whole;

@@ -31,7 +31,7 @@ pub const EVENT_FILE_LIMIT: u64 = 4_194_304;
 pub const EVENT_LIMIT: u32 = 100_000;
 
 /// No more timers are live at a time.
-pub const TIMER_LIMIT: u64 = 65_536;
+pub const TIMER_LIMIT: usize = 65_536;
 
 /// No tick is longer, in milliseconds.
 pub const TICK_LIMIT: u64 = 1_000_000_000;

@@ -83,7 +83,8 @@ fn push_code_point(out: &mut Vec<u8>, point: u32) -> Result<(), OutOfMemory>
 
 // The first code point of the units, and the units after it.
 fn split_code_point(units: &[u16]) -> Option<(u32, &[u16])>
-    ensures points { MatchOption result (units.now ≡ []) (λ found. code_points units.now ≡ found.0 ∷ code_points found.1.now) }
+    ensures points { MatchOption result (units.now ≡ [])
+        (λ found. code_points units.now ≡ found.0 ∷ code_points found.1.now) }
     ensures shorter { IfSome result (λ found. length found.1.now < length units.now) }
     ensures in_range { IfSome result (λ found. found.0 < 0x11_0000) }
 {

@@ -189,7 +189,8 @@ impl Model for Code {
     ghost use Rattle.std.specs.Prelude.{◌≡◌, ◌≤◌};
     ghost use Rattle.js_core.specs.Height.{stmts_height};
 
-    ghost invariant = { λ c. (stmts_height (stmts_of c.body.items) ≡ c.height) × (c.height ≤ 1000) };
+    ghost invariant = { λ c.
+        (stmts_height (stmts_of c.body.items) ≡ c.height) × (c.height ≤ 1000) };
 
     ghost size = { code_size };
 

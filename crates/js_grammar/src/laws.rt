@@ -15,14 +15,18 @@ ghost use Rattle.js_grammar.specs.StatementExamples as statements;
 /// Reading is the grammar, for scripts that are no higher than 440: what is read is a script of the tokens, each script of
 /// theirs is read, and tokens that are refused have none.
 pub fn law_reading_is_the_grammar()
-    ensures sound { (tokens : List Token) (script : tree.Stmts) → read_script height_limit tokens ≡ Some script → ScriptOf height_limit tokens script }
-    ensures complete { (tokens : List Token) (script : tree.Stmts) → ScriptOf height_limit tokens script → read_script height_limit tokens ≡ Some script }
-    ensures refused { (tokens : List Token) → read_script height_limit tokens ≡ None → (script : tree.Stmts) → ScriptOf height_limit tokens script → ⊥ }
+    ensures sound { (tokens : List Token) (script : tree.Stmts) → read_script height_limit tokens
+        ≡ Some script → ScriptOf height_limit tokens script }
+    ensures complete { (tokens : List Token) (script : tree.Stmts)
+        → ScriptOf height_limit tokens script → read_script height_limit tokens ≡ Some script }
+    ensures refused { (tokens : List Token) → read_script height_limit tokens ≡ None
+        → (script : tree.Stmts) → ScriptOf height_limit tokens script → ⊥ }
 {}
 
 /// Tokens have at most one script, of whatever height.
 pub fn law_one_script()
-    ensures { (tokens : List Token) (s t : tree.Stmts) → Derives tokens s → Derives tokens t → s ≡ t }
+    ensures { (tokens : List Token) (s t : tree.Stmts) → Derives tokens s → Derives tokens t → s
+        ≡ t }
 {}
 
 /// The tree that tokens derive keeps the rules on trees (`IsSyntax`), where each of the tokens can be written. That each tree

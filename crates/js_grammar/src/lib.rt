@@ -11,7 +11,15 @@
 //! function by function. `laws` says that reading is the grammar.
 #![tactic(auto)]
 
-pub mod ending;
-pub mod laws;
-pub mod operators;
-pub mod sign;
+mod ending;
+mod laws;
+mod operators;
+mod sign;
+
+pub use ending::Ending;
+pub use laws::{
+    law_derived_trees_are_syntax, law_examples_are_read, law_line_ends_are_harmless,
+    law_one_script, law_one_table_of_what_goes_on, law_reading_is_the_grammar,
+};
+pub use operators::{Infix, Level, Prefix};
+pub use sign::Sign;

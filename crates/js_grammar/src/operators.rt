@@ -1,6 +1,6 @@
 //! Operators, and how tightly phrases bind.
 
-use js_core::operators::{BinaryOp, UnaryOp};
+use js_core::{BinaryOp, UnaryOp};
 
 /// The phrases that stand inside other expressions.
 #[derive(Clone, Copy, Debug, PartialEq, Eq)]

@@ -1,7 +1,6 @@
 //! The signs of the grammar: punctuators, and the reserved words that stand in its forms.
 
-use js_core::keyword::Keyword;
-use js_core::token::Punct;
+use js_core::{Keyword, Punct};
 
 /// What tells one form from another.
 #[derive(Clone, Copy, Debug, PartialEq, Eq)]

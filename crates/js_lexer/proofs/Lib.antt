@@ -1,4 +1,5 @@
 pub mod AllTokens
+pub mod Callers
 pub mod Digits
 pub mod Firsts
 pub mod Gaps

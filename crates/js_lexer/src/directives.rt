@@ -4,7 +4,7 @@ ghost use Rattle.std.specs.Prelude.{◌≡◌, ◌↔◌, ◌<◌, ◌≤◌, le
 ghost use Rattle.js_lexer.specs.Directives as spec;
 ghost use Rattle.js_lexer.specs.Directives.{IsStrict};
 
-use js_core::token::{Punct, Token, TokenKind};
+use js_core::{Punct, Token, TokenKind};
 
 /// How many units the strict directive has, with its quotes.
 const STRICT_LEN: u64 = 12;
@@ -33,7 +33,8 @@ pub fn strict(tokens: &[Token]) -> bool
 /// What stands behind the semicolon of an expression statement, which may be left out (section 7.9).
 #[tactic(auto, unfolding(crate::specs::Directives::behind_statement))]
 fn behind_statement(tokens: &[Token]) -> Option<&[Token]>
-    ensures read { MatchOption result (spec.behind_statement tokens.now ≡ None) (λ behind. spec.behind_statement tokens.now ≡ Some behind.now) }
+    ensures read { MatchOption result (spec.behind_statement tokens.now ≡ None)
+        (λ behind. spec.behind_statement tokens.now ≡ Some behind.now) }
     ensures within { IfSome result (λ behind. length behind.now ≤ length tokens.now) }
 {
     let Some((token, behind)) = tokens.split_first() else {

@@ -1,6 +1,6 @@
 //! Why a text has no tokens.
 
-use js_core::memory::OutOfMemory;
+use js_core::OutOfMemory;
 use std::alloc::{AllocError, AllocFailed};
 
 /// Why a text has no tokens.

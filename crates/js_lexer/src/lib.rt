@@ -2,13 +2,19 @@
 #![tactic(auto)]
 
 mod characters;
-pub mod directives;
-pub mod fault;
+mod directives;
+mod fault;
+mod laws;
+mod lexing;
 mod numbers;
 mod punctuators;
 mod separators;
 mod strings;
 #[cfg(test)]
 mod tests;
-pub mod tokens;
 mod words;
+
+pub use directives::strict;
+pub use fault::LexFault;
+pub use laws::{law_one_reading, law_tokens_are_longest};
+pub use lexing::tokens;

@@ -9,7 +9,7 @@ ghost use Rattle.js_lexer.specs.Numbers as spec;
 ghost use Rattle.js_lexer.specs.Reading as reading;
 
 use crate::characters::{digit_value, is_decimal_digit, is_identifier_start};
-use js_core::whole::Whole;
+use js_core::Whole;
 
 /// The largest number of the language.
 const LARGEST: u64 = Whole::LARGEST as u64;

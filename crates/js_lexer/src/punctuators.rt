@@ -8,7 +8,7 @@ ghost use Rattle.js_lexer.specs.Punctuators as spec;
 ghost use Rattle.js_lexer.specs.Punctuators.{StandsAt};
 ghost use Rattle.js_lexer.specs.Reading.{is_front, punctuators};
 
-use js_core::token::Punct;
+use js_core::Punct;
 
 /// All punctuators (ECMA-262 5.1 section 7.7), the longest first.
 const PUNCTUATORS: [Punct; 48] = [
@@ -94,7 +94,8 @@ fn first_punctuator(text: &[u16]) -> Option<Punct>
 /// The longest punctuator with which the text begins, and what stands behind it. There is none where the text opens a
 /// comment.
 pub fn punctuator(text: &[u16]) -> Option<(Punct, &[u16])>
-    ensures { MatchOption result ((rest : List ℕ) (punct : Punctuator) → StandsAt text.now rest punct → ⊥) (λ split. StandsAt text.now split.1.now split.0) }
+    ensures { MatchOption result ((rest : List ℕ) (punct : Punctuator)
+        → StandsAt text.now rest punct → ⊥) (λ split. StandsAt text.now split.1.now split.0) }
 {
     if opens_comment(text) {
         return None;

@@ -6,7 +6,7 @@ ghost use Rattle.js_core.specs.Characters as common;
 ghost use Rattle.js_lexer.specs.Characters as characters;
 ghost use Rattle.js_lexer.specs.Separators as spec;
 
-use js_core::characters::{is_line_end, is_white_space};
+use js_core::{is_line_end, is_white_space};
 
 /// The text behind the white space, line ends and comments with which it begins, and whether a line end stands in them.
 pub fn behind_gap(text: &[u16]) -> (bool, &[u16])
@@ -26,7 +26,8 @@ pub fn behind_gap(text: &[u16]) -> (bool, &[u16])
 /// behind it.
 #[tactic(auto, unfolding(crate::specs::Separators::separator_of))]
 fn separator(text: &[u16]) -> Option<(bool, &[u16])>
-    ensures read { MatchOption result (spec.separator_of text.now ≡ None) (λ split. spec.separator_of text.now ≡ Some (split.0, split.1.now)) }
+    ensures read { MatchOption result (spec.separator_of text.now ≡ None)
+        (λ split. spec.separator_of text.now ≡ Some (split.0, split.1.now)) }
     ensures shorter { IfSome result (λ split. length split.1.now < length text.now) }
 {
     let [unit, behind @ ..] = text else {
@@ -45,7 +46,8 @@ fn separator(text: &[u16]) -> Option<(bool, &[u16])>
 
 /// The same of a comment behind its first `/` (ECMA-262 5.1 section 7.4).
 fn comment(text: &[u16]) -> Option<(bool, &[u16])>
-    ensures read { MatchOption result (spec.comment_of text.now ≡ None) (λ split. spec.comment_of text.now ≡ Some (split.0, split.1.now)) }
+    ensures read { MatchOption result (spec.comment_of text.now ≡ None)
+        (λ split. spec.comment_of text.now ≡ Some (split.0, split.1.now)) }
     ensures shorter { IfSome result (λ split. length split.1.now < length text.now) }
 {
     let [unit, behind @ ..] = text else {
@@ -78,7 +80,8 @@ fn line_len(text: &[u16]) -> usize
 
 /// The text behind the first `*/`, and whether a line end stands before it.
 fn behind_comment(text: &[u16]) -> Option<(bool, &[u16])>
-    ensures read { MatchOption result (spec.behind_comment text.now ≡ None) (λ split. spec.behind_comment text.now ≡ Some (split.0, split.1.now)) }
+    ensures read { MatchOption result (spec.behind_comment text.now ≡ None)
+        (λ split. spec.behind_comment text.now ≡ Some (split.0, split.1.now)) }
     ensures shorter { IfSome result (λ split. length split.1.now < length text.now) }
 {
     let mut rest = text;

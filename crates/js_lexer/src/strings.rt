@@ -7,8 +7,7 @@ ghost use Rattle.js_lexer.specs.Strings.{Closes};
 
 use crate::characters::{digit_value, is_decimal_digit, is_hex_digit};
 use crate::fault::LexFault;
-use js_core::characters::is_line_end;
-use js_core::units::Units;
+use js_core::{Units, is_line_end};
 use std::alloc::Global;
 
 const CARRIAGE_RETURN: u16 = 0x0d;
@@ -19,7 +18,8 @@ const LINE_FEED: u16 = 0x0a;
 pub fn string(alloc: Global, quote: u16, text: &[u16]) -> Result<(Units, &[u16]), LexFault>
     ensures read { IfOk result (λ split. Closes quote text.now split.1.now split.0) }
     ensures within { IfOk result (λ split. length split.1.now ≤ length text.now) }
-    ensures refused { IsErrOf result LexFault.NotTokens → (rest value : List ℕ) → Closes quote text.now rest value → ⊥ }
+    ensures refused { IsErrOf result LexFault.NotTokens → (rest value : List ℕ)
+        → Closes quote text.now rest value → ⊥ }
 {
     let mut units = Vec::new(alloc);
     let mut rest = text;
@@ -37,7 +37,8 @@ pub fn string(alloc: Global, quote: u16, text: &[u16]) -> Result<(Units, &[u16])
 
 /// What stands behind the quote, if the text begins with it.
 fn behind_quote(quote: u16, text: &[u16]) -> Option<&[u16]>
-    ensures { MatchOption result ((behind : List ℕ) → text.now ≡ quote ∷ behind → ⊥) (λ behind. text.now ≡ quote ∷ behind.now) }
+    ensures { MatchOption result ((behind : List ℕ) → text.now ≡ quote ∷ behind → ⊥)
+        (λ behind. text.now ≡ quote ∷ behind.now) }
 {
     match text {
         [unit, behind @ ..] if *unit == quote => Some(behind),
@@ -48,7 +49,8 @@ fn behind_quote(quote: u16, text: &[u16]) -> Option<&[u16]>
 /// The unit, if any, that the first character of a literal in these quotes stands for, and what stands behind it.
 #[tactic(auto, unfolding(crate::specs::Strings::character_of))]
 fn character(quote: u16, text: &[u16]) -> Option<(Option<u16>, &[u16])>
-    ensures read { MatchOption result (spec.character_of quote text.now ≡ None) (λ split. spec.character_of quote text.now ≡ Some (split.0, split.1.now)) }
+    ensures read { MatchOption result (spec.character_of quote text.now ≡ None)
+        (λ split. spec.character_of quote text.now ≡ Some (split.0, split.1.now)) }
     ensures shorter { IfSome result (λ split. length split.1.now < length text.now) }
 {
     let [unit, behind @ ..] = text else {
@@ -67,7 +69,8 @@ fn character(quote: u16, text: &[u16]) -> Option<(Option<u16>, &[u16])>
 /// The same of a character behind its backslash.
 #[tactic(auto, unfolding(crate::specs::Strings::escape_of))]
 fn escape(text: &[u16]) -> Option<(Option<u16>, &[u16])>
-    ensures read { MatchOption result (spec.escape_of text.now ≡ None) (λ split. spec.escape_of text.now ≡ Some (split.0, split.1.now)) }
+    ensures read { MatchOption result (spec.escape_of text.now ≡ None)
+        (λ split. spec.escape_of text.now ≡ Some (split.0, split.1.now)) }
     ensures shorter { IfSome result (λ split. length split.1.now < length text.now) }
 {
     let [unit, behind @ ..] = text else {
@@ -93,7 +96,8 @@ fn escape(text: &[u16]) -> Option<(Option<u16>, &[u16])>
 
 /// The text without the line feed with which it may begin.
 fn without_line_feed(text: &[u16]) -> &[u16]
-    ensures read { result.now ≡ (if characters.begins_with (λ v. v == 10) text.now then drop 1 text.now else text.now) }
+    ensures read { result.now ≡ (if characters.begins_with
+        (λ v. v == 10) text.now then drop 1 text.now else text.now) }
     ensures within { length result.now ≤ length text.now }
 {
     match text {
@@ -104,7 +108,10 @@ fn without_line_feed(text: &[u16]) -> &[u16]
 
 /// U+0000 for the digit 0 that no digit follows.
 fn zero_escape(digit: u16, text: &[u16]) -> Option<(Option<u16>, &[u16])>
-    ensures { MatchOption result ((digit == 48) && not (characters.begins_with characters.is_decimal_digit text.now) ≡ false) (λ split. ((digit == 48) && not (characters.begins_with characters.is_decimal_digit text.now) ≡ true) × (split.0 ≡ Some 0) × (split.1.now ≡ text.now)) }
+    ensures { MatchOption result ((digit == 48)
+        && not (characters.begins_with characters.is_decimal_digit text.now) ≡ false)
+        (λ split. ((digit == 48) && not (characters.begins_with characters.is_decimal_digit
+        text.now) ≡ true) × (split.0 ≡ Some 0) × (split.1.now ≡ text.now)) }
 {
     if digit != u16::from(b'0') || begins_with_digit(text) {
         return None;
@@ -123,7 +130,8 @@ fn begins_with_digit(text: &[u16]) -> bool
 
 /// The unit that two hexadecimal digits write.
 fn pair_escape(text: &[u16]) -> Option<(Option<u16>, &[u16])>
-    ensures read { MatchOption result (spec.pair_escape (spec.hex_pair text.now) ≡ None) (λ split. spec.pair_escape (spec.hex_pair text.now) ≡ Some (split.0, split.1.now)) }
+    ensures read { MatchOption result (spec.pair_escape (spec.hex_pair text.now) ≡ None)
+        (λ split. spec.pair_escape (spec.hex_pair text.now) ≡ Some (split.0, split.1.now)) }
     ensures within { IfSome result (λ split. length split.1.now ≤ length text.now) }
 {
     let (unit, behind) = hex_pair(text)?;
@@ -132,7 +140,8 @@ fn pair_escape(text: &[u16]) -> Option<(Option<u16>, &[u16])>
 
 /// The unit that four hexadecimal digits write.
 fn quad_escape(text: &[u16]) -> Option<(Option<u16>, &[u16])>
-    ensures read { MatchOption result (spec.quad_escape (spec.hex_pair text.now) ≡ None) (λ split. spec.quad_escape (spec.hex_pair text.now) ≡ Some (split.0, split.1.now)) }
+    ensures read { MatchOption result (spec.quad_escape (spec.hex_pair text.now) ≡ None)
+        (λ split. spec.quad_escape (spec.hex_pair text.now) ≡ Some (split.0, split.1.now)) }
     ensures within { IfSome result (λ split. length split.1.now ≤ length text.now) }
 {
     let (high, text) = hex_pair(text)?;
@@ -142,7 +151,8 @@ fn quad_escape(text: &[u16]) -> Option<(Option<u16>, &[u16])>
 
 /// The number that two hexadecimal digits write.
 fn hex_pair(text: &[u16]) -> Option<(u16, &[u16])>
-    ensures read { MatchOption result (spec.hex_pair text.now ≡ None) (λ split. spec.hex_pair text.now ≡ Some (split.0, split.1.now)) }
+    ensures read { MatchOption result (spec.hex_pair text.now ≡ None)
+        (λ split. spec.hex_pair text.now ≡ Some (split.0, split.1.now)) }
     ensures below { IfSome result (λ split. split.0 < 256) }
     ensures within { IfSome result (λ split. length split.1.now ≤ length text.now) }
 {

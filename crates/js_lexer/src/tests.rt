@@ -2,9 +2,8 @@
 
 use crate::directives::strict;
 use crate::fault::LexFault;
-use crate::tokens::tokens;
-use js_core::token::{Punct, Token, TokenKind};
-use js_core::units::Units;
+use crate::lexing::tokens;
+use js_core::{Punct, Token, TokenKind, Units};
 use std::fmt::Write;
 use std::process::Abort;
 use std::test::Fail;

@@ -12,7 +12,7 @@ use Rattle.js_lexer.specs.Characters.{begins_with}
 use Rattle.js_lexer.specs.Punctuators.{opens_comment, StandsAt}
 use Rattle.js_lexer.specs.Reading.{is_front, punctuators}
 use Rattle.js_lexer.specs.Separators.{separator_of}
-use Rattle.js_lexer.proofs.Longest.{place_of}
+use Rattle.js_lexer.proofs.Callers.{place_of}
 use Rattle.js_print.specs.declared.lexeme.Lexeme.TheVariants.{Punct}
 use Rattle.js_print.proofs.Neighbours.{refused_behind, has}
 

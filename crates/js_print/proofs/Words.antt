@@ -17,7 +17,7 @@ use Rattle.js_lexer.specs.Numbers.{value_of, is_refused_behind_number}
 use Rattle.js_lexer.specs.Separators.{separator_of}
 use Rattle.js_lexer.specs.Tokens.{TokenAt}
 use Rattle.js_lexer.specs.Tokens.TokenAt.{word, number}
-use Rattle.js_lexer.proofs.Firsts.{start_of_ascii, start_is_part}
+use Rattle.js_lexer.proofs.Callers.{start_of_ascii, start_is_part}
 use Rattle.js_print.specs.Written.{is_identifier_name}
 use Rattle.js_print.proofs.Decimals.{decimal_has_digits, decimal_writes, decimal_is_not_empty, zero_is, first_is_not_zero}
 use Rattle.js_print.proofs.Identifiers.{start_is_no_space}

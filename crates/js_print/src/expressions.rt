@@ -20,11 +20,7 @@ use crate::pushing::{
     push_punct, push_text,
 };
 use crate::statements::push_body;
-use js_core::keyword::Keyword;
-use js_core::memory::OutOfMemory;
-use js_core::syntax::{Code, Expr, ExprNode};
-use js_core::token::Punct;
-use js_core::units::Units;
+use js_core::{Code, Expr, ExprNode, Keyword, OutOfMemory, Punct, Units};
 
 /// Appends the lexemes of an expression in its place.
 #[cycle(printing)]
@@ -33,7 +29,8 @@ pub fn push_placed(
     expression: &Expr,
     out: &mut Vec<Lexeme>,
 ) -> Result<(), OutOfMemory>
-    ensures { OnOk result (out.new.items ≡ out.old.items ++ placed place expression.now (spec.expr_lexemes expression.now)) }
+    ensures { OnOk result (out.new.items ≡ out.old.items
+        ++ placed place expression.now (spec.expr_lexemes expression.now)) }
 {
     if is_bare(place, expression) {
         return push_expression(expression, out);
@@ -90,7 +87,9 @@ fn push_infix(
     right: &Expr,
     out: &mut Vec<Lexeme>,
 ) -> Result<(), OutOfMemory>
-    ensures { OnOk result (out.new.items ≡ out.old.items ++ (placed Operand left.now (spec.expr_lexemes left.now) ++ op ∷ placed Operand right.now (spec.expr_lexemes right.now))) }
+    ensures { OnOk result (out.new.items ≡ out.old.items
+        ++ (placed Operand left.now (spec.expr_lexemes left.now) ++ op
+        ∷ placed Operand right.now (spec.expr_lexemes right.now))) }
 {
     push_placed(Place::Operand, left, out)?;
     push_lexeme(op, out)?;
@@ -104,7 +103,8 @@ fn push_conditional(
     second: &Expr,
     out: &mut Vec<Lexeme>,
 ) -> Result<(), OutOfMemory>
-    ensures { OnOk result (out.new.items ≡ out.old.items ++ spec.expr_lexemes (tree.conditional test.now first.now second.now)) }
+    ensures { OnOk result (out.new.items ≡ out.old.items
+        ++ spec.expr_lexemes (tree.conditional test.now first.now second.now)) }
 {
     push_placed(Place::Operand, test, out)?;
     push_punct(Punct::QuestionMark, out)?;
@@ -120,7 +120,8 @@ fn push_update(
     target: &Expr,
     out: &mut Vec<Lexeme>,
 ) -> Result<(), OutOfMemory>
-    ensures { OnOk result (out.new.items ≡ out.old.items ++ spec.expr_lexemes (tree.update up prefix target.now)) }
+    ensures { OnOk result (out.new.items ≡ out.old.items
+        ++ spec.expr_lexemes (tree.update up prefix target.now)) }
 {
     if prefix {
         push_punct(update_punct(up), out)?;
@@ -132,7 +133,8 @@ fn push_update(
 
 #[cycle(printing)]
 fn push_member(object: &Expr, name: &Units, out: &mut Vec<Lexeme>) -> Result<(), OutOfMemory>
-    ensures { OnOk result (out.new.items ≡ out.old.items ++ spec.expr_lexemes (tree.member object.now name.now)) }
+    ensures { OnOk result (out.new.items ≡ out.old.items
+        ++ spec.expr_lexemes (tree.member object.now name.now)) }
 {
     push_placed(Place::Base, object, out)?;
     push_punct(Punct::Dot, out)?;
@@ -141,7 +143,8 @@ fn push_member(object: &Expr, name: &Units, out: &mut Vec<Lexeme>) -> Result<(),
 
 #[cycle(printing)]
 fn push_index(object: &Expr, index: &Expr, out: &mut Vec<Lexeme>) -> Result<(), OutOfMemory>
-    ensures { OnOk result (out.new.items ≡ out.old.items ++ spec.expr_lexemes (tree.index object.now index.now)) }
+    ensures { OnOk result (out.new.items ≡ out.old.items
+        ++ spec.expr_lexemes (tree.index object.now index.now)) }
 {
     push_placed(Place::Base, object, out)?;
     push_punct(Punct::LeftBracket, out)?;
@@ -151,7 +154,8 @@ fn push_index(object: &Expr, index: &Expr, out: &mut Vec<Lexeme>) -> Result<(), 
 
 #[cycle(printing)]
 fn push_call(callee: &Expr, arguments: &[Expr], out: &mut Vec<Lexeme>) -> Result<(), OutOfMemory>
-    ensures { OnOk result (out.new.items ≡ out.old.items ++ spec.expr_lexemes (tree.call callee.now (exprs_of arguments.now))) }
+    ensures { OnOk result (out.new.items ≡ out.old.items
+        ++ spec.expr_lexemes (tree.call callee.now (exprs_of arguments.now))) }
 {
     push_placed(Place::Operand, callee, out)?;
     push_arguments(arguments, out)
@@ -159,7 +163,8 @@ fn push_call(callee: &Expr, arguments: &[Expr], out: &mut Vec<Lexeme>) -> Result
 
 #[cycle(printing)]
 fn push_new(callee: &Expr, arguments: &[Expr], out: &mut Vec<Lexeme>) -> Result<(), OutOfMemory>
-    ensures { OnOk result (out.new.items ≡ out.old.items ++ spec.expr_lexemes (tree.construct callee.now (exprs_of arguments.now))) }
+    ensures { OnOk result (out.new.items ≡ out.old.items
+        ++ spec.expr_lexemes (tree.construct callee.now (exprs_of arguments.now))) }
 {
     push_keyword(Keyword::New, out)?;
     push_placed(Place::Constructor, callee, out)?;
@@ -168,7 +173,8 @@ fn push_new(callee: &Expr, arguments: &[Expr], out: &mut Vec<Lexeme>) -> Result<
 
 #[cycle(printing)]
 fn push_arguments(arguments: &[Expr], out: &mut Vec<Lexeme>) -> Result<(), OutOfMemory>
-    ensures { OnOk result (out.new.items ≡ out.old.items ++ parenthesised (spec.parts_lexemes (exprs_of arguments.now))) }
+    ensures { OnOk result (out.new.items ≡ out.old.items
+        ++ parenthesised (spec.parts_lexemes (exprs_of arguments.now))) }
 {
     push_punct(Punct::LeftParenthesis, out)?;
     push_parts(arguments, out)?;
@@ -178,7 +184,8 @@ fn push_arguments(arguments: &[Expr], out: &mut Vec<Lexeme>) -> Result<(), OutOf
 // Expressions with commas between them.
 #[cycle(printing)]
 fn push_parts(parts: &[Expr], out: &mut Vec<Lexeme>) -> Result<(), OutOfMemory>
-    ensures { OnOk result (out.new.items ≡ out.old.items ++ spec.parts_lexemes (exprs_of parts.now)) }
+    ensures { OnOk result (out.new.items ≡ out.old.items
+        ++ spec.parts_lexemes (exprs_of parts.now)) }
 {
     let [part, more @ ..] = parts else {
         return Ok(());
@@ -190,7 +197,8 @@ fn push_parts(parts: &[Expr], out: &mut Vec<Lexeme>) -> Result<(), OutOfMemory>
 // Expressions, each after a comma.
 #[cycle(printing)]
 fn push_more_parts(parts: &[Expr], out: &mut Vec<Lexeme>) -> Result<(), OutOfMemory>
-    ensures { OnOk result (out.new.items ≡ out.old.items ++ spec.more_parts_lexemes (exprs_of parts.now)) }
+    ensures { OnOk result (out.new.items ≡ out.old.items
+        ++ spec.more_parts_lexemes (exprs_of parts.now)) }
 {
     let mut rest = parts;
     while let [part, after @ ..] = rest {
@@ -203,7 +211,8 @@ fn push_more_parts(parts: &[Expr], out: &mut Vec<Lexeme>) -> Result<(), OutOfMem
 
 #[cycle(printing)]
 fn push_list(elements: &[Option<Expr>], out: &mut Vec<Lexeme>) -> Result<(), OutOfMemory>
-    ensures { OnOk result (out.new.items ≡ out.old.items ++ spec.expr_lexemes (tree.list (holes_of elements.now))) }
+    ensures { OnOk result (out.new.items ≡ out.old.items
+        ++ spec.expr_lexemes (tree.list (holes_of elements.now))) }
 {
     push_punct(Punct::LeftBracket, out)?;
     push_elements(elements, out)?;
@@ -212,7 +221,8 @@ fn push_list(elements: &[Option<Expr>], out: &mut Vec<Lexeme>) -> Result<(), Out
 
 #[cycle(printing)]
 fn push_elements(elements: &[Option<Expr>], out: &mut Vec<Lexeme>) -> Result<(), OutOfMemory>
-    ensures { OnOk result (out.new.items ≡ out.old.items ++ spec.holes_lexemes (holes_of elements.now)) }
+    ensures { OnOk result (out.new.items ≡ out.old.items
+        ++ spec.holes_lexemes (holes_of elements.now)) }
 {
     let mut rest = elements;
     while let [element, after @ ..] = rest {
@@ -225,7 +235,8 @@ fn push_elements(elements: &[Option<Expr>], out: &mut Vec<Lexeme>) -> Result<(),
 
 #[cycle(printing)]
 fn push_element(element: &Option<Expr>, out: &mut Vec<Lexeme>) -> Result<(), OutOfMemory>
-    ensures { OnOk result (out.new.items ≡ out.old.items ++ spec.hole_lexemes (maybe_expr element.now)) }
+    ensures { OnOk result (out.new.items ≡ out.old.items
+        ++ spec.hole_lexemes (maybe_expr element.now)) }
 {
     match element {
         None => Ok(()),
@@ -240,7 +251,8 @@ fn push_separator(
     after: &[Option<Expr>],
     out: &mut Vec<Lexeme>,
 ) -> Result<(), OutOfMemory>
-    ensures { OnOk result (out.new.items ≡ out.old.items ++ spec.separator (maybe_expr element.now) (holes_of after.now)) }
+    ensures { OnOk result (out.new.items ≡ out.old.items
+        ++ spec.separator (maybe_expr element.now) (holes_of after.now)) }
 {
     match element {
         None => push_punct(Punct::Comma, out),
@@ -253,7 +265,8 @@ fn push_separator(
 
 #[cycle(printing)]
 fn push_literal(fields: &[(Units, Expr)], out: &mut Vec<Lexeme>) -> Result<(), OutOfMemory>
-    ensures { OnOk result (out.new.items ≡ out.old.items ++ spec.expr_lexemes (tree.literal (fields_of fields.now))) }
+    ensures { OnOk result (out.new.items ≡ out.old.items
+        ++ spec.expr_lexemes (tree.literal (fields_of fields.now))) }
 {
     push_punct(Punct::LeftBrace, out)?;
     push_fields(fields, out)?;
@@ -262,7 +275,8 @@ fn push_literal(fields: &[(Units, Expr)], out: &mut Vec<Lexeme>) -> Result<(), O
 
 #[cycle(printing)]
 fn push_fields(fields: &[(Units, Expr)], out: &mut Vec<Lexeme>) -> Result<(), OutOfMemory>
-    ensures { OnOk result (out.new.items ≡ out.old.items ++ spec.fields_lexemes (fields_of fields.now)) }
+    ensures { OnOk result (out.new.items ≡ out.old.items
+        ++ spec.fields_lexemes (fields_of fields.now)) }
 {
     let [(name, value), more @ ..] = fields else {
         return Ok(());
@@ -273,7 +287,8 @@ fn push_fields(fields: &[(Units, Expr)], out: &mut Vec<Lexeme>) -> Result<(), Ou
 
 #[cycle(printing)]
 fn push_more_fields(fields: &[(Units, Expr)], out: &mut Vec<Lexeme>) -> Result<(), OutOfMemory>
-    ensures { OnOk result (out.new.items ≡ out.old.items ++ spec.more_fields_lexemes (fields_of fields.now)) }
+    ensures { OnOk result (out.new.items ≡ out.old.items
+        ++ spec.more_fields_lexemes (fields_of fields.now)) }
 {
     let mut rest = fields;
     while let [(name, value), after @ ..] = rest {
@@ -286,7 +301,8 @@ fn push_more_fields(fields: &[(Units, Expr)], out: &mut Vec<Lexeme>) -> Result<(
 
 #[cycle(printing)]
 fn push_field(name: &Units, value: &Expr, out: &mut Vec<Lexeme>) -> Result<(), OutOfMemory>
-    ensures { OnOk result (out.new.items ≡ out.old.items ++ lexeme.Text name.now ∷ lexeme.Punct punct.Colon ∷ placed Part value.now (spec.expr_lexemes value.now)) }
+    ensures { OnOk result (out.new.items ≡ out.old.items ++ lexeme.Text name.now
+        ∷ lexeme.Punct punct.Colon ∷ placed Part value.now (spec.expr_lexemes value.now)) }
 {
     push_text(name, out)?;
     push_punct(Punct::Colon, out)?;

@@ -1,6 +1,7 @@
 //! What holds of printed trees and texts.
 
 ghost use Rattle.js_grammar.specs.Scripts.{TokensHaveSyntax};
+ghost use Rattle.js_print.specs.Laws.{ScriptsHaveNoEndTag, CodesHaveNoEndTag, ScriptsHaveNoControl, CodesHaveNoControl, TextIsAscii};
 ghost use Rattle.js_print.specs.Lined.{LinedScriptsAreReadAgain};
 ghost use Rattle.js_print.specs.ReadAgain.{ScriptsAreReadAgain};
 ghost use Rattle.js_print.specs.ReadBack.{LexemesDeriveTheTree};
@@ -44,4 +45,23 @@ pub fn law_lined_scripts_are_read_again()
 /// The law that the tokens of a text can be written.
 pub fn law_tokens_can_be_written()
     ensures { TokensCanBeWritten }
+{}
+
+/// The law that no printed text has an end tag: where the tree keeps the rules on trees, no `<` stands before a `/`, so that
+/// the text can stand in a `script` element.
+pub fn law_printed_text_has_no_end_tag()
+    ensures scripts { ScriptsHaveNoEndTag }
+    ensures codes { CodesHaveNoEndTag }
+{}
+
+/// The law that no printed text of a tree that keeps the rules on trees has a control character (U+0000 to U+001F, U+007F to
+/// U+009F) or a lone surrogate.
+pub fn law_printed_text_has_no_control_character()
+    ensures scripts { ScriptsHaveNoControl }
+    ensures codes { CodesHaveNoControl }
+{}
+
+/// The law that a printed text is ASCII but for its names.
+pub fn law_printed_text_is_ascii()
+    ensures { TextIsAscii }
 {}

@@ -1,9 +1,6 @@
 //! The lexemes that are printed: the tokens of ECMA-262 5.1 section 7, with reserved words apart from names.
 
-use js_core::keyword::Keyword;
-use js_core::token::Punct;
-use js_core::units::Units;
-use js_core::whole::Whole;
+use js_core::{Keyword, Punct, Units, Whole};
 
 /// A token to be printed.
 #[derive(Debug, Drop)]

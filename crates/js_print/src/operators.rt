@@ -4,9 +4,7 @@ ghost use Rattle.std.specs.Prelude.{◌≡◌};
 ghost use Rattle.js_print.specs.Operators as spec;
 
 use crate::lexeme::Lexeme;
-use js_core::keyword::Keyword;
-use js_core::operators::{BinaryOp, UnaryOp};
-use js_core::token::Punct;
+use js_core::{BinaryOp, Keyword, Punct, UnaryOp};
 
 /// The lexeme of a unary operator.
 pub fn unary_lexeme(op: UnaryOp) -> Lexeme

@@ -3,8 +3,7 @@
 ghost use Rattle.std.specs.Prelude.{◌≡◌};
 ghost use Rattle.js_print.specs.Places.{is_simple, is_in_test, is_braced, begins_as_statement, is_bare};
 
-use js_core::operators::BinaryOp;
-use js_core::syntax::{Expr, ExprNode};
+use js_core::{BinaryOp, Expr, ExprNode};
 
 /// Where an expression stands.
 #[derive(Clone, Copy, Debug, PartialEq, Eq)]

@@ -6,10 +6,7 @@ ghost use Rattle.js_print.specs.declared.lexeme.Lexeme.TheVariants as lexeme;
 ghost use Rattle.js_print.specs.Lexemes as spec;
 
 use crate::lexeme::Lexeme;
-use js_core::keyword::Keyword;
-use js_core::memory::OutOfMemory;
-use js_core::token::Punct;
-use js_core::units::Units;
+use js_core::{Keyword, OutOfMemory, Punct, Units};
 
 /// Appends a lexeme.
 pub fn push_lexeme(added: Lexeme, out: &mut Vec<Lexeme>) -> Result<(), OutOfMemory>
@@ -63,7 +60,8 @@ pub fn push_maybe_name(name: &Option<Units>, out: &mut Vec<Lexeme>) -> Result<()
 
 /// Appends names with commas between them, in parentheses.
 pub fn push_formals(names: &[Units], out: &mut Vec<Lexeme>) -> Result<(), OutOfMemory>
-    ensures { OnOk result (out.new.items ≡ out.old.items ++ lexeme.Punct punct.LeftParenthesis ∷ (spec.names names.now ++ lexeme.Punct punct.RightParenthesis ∷ [])) }
+    ensures { OnOk result (out.new.items ≡ out.old.items ++ lexeme.Punct punct.LeftParenthesis
+        ∷ (spec.names names.now ++ lexeme.Punct punct.RightParenthesis ∷ [])) }
 {
     push_punct(Punct::LeftParenthesis, out)?;
     push_names(names, out)?;

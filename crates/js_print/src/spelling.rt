@@ -6,9 +6,7 @@ ghost use Rattle.js_print.specs.Spelling as spec;
 use crate::lexeme::Lexeme;
 use crate::strings::push_string;
 use itoa::Buffer;
-use js_core::line_text::truncate_on_error;
-use js_core::memory::OutOfMemory;
-use js_core::whole::Whole;
+use js_core::{OutOfMemory, Whole, truncate_on_error};
 
 /// Appends the text of lexemes, with one space between two exactly where the first ends and the second begins with an
 /// identifier character. After an error nothing is appended.
@@ -48,7 +46,8 @@ fn is_word(lexeme: &Lexeme) -> bool
 }
 
 fn push_space(after_word: bool, before_word: bool, out: &mut Vec<u8>) -> Result<(), OutOfMemory>
-    ensures ok { OnOk result (out.new.items ≡ out.old.items ++ spec.space_between after_word before_word) }
+    ensures ok { OnOk result (out.new.items ≡ out.old.items
+        ++ spec.space_between after_word before_word) }
     ensures err { OnErr result (take (length out.old.items) out.new.items ≡ out.old.items) }
 {
     if after_word && before_word {

@@ -15,15 +15,15 @@ use crate::expressions::{push_code, push_placed};
 use crate::lexeme::Lexeme;
 use crate::place::Place;
 use crate::pushing::{push_keyword, push_maybe_var, push_name, push_punct};
-use js_core::keyword::Keyword;
-use js_core::memory::OutOfMemory;
-use js_core::syntax::{Case, Catch, Declarator, Expr, ForInit, Stmt, StmtNode};
-use js_core::token::Punct;
+use js_core::{
+    Case, Catch, Declarator, Expr, ForInit, Keyword, OutOfMemory, Punct, Stmt, StmtNode,
+};
 
 /// Appends the lexemes of statements.
 #[cycle(printing)]
 pub fn push_statements(statements: &[Stmt], out: &mut Vec<Lexeme>) -> Result<(), OutOfMemory>
-    ensures { OnOk result (out.new.items ≡ out.old.items ++ spec.stmts_lexemes (stmts_of statements.now)) }
+    ensures { OnOk result (out.new.items ≡ out.old.items
+        ++ spec.stmts_lexemes (stmts_of statements.now)) }
 {
     let mut rest = statements;
     while let [statement, after @ ..] = rest {
@@ -36,7 +36,8 @@ pub fn push_statements(statements: &[Stmt], out: &mut Vec<Lexeme>) -> Result<(),
 /// Appends the lexemes of statements in braces.
 #[cycle(printing)]
 pub fn push_body(statements: &[Stmt], out: &mut Vec<Lexeme>) -> Result<(), OutOfMemory>
-    ensures { OnOk result (out.new.items ≡ out.old.items ++ braced (spec.stmts_lexemes (stmts_of statements.now))) }
+    ensures { OnOk result (out.new.items ≡ out.old.items
+        ++ braced (spec.stmts_lexemes (stmts_of statements.now))) }
 {
     push_punct(Punct::LeftBrace, out)?;
     push_statements(statements, out)?;
@@ -82,7 +83,8 @@ fn push_statement(statement: &Stmt, out: &mut Vec<Lexeme>) -> Result<(), OutOfMe
 
 // `break` or `continue`.
 fn push_jump(keyword: Keyword, out: &mut Vec<Lexeme>) -> Result<(), OutOfMemory>
-    ensures { OnOk result (out.new.items ≡ out.old.items ++ lexeme.Keyword keyword ∷ lexeme.Punct punct.Semicolon ∷ []) }
+    ensures { OnOk result (out.new.items ≡ out.old.items ++ lexeme.Keyword keyword
+        ∷ lexeme.Punct punct.Semicolon ∷ []) }
 {
     push_keyword(keyword, out)?;
     push_punct(Punct::Semicolon, out)
@@ -90,7 +92,8 @@ fn push_jump(keyword: Keyword, out: &mut Vec<Lexeme>) -> Result<(), OutOfMemory>
 
 #[cycle(printing)]
 fn push_variables(declarators: &[Declarator], out: &mut Vec<Lexeme>) -> Result<(), OutOfMemory>
-    ensures { OnOk result (out.new.items ≡ out.old.items ++ spec.stmt_lexemes (tree.var (declarators_of declarators.now))) }
+    ensures { OnOk result (out.new.items ≡ out.old.items
+        ++ spec.stmt_lexemes (tree.var (declarators_of declarators.now))) }
 {
     push_keyword(Keyword::Var, out)?;
     push_declarators(declarators, out)?;
@@ -99,7 +102,8 @@ fn push_variables(declarators: &[Declarator], out: &mut Vec<Lexeme>) -> Result<(
 
 #[cycle(printing)]
 fn push_declarators(declarators: &[Declarator], out: &mut Vec<Lexeme>) -> Result<(), OutOfMemory>
-    ensures { OnOk result (out.new.items ≡ out.old.items ++ spec.declarators_lexemes (declarators_of declarators.now)) }
+    ensures { OnOk result (out.new.items ≡ out.old.items
+        ++ spec.declarators_lexemes (declarators_of declarators.now)) }
 {
     let [declarator, more @ ..] = declarators else {
         return Ok(());
@@ -115,7 +119,8 @@ fn push_more_declarators(
     declarators: &[Declarator],
     out: &mut Vec<Lexeme>,
 ) -> Result<(), OutOfMemory>
-    ensures { OnOk result (out.new.items ≡ out.old.items ++ spec.more_declarators_lexemes (declarators_of declarators.now)) }
+    ensures { OnOk result (out.new.items ≡ out.old.items
+        ++ spec.more_declarators_lexemes (declarators_of declarators.now)) }
 {
     let mut rest = declarators;
     while let [declarator, after @ ..] = rest {
@@ -129,7 +134,8 @@ fn push_more_declarators(
 
 #[cycle(printing)]
 fn push_initialiser(value: &Option<Expr>, out: &mut Vec<Lexeme>) -> Result<(), OutOfMemory>
-    ensures { OnOk result (out.new.items ≡ out.old.items ++ spec.initialiser_lexemes (maybe_expr value.now)) }
+    ensures { OnOk result (out.new.items ≡ out.old.items
+        ++ spec.initialiser_lexemes (maybe_expr value.now)) }
 {
     let Some(value) = value else {
         return Ok(());
@@ -141,7 +147,8 @@ fn push_initialiser(value: &Option<Expr>, out: &mut Vec<Lexeme>) -> Result<(), O
 // An expression in parentheses, as the headers of statements have it.
 #[cycle(printing)]
 fn push_header(expression: &Expr, out: &mut Vec<Lexeme>) -> Result<(), OutOfMemory>
-    ensures { OnOk result (out.new.items ≡ out.old.items ++ parenthesised (placed Whole expression.now (spec.expr_lexemes expression.now))) }
+    ensures { OnOk result (out.new.items ≡ out.old.items
+        ++ parenthesised (placed Whole expression.now (spec.expr_lexemes expression.now))) }
 {
     push_punct(Punct::LeftParenthesis, out)?;
     push_placed(Place::Whole, expression, out)?;
@@ -150,7 +157,8 @@ fn push_header(expression: &Expr, out: &mut Vec<Lexeme>) -> Result<(), OutOfMemo
 
 #[cycle(printing)]
 fn push_maybe_whole(expression: &Option<Expr>, out: &mut Vec<Lexeme>) -> Result<(), OutOfMemory>
-    ensures { OnOk result (out.new.items ≡ out.old.items ++ spec.maybe_whole_lexemes (maybe_expr expression.now)) }
+    ensures { OnOk result (out.new.items ≡ out.old.items
+        ++ spec.maybe_whole_lexemes (maybe_expr expression.now)) }
 {
     match expression {
         None => Ok(()),
@@ -165,7 +173,9 @@ fn push_if(
     second: &Option<Vec<Stmt>>,
     out: &mut Vec<Lexeme>,
 ) -> Result<(), OutOfMemory>
-    ensures { OnOk result (out.new.items ≡ out.old.items ++ spec.stmt_lexemes (tree.if_else test.now (stmts_of first.now) (maybe_stmts (option_map (λ v. v.items) second.now)))) }
+    ensures { OnOk result (out.new.items ≡ out.old.items
+        ++ spec.stmt_lexemes (tree.if_else test.now (stmts_of first.now)
+        (maybe_stmts (option_map (λ v. v.items) second.now)))) }
 {
     push_keyword(Keyword::If, out)?;
     push_header(test, out)?;
@@ -179,7 +189,8 @@ fn push_maybe_body(
     body: &Option<Vec<Stmt>>,
     out: &mut Vec<Lexeme>,
 ) -> Result<(), OutOfMemory>
-    ensures { OnOk result (out.new.items ≡ out.old.items ++ spec.maybe_body_lexemes keyword (maybe_stmts (option_map (λ v. v.items) body.now))) }
+    ensures { OnOk result (out.new.items ≡ out.old.items
+        ++ spec.maybe_body_lexemes keyword (maybe_stmts (option_map (λ v. v.items) body.now))) }
 {
     let Some(body) = body else {
         return Ok(());
@@ -190,7 +201,8 @@ fn push_maybe_body(
 
 #[cycle(printing)]
 fn push_do(body: &[Stmt], test: &Expr, out: &mut Vec<Lexeme>) -> Result<(), OutOfMemory>
-    ensures { OnOk result (out.new.items ≡ out.old.items ++ spec.stmt_lexemes (tree.do_while (stmts_of body.now) test.now)) }
+    ensures { OnOk result (out.new.items ≡ out.old.items
+        ++ spec.stmt_lexemes (tree.do_while (stmts_of body.now) test.now)) }
 {
     push_keyword(Keyword::Do, out)?;
     push_body(body, out)?;
@@ -201,7 +213,8 @@ fn push_do(body: &[Stmt], test: &Expr, out: &mut Vec<Lexeme>) -> Result<(), OutO
 
 #[cycle(printing)]
 fn push_while(test: &Expr, body: &[Stmt], out: &mut Vec<Lexeme>) -> Result<(), OutOfMemory>
-    ensures { OnOk result (out.new.items ≡ out.old.items ++ spec.stmt_lexemes (tree.while test.now (stmts_of body.now))) }
+    ensures { OnOk result (out.new.items ≡ out.old.items
+        ++ spec.stmt_lexemes (tree.while test.now (stmts_of body.now))) }
 {
     push_keyword(Keyword::While, out)?;
     push_header(test, out)?;
@@ -210,7 +223,8 @@ fn push_while(test: &Expr, body: &[Stmt], out: &mut Vec<Lexeme>) -> Result<(), O
 
 #[cycle(printing)]
 fn push_return(value: &Option<Expr>, out: &mut Vec<Lexeme>) -> Result<(), OutOfMemory>
-    ensures { OnOk result (out.new.items ≡ out.old.items ++ spec.stmt_lexemes (tree.return (maybe_expr value.now))) }
+    ensures { OnOk result (out.new.items ≡ out.old.items
+        ++ spec.stmt_lexemes (tree.return (maybe_expr value.now))) }
 {
     push_keyword(Keyword::Return, out)?;
     push_maybe_whole(value, out)?;
@@ -219,7 +233,8 @@ fn push_return(value: &Option<Expr>, out: &mut Vec<Lexeme>) -> Result<(), OutOfM
 
 #[cycle(printing)]
 fn push_throw(value: &Expr, out: &mut Vec<Lexeme>) -> Result<(), OutOfMemory>
-    ensures { OnOk result (out.new.items ≡ out.old.items ++ spec.stmt_lexemes (tree.throw value.now)) }
+    ensures { OnOk result (out.new.items ≡ out.old.items
+        ++ spec.stmt_lexemes (tree.throw value.now)) }
 {
     push_keyword(Keyword::Throw, out)?;
     push_placed(Place::Whole, value, out)?;
@@ -234,7 +249,9 @@ fn push_for(
     body: &[Stmt],
     out: &mut Vec<Lexeme>,
 ) -> Result<(), OutOfMemory>
-    ensures { OnOk result (out.new.items ≡ out.old.items ++ spec.stmt_lexemes (tree.for (init_of init.now) (maybe_expr test.now) (maybe_expr step.now) (stmts_of body.now))) }
+    ensures { OnOk result (out.new.items ≡ out.old.items
+        ++ spec.stmt_lexemes (tree.for (init_of init.now) (maybe_expr test.now)
+        (maybe_expr step.now) (stmts_of body.now))) }
 {
     push_keyword(Keyword::For, out)?;
     push_punct(Punct::LeftParenthesis, out)?;
@@ -250,7 +267,10 @@ fn push_for_header(
     step: &Option<Expr>,
     out: &mut Vec<Lexeme>,
 ) -> Result<(), OutOfMemory>
-    ensures { OnOk result (out.new.items ≡ out.old.items ++ (spec.init_lexemes (init_of init.now) ++ lexeme.Punct punct.Semicolon ∷ (spec.maybe_whole_lexemes (maybe_expr test.now) ++ lexeme.Punct punct.Semicolon ∷ spec.maybe_whole_lexemes (maybe_expr step.now)))) }
+    ensures { OnOk result (out.new.items ≡ out.old.items
+        ++ (spec.init_lexemes (init_of init.now) ++ lexeme.Punct punct.Semicolon
+        ∷ (spec.maybe_whole_lexemes (maybe_expr test.now) ++ lexeme.Punct punct.Semicolon
+        ∷ spec.maybe_whole_lexemes (maybe_expr step.now)))) }
 {
     push_init(init, out)?;
     push_punct(Punct::Semicolon, out)?;
@@ -281,7 +301,8 @@ fn push_for_in(
     body: &[Stmt],
     out: &mut Vec<Lexeme>,
 ) -> Result<(), OutOfMemory>
-    ensures { OnOk result (out.new.items ≡ out.old.items ++ spec.stmt_lexemes (tree.for_in declared target.now object.now (stmts_of body.now))) }
+    ensures { OnOk result (out.new.items ≡ out.old.items
+        ++ spec.stmt_lexemes (tree.for_in declared target.now object.now (stmts_of body.now))) }
 {
     push_keyword(Keyword::For, out)?;
     push_punct(Punct::LeftParenthesis, out)?;
@@ -297,7 +318,9 @@ fn push_for_in_header(
     object: &Expr,
     out: &mut Vec<Lexeme>,
 ) -> Result<(), OutOfMemory>
-    ensures { OnOk result (out.new.items ≡ out.old.items ++ (spec.maybe_var declared ++ (placed Operand target.now (spec.expr_lexemes target.now) ++ lexeme.Keyword keyword.In ∷ placed Whole object.now (spec.expr_lexemes object.now)))) }
+    ensures { OnOk result (out.new.items ≡ out.old.items
+        ++ (spec.maybe_var declared ++ (placed Operand target.now (spec.expr_lexemes target.now)
+        ++ lexeme.Keyword keyword.In ∷ placed Whole object.now (spec.expr_lexemes object.now)))) }
 {
     push_maybe_var(declared, out)?;
     push_placed(Place::Operand, target, out)?;
@@ -312,7 +335,9 @@ fn push_try(
     last: &Option<Vec<Stmt>>,
     out: &mut Vec<Lexeme>,
 ) -> Result<(), OutOfMemory>
-    ensures { OnOk result (out.new.items ≡ out.old.items ++ spec.stmt_lexemes (tree.try (stmts_of block.now) (catch_of catch.now) (maybe_stmts (option_map (λ v. v.items) last.now)))) }
+    ensures { OnOk result (out.new.items ≡ out.old.items
+        ++ spec.stmt_lexemes (tree.try (stmts_of block.now) (catch_of catch.now)
+        (maybe_stmts (option_map (λ v. v.items) last.now)))) }
 {
     push_keyword(Keyword::Try, out)?;
     push_body(block, out)?;
@@ -322,7 +347,8 @@ fn push_try(
 
 #[cycle(printing)]
 fn push_maybe_catch(catch: &Option<Catch>, out: &mut Vec<Lexeme>) -> Result<(), OutOfMemory>
-    ensures { OnOk result (out.new.items ≡ out.old.items ++ spec.maybe_catch_lexemes (catch_of catch.now)) }
+    ensures { OnOk result (out.new.items ≡ out.old.items
+        ++ spec.maybe_catch_lexemes (catch_of catch.now)) }
 {
     let Some(catch) = catch else {
         return Ok(());
@@ -336,7 +362,8 @@ fn push_maybe_catch(catch: &Option<Catch>, out: &mut Vec<Lexeme>) -> Result<(), 
 
 #[cycle(printing)]
 fn push_switch(value: &Expr, cases: &[Case], out: &mut Vec<Lexeme>) -> Result<(), OutOfMemory>
-    ensures { OnOk result (out.new.items ≡ out.old.items ++ spec.stmt_lexemes (tree.switch value.now (cases_of cases.now))) }
+    ensures { OnOk result (out.new.items ≡ out.old.items
+        ++ spec.stmt_lexemes (tree.switch value.now (cases_of cases.now))) }
 {
     push_keyword(Keyword::Switch, out)?;
     push_header(value, out)?;
@@ -347,7 +374,8 @@ fn push_switch(value: &Expr, cases: &[Case], out: &mut Vec<Lexeme>) -> Result<()
 
 #[cycle(printing)]
 fn push_cases(cases: &[Case], out: &mut Vec<Lexeme>) -> Result<(), OutOfMemory>
-    ensures { OnOk result (out.new.items ≡ out.old.items ++ spec.cases_lexemes (cases_of cases.now)) }
+    ensures { OnOk result (out.new.items ≡ out.old.items
+        ++ spec.cases_lexemes (cases_of cases.now)) }
 {
     let mut rest = cases;
     while let [case, after @ ..] = rest {
@@ -360,7 +388,8 @@ fn push_cases(cases: &[Case], out: &mut Vec<Lexeme>) -> Result<(), OutOfMemory>
 
 #[cycle(printing)]
 fn push_label(test: &Option<Expr>, out: &mut Vec<Lexeme>) -> Result<(), OutOfMemory>
-    ensures { OnOk result (out.new.items ≡ out.old.items ++ spec.case_label_lexemes (maybe_expr test.now)) }
+    ensures { OnOk result (out.new.items ≡ out.old.items
+        ++ spec.case_label_lexemes (maybe_expr test.now)) }
 {
     let Some(test) = test else {
         push_keyword(Keyword::Default, out)?;

@@ -4,8 +4,7 @@ ghost use Rattle.std.specs.Prelude.{◌≡◌, ◌++◌, take, length, OnOk, OnE
 ghost use Rattle.std.specs.List.{flat_map};
 ghost use Rattle.js_print.specs.Spelling as spec;
 
-use js_core::line_text::push_unit_escape;
-use js_core::memory::OutOfMemory;
+use js_core::{OutOfMemory, push_unit_escape};
 
 /// Appends a string literal in double quotes. Units from 0020 to 007E stand for themselves, but `"` and a backslash come
 /// behind a backslash, and `<` and all other units are `\u` and four upper-case hexadecimal digits. After an error a part
@@ -21,7 +20,8 @@ pub fn push_string(units: &[u16], out: &mut Vec<u8>) -> Result<(), OutOfMemory>
 }
 
 fn push_units(units: &[u16], out: &mut Vec<u8>) -> Result<(), OutOfMemory>
-    ensures ok { OnOk result (out.new.items ≡ out.old.items ++ flat_map spec.string_unit units.now) }
+    ensures ok { OnOk result (out.new.items ≡ out.old.items
+        ++ flat_map spec.string_unit units.now) }
     ensures err { OnErr result (take (length out.old.items) out.new.items ≡ out.old.items) }
 {
     let mut rest = units;

@@ -1,6 +1,6 @@
 //! Host events.
 
-use js_core::units::Units;
+use js_core::Units;
 
 /// What the host asks of a page.
 #[derive(Debug, PartialEq, Eq, Drop)]

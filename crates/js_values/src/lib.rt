@@ -2,9 +2,16 @@
 //! it puts out.
 #![tactic(auto)]
 
-pub mod built_in;
-pub mod event;
-pub mod ids;
-pub mod line;
-pub mod throw;
-pub mod value;
+mod built_in;
+mod event;
+mod ids;
+mod line;
+mod throw;
+mod value;
+
+pub use built_in::BuiltIn;
+pub use event::Event;
+pub use ids::{EnvId, NodeId, ObjId};
+pub use line::{Line, LineKind};
+pub use throw::{ErrorKind, Throw};
+pub use value::Value;

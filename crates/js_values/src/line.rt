@@ -4,9 +4,7 @@ ghost use Rattle.std.specs.Prelude.{◌≡◌, [], ◌++◌, length, OnOk, OnErr
 ghost use Rattle.js_values.specs.Line.{kind_words, has_text, line_of};
 ghost use Rattle.js_core.specs.LineText.{line_text};
 
-use js_core::line_text::{push_line_text, truncate_on_error};
-use js_core::memory::OutOfMemory;
-use js_core::units::Units;
+use js_core::{OutOfMemory, Units, push_line_text, truncate_on_error};
 
 /// What a line tells, which its first words say.
 #[derive(Clone, Copy, Debug, PartialEq, Eq)]
@@ -79,7 +77,8 @@ impl Line {
     }
 
     fn push_text(&self, out: &mut Vec<u8>) -> Result<(), OutOfMemory>
-        ensures ok { OnOk result (out.new.items ≡ out.old.items ++ (if has_text self.now.kind then codes " " ++ line_text self.now.text else [])) }
+        ensures ok { OnOk result (out.new.items ≡ out.old.items
+            ++ (if has_text self.now.kind then codes " " ++ line_text self.now.text else [])) }
         ensures err { OnErr result (take (length out.old.items) out.new.items ≡ out.old.items) }
     {
         if !self.kind.has_text() {

@@ -3,9 +3,7 @@
 ghost use Rattle.std.specs.Prelude.{◌≡◌, ◌++◌, IfOk, OnOk};
 ghost use Rattle.js_values.specs.Throw.{code_of, kind_of, kind_name, message_of, thrown_text};
 
-use js_core::ascii::push_ascii;
-use js_core::memory::OutOfMemory;
-use js_core::units::Units;
+use js_core::{OutOfMemory, Units, push_ascii};
 use std::alloc::Global;
 
 /// What is wrong where an error is thrown. It fixes the error's `name` and `message`.

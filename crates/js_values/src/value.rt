@@ -3,9 +3,7 @@
 ghost use Rattle.std.specs.Prelude.{◌≡◌, IfOk};
 
 use crate::ids::ObjId;
-use js_core::memory::OutOfMemory;
-use js_core::units::Units;
-use js_core::whole::Whole;
+use js_core::{OutOfMemory, Units, Whole};
 
 /// A value of the language (ECMA-262 5.1 section 8).
 #[derive(Debug, PartialEq, Eq, Drop)]

@@ -3,10 +3,10 @@
 ghost use Rattle.moved_pages.specs.Accepted.{SavedPagesAreAccepted};
 ghost use Rattle.moved_pages.specs.Moved.{AcceptedScriptsAreInForm, MovedPagesGoOn, MovesJoin};
 
-use js_print::laws::{
+use js_print::{
     law_lined_scripts_are_read_again, law_syntax_is_what_tokens_have, law_tokens_can_be_written,
 };
-use page_meaning::laws::law_lines_grow;
+use page_meaning::law_lines_grow;
 use page_rest::law_pages_rest;
 use page_writer::{law_pages_are_short, law_saved_scripts_are_form};
 use rebuild_plan::{law_plans_are_few, law_plans_stand};

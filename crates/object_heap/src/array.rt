@@ -24,12 +24,8 @@ use crate::fault::{HeapFault, Refused};
 use crate::index::array_index;
 use crate::object::Object;
 use crate::property::{Change, Prop};
-use js_core::ascii::ascii_text;
-use js_core::memory::OutOfMemory;
-use js_core::units::Units;
-use js_core::whole::Whole;
-use js_values::throw::Throw;
-use js_values::value::Value;
+use js_core::{OutOfMemory, Units, Whole, ascii_text};
+use js_values::{Throw, Value};
 use std::alloc::Global;
 
 const LENGTH: &[u8] = b"length";
@@ -43,7 +39,8 @@ impl Object {
         refused: Refused,
     ) -> Result<(), HeapFault>
         requires { IsProper self.old }
-        ensures { Follows (define (throw_of refused) self.old name.now change.now) self.old self.new result }
+        ensures { Follows (define (throw_of refused) self.old name.now change.now) self.old self.new
+            result }
     {
         if !self.class().is_list() {
             return self.define_ordinary(name, change, refused);
@@ -66,7 +63,8 @@ impl Object {
         refused: Refused,
     ) -> Result<(), HeapFault>
         requires { index < index_end }
-        ensures { Follows (define_element (throw_of refused) self.old name.now change.now index) self.old self.new result }
+        ensures { Follows (define_element (throw_of refused) self.old name.now change.now index)
+            self.old self.new result }
     {
         if index < self.array_length() {
             return self.define_ordinary(name, change, refused);
@@ -92,7 +90,8 @@ impl Object {
     ) -> Result<(), HeapFault>
         requires name { name.now ≡ length_name }
         requires array { IsArray self.old.props }
-        ensures { Follows (define_length (throw_of refused) self.old change.now change.now.value) self.old self.new result }
+        ensures { Follows (define_length (throw_of refused) self.old change.now change.now.value)
+            self.old self.new result }
     {
         let Some(value) = &change.value else {
             return self.define_ordinary(name, change, refused);
@@ -117,7 +116,8 @@ impl Object {
         requires name { name.now ≡ length_name }
         requires array { IsArray self.old.props }
         requires end { end ≤ array_length self.old }
-        ensures { Follows (shrunk (throw_of refused) self.old change.now end (own_property self.old.props length_name)) self.old self.new result }
+        ensures { Follows (shrunk (throw_of refused) self.old change.now end
+            (own_property self.old.props length_name)) self.old self.new result }
     {
         let Some(prop) = self.own(name) else {
             return Err(HeapFault::Throw(refused.throw()));

@@ -6,8 +6,8 @@ ghost use Rattle.object_heap.specs.Chain.{AreOlder, can_put, get_property};
 
 use crate::object::Object;
 use crate::property::Prop;
-use js_core::units::Units;
-use js_values::ids::ObjId;
+use js_core::Units;
+use js_values::ObjId;
 
 /// The property of the name that the object has, or else its prototype, and so on (ECMA-262 5.1 section 8.12.2).
 #[tactic(auto, using(crate::proofs::Chains::step))]

@@ -9,9 +9,8 @@ ghost use Rattle.object_heap.specs.Refused.{throw_of};
 use crate::fault::{HeapFault, Refused};
 use crate::object::Object;
 use crate::property::{Change, Prop, is_same_value};
-use js_core::memory::OutOfMemory;
-use js_core::units::Units;
-use js_values::value::Value;
+use js_core::{OutOfMemory, Units};
+use js_values::Value;
 
 impl Change {
     /// The new property that has what is asked for; all else is undefined or false.
@@ -99,7 +98,8 @@ impl Object {
         change: &Change,
         refused: Refused,
     ) -> Result<(), HeapFault>
-        ensures { Follows (define_ordinary (throw_of refused) self.old name.now change.now) self.old self.new result }
+        ensures { Follows (define_ordinary (throw_of refused) self.old name.now change.now) self.old
+            self.new result }
     {
         match self.own(name) {
             Some(prop) => {

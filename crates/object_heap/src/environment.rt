@@ -5,9 +5,8 @@ ghost use Rattle.object_heap.specs.Heap.{lookup};
 ghost use Rattle.std.specs.Option.{option_copied};
 ghost use Rattle.object_heap.specs.Environment.{AreInside, environment_at, inside, new_environment, value_of, with_bound, with_value_of};
 
-use js_core::units::Units;
-use js_values::ids::EnvId;
-use js_values::value::Value;
+use js_core::Units;
+use js_values::{EnvId, Value};
 use std::marker::Model;
 
 /// Names with values, in order, which contracts see as the list of them.
@@ -126,9 +125,11 @@ pub(crate) fn lookup<'a>(
 ) -> Option<(EnvId, &'a Value)>
     requires ages { AreInside environments.now }
     requires there { from.0 < length environments.now }
-    ensures found { option_map (λ found. (found.0, found.1.now)) result ≡ lookup environments.now from.0 name.now }
+    ensures found { option_map (λ found. (found.0, found.1.now)) result
+        ≡ lookup environments.now from.0 name.now }
     ensures there { IfSome result (λ found. found.0.0 < length environments.now) }
-    ensures bound { IfSome result (λ found. value_of (environment_at environments.now found.0.0).names name.now ≡ Some found.1.now) }
+    ensures bound { IfSome result (λ found. value_of
+        (environment_at environments.now found.0.0).names name.now ≡ Some found.1.now) }
 {
     let mut at = from;
     loop {

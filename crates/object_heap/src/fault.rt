@@ -3,8 +3,8 @@
 ghost use Rattle.std.specs.Prelude.{◌≡◌};
 ghost use Rattle.object_heap.specs.Refused.{throw_of};
 
-use js_core::memory::OutOfMemory;
-use js_values::throw::Throw;
+use js_core::OutOfMemory;
+use js_values::Throw;
 
 /// Why a call on the heap did not do what it was asked.
 #[derive(Debug, Drop)]

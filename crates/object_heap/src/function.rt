@@ -11,11 +11,8 @@ use crate::array::{length_name, number};
 use crate::object::Object;
 use crate::properties::Properties;
 use crate::property::Prop;
-use js_core::ascii::ascii_text;
-use js_core::memory::OutOfMemory;
-use js_core::units::Units;
-use js_values::ids::ObjId;
-use js_values::value::Value;
+use js_core::{OutOfMemory, Units, ascii_text};
+use js_values::{ObjId, Value};
 use std::alloc::Global;
 
 /// The properties of a function that has these formals and this `prototype`.
@@ -25,7 +22,8 @@ pub(crate) fn function_props(
     prototype: ObjId,
 ) -> Result<Properties, OutOfMemory>
     requires { formals ≤ index_end }
-    ensures { IfOk result (λ props. props ≡ (length_name, fixed (number formals)) ∷ (prototype_name, lasting (value.Object prototype)) ∷ []) }
+    ensures { IfOk result (λ props. props ≡ (length_name, fixed (number formals))
+        ∷ (prototype_name, lasting (value.Object prototype)) ∷ []) }
 {
     let length = length_name(alloc)?;
     let name = prototype_name(alloc)?;
@@ -37,7 +35,8 @@ pub(crate) fn function_props(
 
 /// The properties of the `prototype` of this function.
 pub(crate) fn prototype_props(alloc: Global, function: ObjId) -> Result<Properties, OutOfMemory>
-    ensures { IfOk result (λ props. props ≡ (constructor_name, hidden (value.Object function)) ∷ []) }
+    ensures { IfOk result (λ props. props ≡ (constructor_name, hidden (value.Object function))
+        ∷ []) }
 {
     let name = constructor_name(alloc)?;
     let mut props = Properties::new(alloc);

@@ -41,11 +41,8 @@ use crate::function::{function_props, prototype_props, push_both};
 use crate::object::{Class, EventParts, Object, class_at, older};
 use crate::properties::Properties;
 use crate::property::{Change, Prop};
-use js_core::memory::OutOfMemory;
-use js_core::units::Units;
-use js_values::ids::{EnvId, ObjId};
-use js_values::throw::Throw;
-use js_values::value::Value;
+use js_core::{OutOfMemory, Units};
+use js_values::{EnvId, ObjId, Throw, Value};
 use std::alloc::Global;
 use std::marker::Model;
 
@@ -72,7 +69,8 @@ impl Model for Heap {
 
     ghost view = { λ h. record { objects = h.objects.items; environments = h.environments.items } };
 
-    ghost invariant = { λ h. IsSound (record { objects = h.objects.items; environments = h.environments.items }) };
+    ghost invariant = { λ h. IsSound
+        (record { objects = h.objects.items; environments = h.environments.items }) };
 }
 
 impl Heap {
@@ -225,7 +223,8 @@ impl Heap {
 
     /// The object's own property of the name, or `None` exactly where there is none (section 8.12.1).
     pub fn own(&self, at: ObjId, name: &Units) -> Option<&Prop>
-        ensures { option_copied result ≡ own_property (object_at self.now.objects at.0).props name.now }
+        ensures { option_copied result ≡ own_property
+            (object_at self.now.objects at.0).props name.now }
     {
         match self.object(at) {
             Some(object) => object.own(name),
@@ -235,7 +234,8 @@ impl Heap {
 
     /// The object's own property at the place in order of creation, with its name, or `None` exactly past the last.
     pub fn own_at(&self, at: ObjId, index: u64) -> Option<(&Units, &Prop)>
-        ensures { option_map deref_pair result ≡ slice_get (object_at self.now.objects at.0).props index }
+        ensures { option_map deref_pair result
+            ≡ slice_get (object_at self.now.objects at.0).props index }
     {
         match self.object(at) {
             Some(object) => object.props().get_index(index as usize),
@@ -245,7 +245,8 @@ impl Heap {
 
     /// The names of the object's own properties, in order of creation. No two are the same.
     pub fn own_keys(&self, at: ObjId) -> Result<Vec<Units>, OutOfMemory>
-        ensures names { IfOk result (λ names. names.items ≡ keys_of (object_at self.now.objects at.0).props) }
+        ensures names { IfOk result (λ names. names.items
+            ≡ keys_of (object_at self.now.objects at.0).props) }
         ensures distinct { HasDistinctNames (object_at self.now.objects at.0).props }
     {
         let alloc = *self.objects.allocator();
@@ -409,9 +410,11 @@ impl Heap {
     /// The innermost environment from this one outwards that has the name, with the value, or `None` exactly where none
     /// has it (section 10.2.2.1). No memory.
     pub fn lookup(&self, from: EnvId, name: &Units) -> Option<(EnvId, &Value)>
-        ensures found { option_map (λ found. (found.0, found.1.now)) result ≡ lookup self.now.environments from.0 name.now }
+        ensures found { option_map (λ found. (found.0, found.1.now)) result
+            ≡ lookup self.now.environments from.0 name.now }
         ensures there { IfSome result (λ found. found.0.0 < length self.now.environments) }
-        ensures bound { IfSome result (λ found. value_of (environment_at self.now.environments found.0.0).names name.now ≡ Some found.1.now) }
+        ensures bound { IfSome result (λ found. value_of
+            (environment_at self.now.environments found.0.0).names name.now ≡ Some found.1.now) }
     {
         if from.0 as usize >= self.environments.len() {
             return None;
@@ -421,9 +424,11 @@ impl Heap {
 
     /// The same from an environment that there may be.
     pub fn look_in(&self, from: Option<EnvId>, name: &Units) -> Option<(EnvId, &Value)>
-        ensures found { option_map (λ found. (found.0, found.1.now)) result ≡ look_in self.now.environments from name.now }
+        ensures found { option_map (λ found. (found.0, found.1.now)) result
+            ≡ look_in self.now.environments from name.now }
         ensures there { IfSome result (λ found. found.0.0 < length self.now.environments) }
-        ensures bound { IfSome result (λ found. value_of (environment_at self.now.environments found.0.0).names name.now ≡ Some found.1.now) }
+        ensures bound { IfSome result (λ found. value_of
+            (environment_at self.now.environments found.0.0).names name.now ≡ Some found.1.now) }
     {
         match from {
             Some(from) => self.lookup(from, name),

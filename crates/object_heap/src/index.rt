@@ -6,9 +6,7 @@ ghost use Rattle.std.specs.List.{list_all};
 ghost use Rattle.object_heap.specs.Index.{index_of, index_end, begins_well, is_digit, number_of};
 
 use itoa::Buffer;
-use js_core::ascii::ascii_text;
-use js_core::memory::OutOfMemory;
-use js_core::units::Units;
+use js_core::{OutOfMemory, Units, ascii_text};
 use std::alloc::Global;
 
 /// 2^32 - 1, which is no array index.
@@ -53,7 +51,8 @@ fn begins_well(units: &[u16]) -> bool
 
 // The number that the digits write, or `INDEX_END` where it is larger; `None` where one is no digit.
 fn number(units: &[u16]) -> Option<u64>
-    ensures { result ≡ (if list_all is_digit units.now then Some (min (number_of units.now) index_end) else None) }
+    ensures { result ≡ (if list_all is_digit units.now then Some
+        (min (number_of units.now) index_end) else None) }
 {
     let mut number = 0u64;
     for unit in units {

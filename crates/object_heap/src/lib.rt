@@ -3,17 +3,29 @@
 #![tactic(auto)]
 
 mod absent;
-pub mod array;
-pub mod chain;
-pub mod define;
-pub mod environment;
-pub mod fault;
+mod array;
+mod chain;
+mod define;
+mod environment;
+mod fault;
 mod function;
-pub mod heap;
-pub mod index;
-pub mod laws;
-pub mod methods;
-pub mod object;
-pub mod properties;
-pub mod property;
-pub mod values;
+mod heap;
+mod index;
+mod laws;
+mod methods;
+mod object;
+mod properties;
+mod property;
+mod values;
+
+pub use fault::HeapFault;
+pub use heap::Heap;
+pub use index::{array_index, index_name};
+pub use laws::{
+    law_arrays_are_kept, law_chains_are_walked, law_heaps_are_kept, law_properties_are_kept,
+    law_prototypes_are_walked,
+};
+pub use object::{Class, EventParts};
+pub use properties::Properties;
+pub use property::{Change, Prop};
+pub use values::Values;

@@ -10,10 +10,8 @@ ghost use Rattle.object_heap.specs.Property.{own_property};
 use crate::fault::{HeapFault, Refused};
 use crate::object::Object;
 use crate::property::{Change, Prop};
-use js_core::global_names::is_global_name;
-use js_core::memory::OutOfMemory;
-use js_core::units::Units;
-use js_values::value::Value;
+use js_core::{OutOfMemory, Units, is_global_name};
+use js_values::Value;
 
 impl Object {
     /// Whether the property of the name may not be put, defined or deleted: the object is closed, or it is the global

@@ -24,11 +24,8 @@ use crate::properties::Properties;
 use crate::property::Prop;
 use crate::values::Values;
 use code_table::FunctionCode;
-use js_core::memory::OutOfMemory;
-use js_core::units::Units;
-use js_values::built_in::BuiltIn;
-use js_values::ids::{EnvId, NodeId, ObjId};
-use js_values::value::Value;
+use js_core::{OutOfMemory, Units};
+use js_values::{BuiltIn, EnvId, NodeId, ObjId, Value};
 use std::marker::Model;
 
 /// What kind of object it is, with what only objects of this kind have (ECMA-262 5.1 section 8.6.2).
@@ -219,7 +216,8 @@ impl Object {
     /// One more property, which is the last. After an error nothing has changed.
     pub(crate) fn push_property(&mut self, name: &Units, prop: Prop) -> Result<(), OutOfMemory>
         requires { own_property self.old.props name.now ≡ None }
-        ensures ok { OnOk result (self.new ≡ with_props self.old (self.old.props ++ (name.now, prop) ∷ [])) }
+        ensures ok { OnOk result (self.new ≡ with_props self.old
+            (self.old.props ++ (name.now, prop) ∷ [])) }
         ensures err { OnErr result (self.new ≡ self.old) }
     {
         self.props.push(name, prop)
@@ -246,7 +244,8 @@ impl Object {
         requires end { end ≤ len }
         requires small { len ≤ index_end }
         ensures kept { result ≡ end_kept end self.old.props }
-        ensures props { self.new ≡ with_props self.old (elements_below (end_kept end self.old.props) self.old.props) }
+        ensures props { self.new ≡ with_props self.old
+            (elements_below (end_kept end self.old.props) self.old.props) }
         ensures small { result ≤ index_end }
     {
         self.props.delete_elements(len, end)

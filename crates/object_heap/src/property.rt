@@ -3,8 +3,8 @@
 ghost use Rattle.std.specs.Prelude.{◌≡◌, IfOk};
 ghost use Rattle.object_heap.specs.Property.{fixed, hidden, lasting, same_value};
 
-use js_core::memory::OutOfMemory;
-use js_values::value::Value;
+use js_core::OutOfMemory;
+use js_values::Value;
 
 /// A property with its attributes (ECMA-262 5.1 section 8.6.1). There are no accessors.
 #[derive(Debug, PartialEq, Eq, Drop)]

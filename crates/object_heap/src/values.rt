@@ -1,7 +1,7 @@
 //! Lists of values.
 
-use js_core::memory::OutOfMemory;
-use js_values::value::Value;
+use js_core::OutOfMemory;
+use js_values::Value;
 use std::alloc::Global;
 use std::marker::Model;
 

@@ -1,14 +1,10 @@
 //! What waits for a part of a script, and what begins one.
 
 use crate::spot::Spot;
-use js_core::memory::OutOfMemory;
-use js_core::units::Units;
-use js_values::ids::ObjId;
-use js_values::value::Value;
-use object_heap::values::Values;
-use page_meaning::reference::Reference;
-use page_meaning::signal::Signal;
-use page_meaning::visit::Visit;
+use js_core::{OutOfMemory, Units};
+use js_values::{ObjId, Value};
+use object_heap::Values;
+use page_meaning::{Reference, Signal, Visit};
 use std::alloc::Global;
 use std::marker::Model;
 

@@ -1,7 +1,7 @@
 //! What is left to a task, and what a step leads to.
 
 use crate::frame::{Begin, BoxedFrame};
-use page_meaning::signal::Signal;
+use page_meaning::Signal;
 
 /// The steps that are left, and the functions that may yet be active.
 #[derive(Clone, Copy)]

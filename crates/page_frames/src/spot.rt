@@ -7,9 +7,8 @@ ghost use Rattle.page_frames.specs.Where.{numbered, scoped, spot_node};
 ghost use Rattle.page_frames.specs.Weight.{HasFewNodes};
 
 use code_table::{FunctionCode, Kind};
-use js_core::memory::OutOfMemory;
-use js_values::ids::EnvId;
-use js_values::value::Value;
+use js_core::OutOfMemory;
+use js_values::{EnvId, Value};
 use std::alloc::Global;
 use std::marker::Model;
 use std::rc::Rc;

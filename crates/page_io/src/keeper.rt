@@ -7,8 +7,7 @@ ghost use Rattle.page_io.specs.Faults.{CountsFaults};
 ghost use Rattle.page_io.specs.Seen.{KeeperSeen};
 ghost use Rattle.page_io.specs.Table.{kept_name};
 
-use js_core::memory::OutOfMemory;
-use js_core::units::Units;
+use js_core::{OutOfMemory, Units};
 use std::alloc::{AllocError, AllocFailed, Global};
 use thiserror::Error;
 

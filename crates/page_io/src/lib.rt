@@ -1,13 +1,22 @@
 //! The outside: files, sinks and keepers, in memory and real.
 #![tactic(auto)]
 
-pub mod files;
-pub mod keeper;
-pub mod memory_files;
-pub mod memory_keeper;
-pub mod memory_sink;
-pub mod real_files;
-pub mod real_sink;
-pub mod sink;
+mod files;
+mod keeper;
+mod memory_files;
+mod memory_keeper;
+mod memory_sink;
+mod real_files;
+mod real_sink;
+mod sink;
 #[cfg(test)]
 mod tests;
+
+pub use files::{Files, ReadFault};
+pub use keeper::Keeper;
+pub use memory_files::MemoryFiles;
+pub use memory_keeper::MemoryKeeper;
+pub use memory_sink::MemorySink;
+pub use real_files::RealFiles;
+pub use real_sink::RealSink;
+pub use sink::{PutFault, Sink};

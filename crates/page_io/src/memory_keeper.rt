@@ -7,8 +7,7 @@ ghost use Rattle.page_io.specs.Table.{kept_name};
 ghost use Rattle.page_io.specs.MemoryKeeperOf.{table_of, is_listed, after_call};
 
 use crate::keeper::{Keeper, KeeperFault, KeptName};
-use js_core::memory::OutOfMemory;
-use js_core::units::Units;
+use js_core::{OutOfMemory, Units};
 use std::alloc::Global;
 use std::collections::BTreeMap;
 use std::marker::Model;
@@ -43,7 +42,13 @@ impl Model for MemoryKeeper {
 impl MemoryKeeper {
     /// A keeper without rows, to which no call was made. The calls whose numbers are listed in `failing` fail.
     pub fn new(alloc: Global, failing: Vec<u64>) -> MemoryKeeper
-        ensures { result ≡ record { table = empty; failing = failing.items; calls = 0; faults = 0 } }
+        ensures { result ≡ record {
+          table = empty;
+          failing = failing.items;
+          calls = 0;
+          faults =
+              0;
+        } }
     {
         MemoryKeeper {
             rows: BTreeMap::new(alloc),
@@ -100,7 +105,8 @@ fn get_row(
 }
 
 fn list_rows(rows: &Rows, alloc: Global) -> Result<Vec<KeptName>, OutOfMemory>
-    ensures { IfOk result (λ names. names.items ≡ map kept_name (entries (table_of rows.now.entries))) }
+    ensures { IfOk result (λ names. names.items
+        ≡ map kept_name (entries (table_of rows.now.entries))) }
 {
     let mut names = Vec::new(alloc);
     for (key, bytes) in rows {
@@ -114,7 +120,8 @@ fn list_rows(rows: &Rows, alloc: Global) -> Result<Vec<KeptName>, OutOfMemory>
 }
 
 fn remove_row(rows: &mut Rows, alloc: Global, name: &str, version: u64) -> Result<bool, OutOfMemory>
-    ensures ok { IfOk result (λ was. was ≡ contains_key (table_of rows.old.entries) (name.now, version)) }
+    ensures ok { IfOk result (λ was. was ≡ contains_key (table_of rows.old.entries)
+        (name.now, version)) }
     ensures removed { OnOk result (table_of rows.new.entries
         ≡ remove (table_of rows.old.entries) (name.now, version)) }
     ensures fault { OnErr result (rows.new.entries ≡ rows.old.entries) }

@@ -4,7 +4,7 @@ ghost use Rattle.std.specs.Prelude.{◌≡◌, [], IfOk};
 ghost use Rattle.page_io.specs.MemorySinkOf.{listed, put_answer, after_put};
 
 use crate::sink::{PutFault, Sink};
-use js_core::memory::OutOfMemory;
+use js_core::OutOfMemory;
 use std::alloc::Global;
 use std::marker::Model;
 

@@ -48,7 +48,8 @@ const PIECE: usize = 4096;
 // All that the reader gives, unless it is more than `limit` bytes: reading ends one byte past that.
 fn read_up_to<R: Read>(alloc: Global, reader: &mut R, limit: u64) -> Result<Vec<u8>, ReadFault>
     ensures bytes { IfOk result (λ v. IsAllLeft (R.remaining reader.old) limit v.items) }
-    ensures long { IsErrOf result ReadFault.TooLong → IfSome (R.remaining reader.old) (λ known. limit < length known) }
+    ensures long { IsErrOf result ReadFault.TooLong
+        → IfSome (R.remaining reader.old) (λ known. limit < length known) }
 {
     let mut bytes = Vec::new(alloc);
     let mut piece = [0u8; PIECE];

@@ -38,7 +38,8 @@ impl<W> RealSink<W> {
 // Writes the piece and flushes the writer. A writer that takes nothing has failed.
 fn write_whole<W: Write>(writer: &mut W, piece: &[u8]) -> Result<(), PutFault>
     ensures ok { OnOk result (Appends (W.contents writer.old) (W.contents writer.new) piece.now) }
-    ensures fault { OnErr result (AppendsFront (W.contents writer.old) (W.contents writer.new) piece.now) }
+    ensures fault { OnErr result (AppendsFront (W.contents writer.old)
+        (W.contents writer.new) piece.now) }
 {
     let mut done = 0;
     while done < piece.len() {
@@ -59,8 +60,10 @@ impl<W: Write> Sink for RealSink<W> {
     ghost seen = { λ s. record { taken = None; faults = s.faults } };
 
     fn put(&mut self, piece: &[u8]) -> Result<(), PutFault>
-        ensures ok { OnOk result (Appends (W.contents self.old.writer) (W.contents self.new.writer) piece.now) }
-        ensures fault { OnErr result (AppendsFront (W.contents self.old.writer) (W.contents self.new.writer) piece.now) }
+        ensures ok { OnOk result (Appends (W.contents self.old.writer)
+            (W.contents self.new.writer) piece.now) }
+        ensures fault { OnErr result (AppendsFront (W.contents self.old.writer)
+            (W.contents self.new.writer) piece.now) }
         ensures count { self.new.faults ≡ put_count self.old.faults result }
     {
         let result = write_whole(&mut self.writer, piece);

@@ -6,9 +6,9 @@ ghost use Rattle.page_frames.specs.Rest.{mean_of};
 ghost use Rattle.page_machine.specs.Ends.{outcome_of};
 
 use crate::steps::{begin, go};
-use js_core::memory::OutOfMemory;
+use js_core::OutOfMemory;
 use page_frames::{Begin, Meter, Next};
-use page_meaning::signal::Signal;
+use page_meaning::Signal;
 use page_state::State;
 
 /// How what is run ends.

@@ -7,11 +7,11 @@ ghost use Rattle.page_frames.specs.Where.{spot_node};
 ghost use Rattle.step_parts.specs.Families.{family_of};
 ghost use Rattle.step_expr.specs.Begins.{begins_first};
 
-use js_core::memory::OutOfMemory;
-use js_values::value::Value;
-use object_heap::values::Values;
+use js_core::OutOfMemory;
+use js_values::Value;
+use object_heap::Values;
 use page_frames::{Begin, BoxedFrame, ExprFrame, Frame, Meter, Next, Spot};
-use page_meaning::signal::Signal;
+use page_meaning::Signal;
 use page_state::State;
 use step_assign::{begin_named, begin_target, go_change, go_name, go_target};
 use step_call::{begin_call, go_call, go_called};

@@ -11,14 +11,11 @@ ghost use Rattle.page_machine.specs.Running.{declared, task_of, top_body};
 
 use crate::machine::{End, run};
 use code_table::FunctionCode;
-use js_core::limits::{DEPTH_LIMIT, STEP_LIMIT};
-use js_core::memory::OutOfMemory;
-use js_core::units::Units;
-use js_values::line::LineKind;
-use js_values::value::Value;
-use object_heap::values::Values;
+use js_core::{DEPTH_LIMIT, OutOfMemory, STEP_LIMIT, Units};
+use js_values::{LineKind, Value};
+use object_heap::Values;
 use page_frames::{Begin, BoxedCall, CallFrame, Meter, Spot};
-use page_meaning::signal::Signal;
+use page_meaning::Signal;
 use page_state::{Fault, State, WINDOW};
 use step_call::call_end;
 

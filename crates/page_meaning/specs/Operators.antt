@@ -13,8 +13,8 @@ use Rattle.object_heap.specs.declared.object.Class.{Class}
 use Rattle.object_heap.specs.declared.object.Class.TheVariants.{Bound}
 use Rattle.object_heap.specs.Chain.{object_at}
 use Rattle.object_heap.specs.Object as heap
-use Rattle.whole_ops.specs.declared.bits.BitOp.{BitOp}
-use Rattle.whole_ops.specs.declared.bits.BitOp.TheVariants as bit
+use Rattle.whole_ops.specs.declared.bit_ops.BitOp.{BitOp}
+use Rattle.whole_ops.specs.declared.bit_ops.BitOp.TheVariants as bit
 use Rattle.whole_ops.specs.declared.fault.LooseFault.{LooseFault}
 use Rattle.whole_ops.specs.declared.fault.LooseFault.TheVariants.{NeedsPrimitive, Outside}
 use Rattle.whole_ops.specs.Arithmetic.{whole_add, whole_sub, whole_mul, whole_div, whole_rem}

@@ -2,8 +2,17 @@
 //! expression, statement, call and task as definitions over pure trees (ECMA-262 5.1 sections 8 to 15).
 #![tactic(auto)]
 
-pub mod family;
-pub mod laws;
-pub mod reference;
-pub mod signal;
-pub mod visit;
+mod family;
+mod laws;
+mod reference;
+mod signal;
+mod visit;
+
+pub use family::RowFamily;
+pub use laws::{
+    law_heaps_stay_sound, law_lines_grow, law_tasks_keep, law_worked_expressions,
+    law_worked_objects, law_worked_statements,
+};
+pub use reference::Reference;
+pub use signal::Signal;
+pub use visit::Visit;

@@ -1,6 +1,6 @@
 //! What names mean where they are resolved.
 
-use js_values::ids::EnvId;
+use js_values::EnvId;
 
 /// What a name meant when it was resolved (ECMA-262 5.1 section 10.2.2.1). A reference stays what it was.
 #[derive(Clone, Copy)]

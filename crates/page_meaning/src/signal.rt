@@ -1,6 +1,6 @@
 //! How a part of a script ends.
 
-use js_values::value::Value;
+use js_values::Value;
 
 /// What a part of a script gives to what waits for it (ECMA-262 5.1 section 8.9). A statement that ends by itself gives
 /// undefined, which nothing reads.

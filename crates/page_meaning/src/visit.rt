@@ -1,7 +1,6 @@
 //! What a visit of an array keeps.
 
-use js_values::ids::ObjId;
-use js_values::value::Value;
+use js_values::{ObjId, Value};
 
 /// What a row that calls back for the elements of an array makes of what the calls give (ECMA-262 5.1 sections 15.4.4.16 to 15.4.4.21).
 #[derive(Drop)]

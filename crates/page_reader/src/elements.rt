@@ -8,7 +8,7 @@ ghost use Rattle.dom_tree.specs.Name.{folded};
 ghost use Rattle.page_reader.specs.Elements as spec;
 
 use dom_tree::{is_name, is_void};
-use js_core::units::Units;
+use js_core::Units;
 use page_tokens::Tag;
 
 /// Elements whose content would be read by other rules.

@@ -2,7 +2,7 @@
 
 ghost use Rattle.std.specs.Prelude.{◌≡◌};
 
-use js_core::memory::OutOfMemory;
+use js_core::OutOfMemory;
 use std::alloc::{AllocError, AllocFailed};
 
 /// Why tokens are no page.

@@ -11,9 +11,8 @@ ghost use Rattle.page_reader.specs.Forest.{appended, element_content, next_id, w
 ghost use Rattle.page_reader.specs.Reading.{KeepsElements};
 
 use dom_tree::{Dom, law_insertion};
-use js_core::memory::OutOfMemory;
-use js_core::units::Units;
-use js_values::ids::NodeId;
+use js_core::{OutOfMemory, Units};
+use js_values::NodeId;
 use page_tokens::Tag;
 use std::alloc::Global;
 

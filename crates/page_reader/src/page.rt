@@ -1,7 +1,7 @@
 //! A page that was read.
 
 use dom_tree::Dom;
-use js_core::units::Units;
+use js_core::Units;
 
 /// A page: its nodes, and its scripts in their order.
 #[derive(Drop)]

@@ -6,7 +6,7 @@ ghost use Rattle.page_reader.specs.Text as spec;
 
 use crate::page::ScriptText;
 use crate::text::advanced;
-use js_core::memory::OutOfMemory;
+use js_core::OutOfMemory;
 use page_tokens::RawText;
 use std::alloc::Global;
 

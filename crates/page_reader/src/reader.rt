@@ -14,7 +14,7 @@ use crate::places::placed;
 use crate::text::{has_mark, has_zero, with_line_feeds};
 use crate::tree::page_of_tokens;
 use dom_tree::Dom;
-use js_core::units::Units;
+use js_core::Units;
 use page_tokens::{RawText, TokenFault, law_one_reading, tokens_of};
 use std::alloc::Global;
 

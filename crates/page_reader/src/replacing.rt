@@ -4,7 +4,7 @@ ghost use Rattle.std.specs.Prelude.{◌≡◌, ◌++◌, OnOk, drop, map};
 ghost use Rattle.page_reader.specs.Replacing as spec;
 
 use crate::page::Page;
-use js_core::memory::OutOfMemory;
+use js_core::OutOfMemory;
 
 /// Appends the bytes of the page with these texts in the place of its scripts' texts, one for each script. After an error `out`
 /// may end with a part of them.

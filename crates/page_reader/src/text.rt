@@ -3,7 +3,7 @@
 ghost use Rattle.std.specs.Prelude.{◌≡◌, ◌<◌, ◌+◌, ◌^◌, IfOk};
 ghost use Rattle.page_reader.specs.Text as spec;
 
-use js_core::memory::OutOfMemory;
+use js_core::OutOfMemory;
 use std::alloc::Global;
 
 const LINE_FEED: u16 = 0x0a;

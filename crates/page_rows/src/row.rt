@@ -2,8 +2,8 @@
 
 ghost use Rattle.std.specs.Prelude.{◌<◌};
 
-use js_core::units::Units;
-use js_values::ids::NodeId;
+use js_core::Units;
+use js_values::NodeId;
 use page_reader::{Page, PageFault, ScriptText, read_page};
 use std::alloc::{AllocError, Global};
 

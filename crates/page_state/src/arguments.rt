@@ -3,9 +3,9 @@
 ghost use Rattle.std.specs.Prelude.{◌≡◌, IfOk, drop};
 ghost use Rattle.page_meaning.specs.ObjectRows as spec;
 
-use js_core::memory::OutOfMemory;
-use js_values::value::Value;
-use object_heap::values::Values;
+use js_core::OutOfMemory;
+use js_values::Value;
+use object_heap::Values;
 use std::alloc::Global;
 
 /// The argument at the place, or undefined past the last.

@@ -9,20 +9,16 @@ ghost use Rattle.page_state.specs.Does.{Gives, itself};
 
 use crate::fault::Fault;
 use crate::state::State;
-use js_core::memory::OutOfMemory;
-use js_core::units::Units;
-use js_core::whole::Whole;
-use js_values::throw::Throw;
-use js_values::value::Value;
+use js_core::{OutOfMemory, Units, Whole};
+use js_values::{Throw, Value};
 use std::alloc::Global;
-use whole_ops::conversions;
-use whole_ops::fault::LooseFault;
+use whole_ops::LooseFault;
 
 /// The text of a primitive value, and no text for an object (section 9.8).
 pub fn text_of(alloc: Global, value: &Value) -> Result<Units, OutOfMemory>
     ensures { IfOk result (λ t. t ≡ spec.text_of value.now) }
 {
-    match conversions::text_of(alloc, value)? {
+    match whole_ops::text_of(alloc, value)? {
         Some(text) => Ok(text),
         None => Units::of(alloc, &[]),
     }
@@ -32,7 +28,7 @@ pub fn text_of(alloc: Global, value: &Value) -> Result<Units, OutOfMemory>
 pub fn number_of(value: &Value) -> Result<Whole, Throw>
     ensures { result_map_both Num (λ e. e) result ≡ spec.number_of value.now }
 {
-    match conversions::number_of(value) {
+    match whole_ops::number_of(value) {
         Ok(number) => Ok(number),
         Err(LooseFault::NeedsPrimitive) => Err(Throw::NoPrimitive),
         Err(LooseFault::Outside) => Err(Throw::OutOfRange),
@@ -42,7 +38,8 @@ pub fn number_of(value: &Value) -> Result<Whole, Throw>
 impl State {
     /// ToPrimitive (section 9.1), whichever primitive value is wanted first.
     pub fn to_primitive(&mut self, value: &Value) -> Result<Value, Fault>
-        ensures { (need : Need) → Gives itself (λ calls. spec.to_primitive calls need value.now) self.old self.new result }
+        ensures { (need : Need) → Gives itself
+            (λ calls. spec.to_primitive calls need value.now) self.old self.new result }
     {
         match value {
             Value::Object(_) => Err(self.raise(Throw::NoPrimitive)),

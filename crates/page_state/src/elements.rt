@@ -7,12 +7,9 @@ ghost use Rattle.page_state.specs.Does.{Gives, itself, no_value};
 
 use crate::fault::Fault;
 use crate::state::State;
-use js_core::ascii::ascii_text;
-use js_core::memory::OutOfMemory;
-use js_core::whole::Whole;
-use js_values::ids::ObjId;
-use js_values::value::Value;
-use object_heap::index::index_name;
+use js_core::{OutOfMemory, Whole, ascii_text};
+use js_values::{ObjId, Value};
+use object_heap::index_name;
 
 /// An index or a length as a value. No memory holds so many elements that it would be no number.
 pub fn index_value(index: u64) -> Result<Value, OutOfMemory>

@@ -13,10 +13,8 @@ ghost use Rattle.page_state.specs.Entry.{AreSeen, but_first as spec_rest, declar
 use crate::state::State;
 use code_table::{Declared, FunctionCode};
 use indexmap::IndexSet;
-use js_core::memory::OutOfMemory;
-use js_core::units::Units;
-use js_values::ids::EnvId;
-use js_values::value::Value;
+use js_core::{OutOfMemory, Units};
+use js_values::{EnvId, Value};
 use std::alloc::Global;
 
 impl State {
@@ -28,7 +26,8 @@ impl State {
         env: Option<EnvId>,
         arguments: &[Value],
     ) -> Result<EnvId, OutOfMemory>
-        ensures { IfOk result (λ e. Does (λ _. entered code.now env arguments.now) self.old e self.new) }
+        ensures { IfOk result (λ e. Does (λ _. entered code.now env arguments.now) self.old e
+            self.new) }
     {
         let names = entry_names(self.alloc(), code, arguments)?;
         let at = self.make_environment(env, names)?;
@@ -38,7 +37,8 @@ impl State {
 
     // The declared functions are made, in order, and each is bound to its name (section 10.5 step 5).
     fn declare_functions(&mut self, env: EnvId, functions: &[Declared]) -> Result<(), OutOfMemory>
-        ensures { IfOk result (λ _. Does (λ _. spec.declare_functions env (map declared_as functions.now)) self.old nothing self.new) }
+        ensures { IfOk result (λ _. Does (λ _. spec.declare_functions env
+            (map declared_as functions.now)) self.old nothing self.new) }
     {
         let mut rest = functions;
         while let [declared, after @ ..] = rest {
@@ -49,7 +49,8 @@ impl State {
     }
 
     fn declare_function(&mut self, env: EnvId, declared: &Declared) -> Result<(), OutOfMemory>
-        ensures { IfOk result (λ _. Does (λ _. declared_in env (declared_as declared.now) done) self.old nothing self.new) }
+        ensures { IfOk result (λ _. Does (λ _. declared_in env (declared_as declared.now) done)
+            self.old nothing self.new) }
     {
         match &declared.name {
             None => Ok(()),
@@ -69,7 +70,8 @@ fn entry_names(
     code: &FunctionCode,
     arguments: &[Value],
 ) -> Result<Vec<(Units, Value)>, OutOfMemory>
-    ensures { IfOk result (λ names. names.items ≡ spec.entry_names (formals_of code.now) (body_of code.now) arguments.now) }
+    ensures { IfOk result (λ names. names.items
+        ≡ spec.entry_names (formals_of code.now) (body_of code.now) arguments.now) }
 {
     let mut names = with_arguments(alloc, code.formals(), arguments)?;
     let mut seen = name_table(alloc, names.as_slice())?;
@@ -133,7 +135,8 @@ fn add_functions(
     functions: &[Declared],
 ) -> Result<(), OutOfMemory>
     requires { AreSeen seen.old.keys names.old.items }
-    ensures names { OnOk result (names.new.items ≡ spec.with_names names.old.items (spec.function_names (map declared_as functions.now))) }
+    ensures names { OnOk result (names.new.items
+        ≡ spec.with_names names.old.items (spec.function_names (map declared_as functions.now))) }
     ensures seen { OnOk result (AreSeen seen.new.keys names.new.items) }
 {
     let mut rest = functions;
@@ -150,7 +153,8 @@ fn add_function(
     declared: &Declared,
 ) -> Result<(), OutOfMemory>
     requires { AreSeen seen.old.keys names.old.items }
-    ensures names { OnOk result (names.new.items ≡ spec.with_names names.old.items (spec.function_names (declared_as declared.now ∷ []))) }
+    ensures names { OnOk result (names.new.items
+        ≡ spec.with_names names.old.items (spec.function_names (declared_as declared.now ∷ []))) }
     ensures seen { OnOk result (AreSeen seen.new.keys names.new.items) }
 {
     match &declared.name {
@@ -182,7 +186,8 @@ fn add_name(
     name: &Units,
 ) -> Result<(), OutOfMemory>
     requires { AreSeen seen.old.keys names.old.items }
-    ensures names { OnOk result (names.new.items ≡ spec.with_names names.old.items (name.now ∷ [])) }
+    ensures names { OnOk result (names.new.items
+        ≡ spec.with_names names.old.items (name.now ∷ [])) }
     ensures seen { OnOk result (AreSeen seen.new.keys names.new.items) }
 {
     if !seen.insert(name.clone()?)? {

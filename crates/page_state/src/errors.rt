@@ -11,15 +11,9 @@ ghost use Rattle.page_state.specs.Does.{Does, Gives, Raises, itself};
 
 use crate::fault::Fault;
 use crate::state::State;
-use js_core::ascii::ascii_text;
-use js_core::memory::OutOfMemory;
-use js_core::whole::Whole;
-use js_values::ids::ObjId;
-use js_values::throw::{ErrorKind, Throw};
-use js_values::value::Value;
-use object_heap::object::Class;
-use object_heap::properties::Properties;
-use object_heap::property::Prop;
+use js_core::{OutOfMemory, Whole, ascii_text};
+use js_values::{ErrorKind, ObjId, Throw, Value};
+use object_heap::{Class, Prop, Properties};
 use std::alloc::Global;
 
 impl State {
@@ -36,7 +30,8 @@ impl State {
 
     // A new error with its own properties.
     fn make_error(&mut self, what: &Throw) -> Result<ObjId, OutOfMemory>
-        ensures { IfOk result (λ at. Does (λ _. make (error_object what.now) (error_fit what.now)) self.old at self.new) }
+        ensures { IfOk result (λ at. Does (λ _. make (error_object what.now) (error_fit what.now))
+            self.old at self.new) }
     {
         let props = error_props(self.alloc(), what)?;
         let proto = error_prototype(what.kind());
@@ -56,7 +51,11 @@ impl State {
 
 // The own properties of an error: its message and, where the host throws it, its code.
 fn error_props(alloc: Global, what: &Throw) -> Result<Properties, OutOfMemory>
-    ensures { IfOk result (λ props. props ≡ (codes "message", hidden (value.Text (message_of what.now))) ∷ code_props (code_of what.now)) }
+    ensures { IfOk result (λ props. props ≡ (
+      codes "message",
+      hidden
+          (value.Text (message_of what.now)),
+    ) ∷ code_props (code_of what.now)) }
 {
     let name = ascii_text(alloc, b"message")?;
     let message = what.message(alloc)?;

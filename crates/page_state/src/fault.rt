@@ -1,7 +1,7 @@
 //! Why a part of a script gave no value.
 
-use js_core::memory::OutOfMemory;
-use js_values::value::Value;
+use js_core::OutOfMemory;
+use js_values::Value;
 
 /// Why a part of a script gave no value.
 #[derive(Drop)]

@@ -13,12 +13,9 @@ ghost use Rattle.page_state.specs.Functions.{closed_over, fresh_for};
 use crate::places::{FUNCTION_PROTOTYPE, OBJECT_PROTOTYPE};
 use crate::state::State;
 use code_table::FunctionCode;
-use js_core::ascii::ascii_text;
-use js_core::memory::OutOfMemory;
-use js_core::units::Units;
-use js_values::ids::{EnvId, ObjId};
-use js_values::value::Value;
-use object_heap::object::Class;
+use js_core::{OutOfMemory, Units, ascii_text};
+use js_values::{EnvId, ObjId, Value};
+use object_heap::Class;
 use std::alloc::Global;
 
 // The length of a function is below it.
@@ -54,7 +51,8 @@ impl State {
         code: FunctionCode,
         env: Option<EnvId>,
     ) -> Result<ObjId, OutOfMemory>
-        ensures { IfOk result (λ at. Does (λ _. spec.close_over code env) self.old (Val (Object at)) self.new) }
+        ensures { IfOk result (λ at. Does (λ _. spec.close_over code env) self.old
+            (Val (Object at)) self.new) }
     {
         match own_name(&code)? {
             None => self.make_function(code, env),
@@ -69,7 +67,8 @@ impl State {
         code: FunctionCode,
         env: Option<EnvId>,
     ) -> Result<ObjId, OutOfMemory>
-        ensures { IfOk result (λ at. Does (λ _. closed_over (Some name) code env) self.old (Val (Object at)) self.new) }
+        ensures { IfOk result (λ at. Does (λ _. closed_over (Some name) code env) self.old
+            (Val (Object at)) self.new) }
     {
         let mut names = Vec::new(self.alloc());
         names.push((name.clone()?, Value::Undefined))?;

@@ -15,22 +15,22 @@ use crate::fault::Fault;
 use crate::places::WINDOW;
 use crate::state::State;
 use code_table::{Declared, FunctionCode};
-use js_core::units::Units;
-use js_values::ids::ObjId;
-use js_values::throw::Throw;
-use js_values::value::Value;
-use object_heap::property::{Change, Prop};
+use js_core::Units;
+use js_values::{ObjId, Throw, Value};
+use object_heap::{Change, Prop};
 
 impl State {
     /// The functions that a script declares: each is made before its name is judged, and put (section 10.5 step 5).
     pub fn declare_globals(&mut self, code: &FunctionCode) -> Result<(), Fault>
-        ensures { Gives no_value (λ _. spec.declare_globals (functions_of (body_of code.now))) self.old self.new result }
+        ensures { Gives no_value (λ _. spec.declare_globals (functions_of (body_of code.now)))
+            self.old self.new result }
     {
         self.declare_all(code.functions())
     }
 
     fn declare_all(&mut self, functions: &[Declared]) -> Result<(), Fault>
-        ensures { Gives no_value (λ _. spec.declare_globals (map declared_as functions.now)) self.old self.new result }
+        ensures { Gives no_value (λ _. spec.declare_globals (map declared_as functions.now))
+            self.old self.new result }
     {
         let mut rest = functions;
         while let [declared, after @ ..] = rest {
@@ -41,7 +41,8 @@ impl State {
     }
 
     fn declare_global(&mut self, declared: &Declared) -> Result<(), Fault>
-        ensures { Gives no_value (λ _. declared_global (declared_as declared.now) done) self.old self.new result }
+        ensures { Gives no_value (λ _. declared_global (declared_as declared.now) done) self.old
+            self.new result }
     {
         match &declared.name {
             None => Ok(()),
@@ -54,7 +55,8 @@ impl State {
 
     // A declared function gets its place on the global object.
     fn put_global(&mut self, name: &Units, function: ObjId) -> Result<(), Fault>
-        ensures { Gives no_value (λ _. named_global name.now function done) self.old self.new result }
+        ensures { Gives no_value (λ _. named_global name.now function done) self.old self.new
+            result }
     {
         self.place_function(name)?;
         self.put_in(WINDOW, name, Value::Object(function))?;
@@ -63,7 +65,8 @@ impl State {
 
     // The place is made, or is there already, or cannot be taken.
     fn place_function(&mut self, name: &Units) -> Result<(), Fault>
-        ensures { Gives no_value (λ _. asking (spec.own_global name.now) (spec.function_place name.now)) self.old self.new result }
+        ensures { Gives no_value (λ _. asking (spec.own_global name.now)
+            (spec.function_place name.now)) self.old self.new result }
     {
         let own = self.own(WINDOW, name);
         if takes_place(own) {
@@ -77,7 +80,8 @@ impl State {
 
     /// The variables that a script declares, where the global object does not have them (section 10.5 step 8).
     pub fn global_variables(&mut self, code: &FunctionCode) -> Result<(), Fault>
-        ensures { Gives no_value (λ _. spec.global_variables (variables_of (body_of code.now))) self.old self.new result }
+        ensures { Gives no_value (λ _. spec.global_variables (variables_of (body_of code.now)))
+            self.old self.new result }
     {
         self.place_all(code.variables())
     }
@@ -94,7 +98,8 @@ impl State {
     }
 
     fn place_variable(&mut self, name: &Units) -> Result<(), Fault>
-        ensures { Gives no_value (λ _. asking (spec.own_global name.now) (spec.variable_place name.now)) self.old self.new result }
+        ensures { Gives no_value (λ _. asking (spec.own_global name.now)
+            (spec.variable_place name.now)) self.old self.new result }
     {
         match self.own(WINDOW, name) {
             Some(_) => Ok(()),

@@ -9,18 +9,15 @@ ghost use Rattle.page_state.specs.Does.{Gives, itself};
 
 use crate::fault::Fault;
 use crate::state::State;
-use js_core::ascii::ascii_text;
-use js_core::memory::OutOfMemory;
-use js_values::ids::ObjId;
-use js_values::throw::Throw;
-use js_values::value::Value;
-use object_heap::heap::Heap;
-use object_heap::object::Class;
+use js_core::{OutOfMemory, ascii_text};
+use js_values::{ObjId, Throw, Value};
+use object_heap::{Class, Heap};
 
 impl State {
     /// `instanceof` (section 11.8.6).
     pub fn instance_of(&mut self, value: &Value, function: &Value) -> Result<Value, Fault>
-        ensures { Gives itself (λ _. spec.instance_of value.now function.now) self.old self.new result }
+        ensures { Gives itself (λ _. spec.instance_of value.now function.now) self.old self.new
+            result }
     {
         match function {
             Value::Object(at) => self.instance_of_object(value, *at),
@@ -32,7 +29,8 @@ impl State {
 
     // `instanceof` of an object on the right.
     fn instance_of_object(&mut self, value: &Value, at: ObjId) -> Result<Value, Fault>
-        ensures { Gives itself (λ _. spec.instance_of value.now (Object at)) self.old self.new result }
+        ensures { Gives itself (λ _. spec.instance_of value.now (Object at)) self.old self.new
+            result }
     {
         if self.is_function(&Value::Object(at)) {
             self.has_instance(at, value)
@@ -43,7 +41,8 @@ impl State {
 
     // Whether a function has the instance (section 15.3.5.3). A primitive value is none, whatever `prototype` is.
     fn has_instance(&mut self, function: ObjId, value: &Value) -> Result<Value, Fault>
-        ensures { Gives itself (λ _. spec.has_instance function value.now) self.old self.new result }
+        ensures { Gives itself (λ _. spec.has_instance function value.now) self.old self.new
+            result }
     {
         match value {
             Value::Object(at) => self.has_object(function, *at),
@@ -55,7 +54,8 @@ impl State {
 
     // Whether the object inherits from the function's `prototype`.
     fn has_object(&mut self, function: ObjId, at: ObjId) -> Result<Value, Fault>
-        ensures { Gives itself (λ _. spec.has_instance function (Object at)) self.old self.new result }
+        ensures { Gives itself (λ _. spec.has_instance function (Object at)) self.old self.new
+            result }
     {
         let prototype = self.prototype_for_instances(function)?;
         self.inherits_from(at, &prototype)
@@ -63,7 +63,8 @@ impl State {
 
     // Whether the object inherits from the value, which has to be an object.
     fn inherits_from(&mut self, at: ObjId, prototype: &Value) -> Result<Value, Fault>
-        ensures { Gives itself (λ _. spec.is_instance_of (Object at) prototype.now) self.old self.new result }
+        ensures { Gives itself (λ _. spec.is_instance_of (Object at) prototype.now) self.old
+            self.new result }
     {
         match prototype {
             Value::Object(above) => Ok(Value::Bool(self.is_above(*above, at))),
@@ -98,7 +99,8 @@ impl State {
 
     /// `in` (section 11.8.7): the right side is judged before the left one is converted.
     pub fn is_within(&mut self, value: &Value, object: &Value) -> Result<Value, Fault>
-        ensures { Gives itself (λ calls. spec.is_within calls value.now object.now) self.old self.new result }
+        ensures { Gives itself (λ calls. spec.is_within calls value.now object.now) self.old
+            self.new result }
     {
         match object {
             Value::Object(at) => self.has_named(*at, value),
@@ -110,7 +112,8 @@ impl State {
 
     // Whether an object has the property that the value names.
     fn has_named(&mut self, at: ObjId, value: &Value) -> Result<Value, Fault>
-        ensures { Gives itself (λ calls. spec.is_within calls value.now (Object at)) self.old self.new result }
+        ensures { Gives itself (λ calls. spec.is_within calls value.now (Object at)) self.old
+            self.new result }
     {
         let name = self.to_text(value)?;
         Ok(Value::Bool(self.has_property(at, &name)))
@@ -118,7 +121,8 @@ impl State {
 }
 
 fn is_above(heap: &Heap, above: ObjId, at: ObjId) -> bool
-    ensures { result ≡ spec.stands_above heap.now.objects (suc at.0) above.0 (object_at heap.now.objects at.0).proto }
+    ensures { result ≡ spec.stands_above heap.now.objects (suc at.0) above.0
+        (object_at heap.now.objects at.0).proto }
 {
     heap.sound();
     let mut at = at;

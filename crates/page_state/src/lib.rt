@@ -35,7 +35,7 @@ pub use fault::Fault;
 pub use functions::{built, object_or};
 pub use lines::class_name;
 pub use places::{FUNCTION_PROTOTYPE, OBJECT_PROTOTYPE, WINDOW, function_at};
-pub use primitives::{TEXT_LIMIT, are_short};
+pub use primitives::are_short;
 pub use properties::own_of_text;
 pub use state::State;
 pub use turns::{Halt, take_turn};

@@ -9,12 +9,9 @@ ghost use Rattle.page_state.specs.LineTexts.{spaced};
 
 use crate::convert::text_of;
 use crate::state::State;
-use js_core::ascii::{ascii_text, push_ascii};
-use js_core::memory::OutOfMemory;
-use js_core::units::Units;
-use js_values::ids::ObjId;
-use js_values::value::Value;
-use object_heap::object::Class;
+use js_core::{OutOfMemory, Units, ascii_text, push_ascii};
+use js_values::{ObjId, Value};
+use object_heap::Class;
 
 impl State {
     /// The text of a value in a line: an object tells its class.
@@ -62,7 +59,8 @@ impl State {
 
     // The texts of values, each after a space.
     fn push_spaced(&self, values: &[Value], out: &mut Vec<u16>) -> Result<(), OutOfMemory>
-        ensures { OnOk result (out.new.items ≡ out.old.items ++ flat_map (spaced self.now) values.now) }
+        ensures { OnOk result (out.new.items ≡ out.old.items
+            ++ flat_map (spaced self.now) values.now) }
     {
         for value in values {
             push_ascii(b" ", out)?;
@@ -83,7 +81,8 @@ impl State {
     }
 
     fn object_text(&self, at: ObjId, value: &Value) -> Result<Units, OutOfMemory>
-        ensures { IfOk result (λ t. t ≡ tasks.text_by_class (class_at self.now at) self.now value.now) }
+        ensures { IfOk result (λ t. t ≡ tasks.text_by_class
+            (class_at self.now at) self.now value.now) }
     {
         match self.class(at) {
             Class::Fault => self.error_text(value),
@@ -117,7 +116,8 @@ impl State {
 
     // The text of a property of an object, or of undefined.
     fn push_property(&self, at: ObjId, name: &[u8], out: &mut Vec<u16>) -> Result<(), OutOfMemory>
-        ensures { OnOk result (out.new.items ≡ out.old.items ++ spec.log_text self.now (get_at self.now at name.now)) }
+        ensures { OnOk result (out.new.items ≡ out.old.items
+            ++ spec.log_text self.now (get_at self.now at name.now)) }
     {
         let name = ascii_text(self.alloc(), name)?;
         match self.get(at, &name) {
@@ -129,7 +129,8 @@ impl State {
 
 // An object in a line.
 fn push_object_text(class: &Class, out: &mut Vec<u16>) -> Result<(), OutOfMemory>
-    ensures { OnOk result (out.new.items ≡ out.old.items ++ (codes "[object " ++ spec.class_name class.now ++ codes "]")) }
+    ensures { OnOk result (out.new.items ≡ out.old.items
+        ++ (codes "[object " ++ spec.class_name class.now ++ codes "]")) }
 {
     push_ascii(b"[object ", out)?;
     push_ascii(class_name(class), out)?;

@@ -10,11 +10,9 @@ ghost use Rattle.page_state.specs.Listing.{AlsoSeen, is_listed_at, is_seen_at, p
 use crate::places::{BOOLEAN_PROTOTYPE, NUMBER_PROTOTYPE, STRING_PROTOTYPE};
 use crate::state::State;
 use indexmap::IndexSet;
-use js_core::memory::OutOfMemory;
-use js_core::units::Units;
-use js_values::ids::ObjId;
-use js_values::value::Value;
-use object_heap::index::index_name;
+use js_core::{OutOfMemory, Units};
+use js_values::{ObjId, Value};
+use object_heap::index_name;
 use std::alloc::Global;
 
 impl State {
@@ -84,7 +82,8 @@ impl State {
         names: &mut Vec<(Option<ObjId>, Units)>,
     ) -> Result<(), OutOfMemory>
         requires { keys.now ≡ keys_of (props_at self.now at) }
-        ensures { OnOk result (names.new.items ≡ names.old.items ++ spec.listed_own at seen.now.keys (props_at self.now at)) }
+        ensures { OnOk result (names.new.items ≡ names.old.items
+            ++ spec.listed_own at seen.now.keys (props_at self.now at)) }
     {
         for (place, name) in keys.iter().enumerate() {
             self.push_listed(at, place as u64, name, seen, names)?;
@@ -101,7 +100,9 @@ impl State {
         seen: &IndexSet<Units>,
         names: &mut Vec<(Option<ObjId>, Units)>,
     ) -> Result<(), OutOfMemory>
-        ensures { OnOk result (names.new.items ≡ with_listed (is_listed_at (props_at self.now at) place name.now seen.now.keys) at name.now names.old.items) }
+        ensures { OnOk result (names.new.items
+            ≡ with_listed (is_listed_at (props_at self.now at) place name.now seen.now.keys) at
+            name.now names.old.items) }
     {
         if !self.is_listed(at, place, name, seen) {
             return Ok(());

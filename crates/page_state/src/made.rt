@@ -10,14 +10,15 @@ ghost use Rattle.page_state.specs.Does.{Does};
 
 use crate::places::{ARRAY_PROTOTYPE, OBJECT_PROTOTYPE};
 use crate::state::State;
-use js_core::memory::OutOfMemory;
-use js_values::ids::ObjId;
-use object_heap::object::Class;
+use js_core::OutOfMemory;
+use js_values::ObjId;
+use object_heap::Class;
 
 impl State {
     /// A new plain object of this prototype.
     pub fn new_object(&mut self, proto: Option<ObjId>) -> Result<ObjId, OutOfMemory>
-        ensures { IfOk result (λ at. Does (λ _. make (new_object Plain proto) (new_fit Plain proto)) self.old at self.new) }
+        ensures { IfOk result (λ at. Does (λ _. make (new_object Plain proto) (new_fit Plain proto))
+            self.old at self.new) }
     {
         self.heap.alloc(Class::Plain, proto)
     }

@@ -12,15 +12,9 @@ ghost use Rattle.page_state.specs.BuiltIns.{are_new, constructor_front, function
 use crate::errors::small;
 use crate::places::{CONSOLE, MATH, WINDOW, function_place};
 use crate::tables::{FUNCTION_PROTOTYPE_FUNCTIONS, GLOBAL_FUNCTIONS, Method};
-use js_core::ascii::ascii_text;
-use js_core::memory::OutOfMemory;
-use js_core::whole::Whole;
-use js_values::built_in::BuiltIn;
-use js_values::ids::ObjId;
-use js_values::throw::ErrorKind;
-use js_values::value::Value;
-use object_heap::properties::Properties;
-use object_heap::property::Prop;
+use js_core::{OutOfMemory, Whole, ascii_text};
+use js_values::{BuiltIn, ErrorKind, ObjId, Value};
+use object_heap::{Prop, Properties};
 use std::alloc::Global;
 
 // One more property, which holds a built-in function.

@@ -13,17 +13,15 @@ ghost use Rattle.page_state.specs.Does.{Does, Gives, itself};
 use crate::fault::Fault;
 use crate::places::WINDOW;
 use crate::state::State;
-use js_core::memory::OutOfMemory;
-use js_core::units::Units;
-use js_values::ids::EnvId;
-use js_values::throw::Throw;
-use js_values::value::Value;
-use page_meaning::reference::Reference;
+use js_core::{OutOfMemory, Units};
+use js_values::{EnvId, Throw, Value};
+use page_meaning::Reference;
 
 impl State {
     /// What a name means, from an environment outwards; none stands at the top of a script. Takes no memory.
     pub fn resolve(&self, env: Option<EnvId>, name: &Units) -> Reference
-        ensures { (here : Here) → here.env ≡ env → Does (λ _. spec.resolve here name.now) self.now result self.now }
+        ensures { (here : Here) → here.env ≡ env
+            → Does (λ _. spec.resolve here name.now) self.now result self.now }
     {
         match self.heap.look_in(env, name) {
             Some((at, _)) => Reference::Environment(at),
@@ -39,7 +37,8 @@ impl State {
 
     /// The value of a name, where it means something.
     pub fn known(&self, env: Option<EnvId>, name: &Units) -> Result<Option<Value>, OutOfMemory>
-        ensures { IfOk result (λ o. IfSome o (λ v. (here : Here) → here.env ≡ env → Does (λ _. spec.read_name here name.now) self.now (Val v) self.now)) }
+        ensures { IfOk result (λ o. IfSome o (λ v. (here : Here) → here.env ≡ env
+            → Does (λ _. spec.read_name here name.now) self.now (Val v) self.now)) }
     {
         match self.heap.look_in(env, name) {
             Some((_, value)) => Ok(Some(value.clone()?)),
@@ -60,7 +59,8 @@ impl State {
 
     // The value that an environment has for a name.
     fn held(&self, at: EnvId, name: &Units) -> Result<Value, OutOfMemory>
-        ensures { IfOk result (λ v. v ≡ spec.held (look_in self.now.heap.environments (Some at) name.now)) }
+        ensures { IfOk result (λ v. v ≡ spec.held
+            (look_in self.now.heap.environments (Some at) name.now)) }
     {
         match self.heap.look_in(Some(at), name) {
             Some((_, value)) => value.clone(),
@@ -89,7 +89,8 @@ impl State {
 
     /// The value of a name.
     pub fn read_name(&mut self, env: Option<EnvId>, name: &Units) -> Result<Value, Fault>
-        ensures { (here : Here) → here.env ≡ env → Gives itself (λ _. spec.read_name here name.now) self.old self.new result }
+        ensures { (here : Here) → here.env ≡ env
+            → Gives itself (λ _. spec.read_name here name.now) self.old self.new result }
     {
         let reference = self.resolve(env, name);
         self.read(name, reference)
@@ -122,7 +123,8 @@ impl State {
         name: &Units,
         value: Value,
     ) -> Result<Value, Fault>
-        ensures { (here : Here) → here.env ≡ env → Gives itself (λ _. spec.assign_name here name.now value) self.old self.new result }
+        ensures { (here : Here) → here.env ≡ env
+            → Gives itself (λ _. spec.assign_name here name.now value) self.old self.new result }
     {
         let reference = self.resolve(env, name);
         self.write(name, reference, value)

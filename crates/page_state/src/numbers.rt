@@ -12,12 +12,9 @@ ghost use Rattle.page_state.specs.Operating.{numeric, sense_of};
 use crate::convert::number_of;
 use crate::fault::Fault;
 use crate::state::State;
-use js_core::whole::Whole;
-use js_values::throw::Throw;
-use js_values::value::Value;
-use whole_ops::bits::{self, BitOp};
-use whole_ops::fault::OpFault;
-use whole_ops::{arithmetic, order};
+use js_core::Whole;
+use js_values::{Throw, Value};
+use whole_ops::{BitOp, OpFault};
 
 /// What an operator makes of a truth value.
 #[derive(Clone, Copy)]
@@ -59,13 +56,13 @@ pub fn apply(op: NumberOp, a: Whole, b: Whole) -> Result<Value, Throw>
     ensures { result ≡ numeric op a b }
 {
     match op {
-        NumberOp::Mul => as_value(arithmetic::mul(a, b)),
-        NumberOp::Div => as_value(arithmetic::div(a, b)),
-        NumberOp::Rem => as_value(arithmetic::rem(a, b)),
-        NumberOp::Add => as_value(arithmetic::add(a, b)),
-        NumberOp::Sub => as_value(arithmetic::sub(a, b)),
-        NumberOp::Bits(op) => Ok(Value::Num(bits::bits(op, a, b))),
-        NumberOp::Less(sense) => Ok(Value::Bool(says(sense, order::less(a, b)))),
+        NumberOp::Mul => as_value(whole_ops::mul(a, b)),
+        NumberOp::Div => as_value(whole_ops::div(a, b)),
+        NumberOp::Rem => as_value(whole_ops::rem(a, b)),
+        NumberOp::Add => as_value(whole_ops::add(a, b)),
+        NumberOp::Sub => as_value(whole_ops::sub(a, b)),
+        NumberOp::Bits(op) => Ok(Value::Num(whole_ops::bits(op, a, b))),
+        NumberOp::Less(sense) => Ok(Value::Bool(says(sense, whole_ops::less(a, b)))),
     }
 }
 
@@ -92,7 +89,8 @@ fn says(sense: Sense, answer: Option<bool>) -> bool
 impl State {
     /// Both sides as numbers, the left one first, and then the operator at them (section 11.5).
     pub fn on_numbers(&mut self, op: NumberOp, left: &Value, right: &Value) -> Result<Value, Fault>
-        ensures { Gives itself (λ calls. spec.on_numbers calls (numeric op) left.now right.now) self.old self.new result }
+        ensures { Gives itself (λ calls. spec.on_numbers calls (numeric op) left.now right.now)
+            self.old self.new result }
     {
         let a = self.to_number(left)?;
         self.with_right(op, a, right)
@@ -100,7 +98,8 @@ impl State {
 
     // The right side as a number, and then the operator.
     fn with_right(&mut self, op: NumberOp, a: Whole, right: &Value) -> Result<Value, Fault>
-        ensures { Gives itself (λ calls. also (to_number calls right.now) (λ b. settle (numeric op a (number_in b)))) self.old self.new result }
+        ensures { Gives itself (λ calls. also (to_number calls right.now)
+            (λ b. settle (numeric op a (number_in b)))) self.old self.new result }
     {
         let b = self.to_number(right)?;
         self.settle(apply(op, a, b))
@@ -108,7 +107,8 @@ impl State {
 
     /// Both of two primitive values as numbers, the left one first, and then the operator at them (section 11.8.5 step 3).
     pub fn as_numbers(&mut self, op: NumberOp, left: &Value, right: &Value) -> Result<Value, Fault>
-        ensures { Gives itself (λ _. spec.as_numbers (numeric op) left.now right.now) self.old self.new result }
+        ensures { Gives itself (λ _. spec.as_numbers (numeric op) left.now right.now) self.old
+            self.new result }
     {
         let a = self.primitive_number(left)?;
         self.with_primitive(op, a, right)
@@ -116,7 +116,8 @@ impl State {
 
     // The right one as a number, and then the operator.
     fn with_primitive(&mut self, op: NumberOp, a: Whole, right: &Value) -> Result<Value, Fault>
-        ensures { Gives itself (λ _. also (settle (spec_number right.now)) (λ b. settle (numeric op a (number_in b)))) self.old self.new result }
+        ensures { Gives itself (λ _. also (settle (spec_number right.now))
+            (λ b. settle (numeric op a (number_in b)))) self.old self.new result }
     {
         let number = self.primitive_number(right)?;
         self.settle(apply(op, a, number))

@@ -12,18 +12,15 @@ use crate::fault::Fault;
 use crate::numbers::{NumberOp, Sense};
 use crate::primitives::PairOp;
 use crate::state::State;
-use js_core::operators::{BinaryOp, UnaryOp};
-use js_core::whole::Whole;
-use js_values::value::Value;
-use whole_ops::arithmetic::sub;
-use whole_ops::bits::{self, BitOp};
-use whole_ops::conversions::is_true;
-use whole_ops::equality::same;
+use js_core::{BinaryOp, UnaryOp, Whole};
+use js_values::Value;
+use whole_ops::{BitOp, is_true, same, sub};
 
 impl State {
     /// A binary operator at the values of its sides.
     pub fn operate(&mut self, op: BinaryOp, left: &Value, right: &Value) -> Result<Value, Fault>
-        ensures { Gives itself (λ calls. spec.operate calls op left.now right.now) self.old self.new result }
+        ensures { Gives itself (λ calls. spec.operate calls op left.now right.now) self.old self.new
+            result }
     {
         match op {
             BinaryOp::Mul => self.on_numbers(NumberOp::Mul, left, right),
@@ -51,14 +48,16 @@ impl State {
     }
 
     fn on_bits(&mut self, op: BitOp, left: &Value, right: &Value) -> Result<Value, Fault>
-        ensures { Gives itself (λ calls. spec.on_bits calls op left.now right.now) self.old self.new result }
+        ensures { Gives itself (λ calls. spec.on_bits calls op left.now right.now) self.old self.new
+            result }
     {
         self.on_numbers(NumberOp::Bits(op), left, right)
     }
 
     /// A unary operator at a value. `delete` of a value that is no reference gives true.
     pub fn operate_one(&mut self, op: UnaryOp, value: &Value) -> Result<Value, Fault>
-        ensures { Gives itself (λ calls. spec.operate_one calls op value.now) self.old self.new result }
+        ensures { Gives itself (λ calls. spec.operate_one calls op value.now) self.old self.new
+            result }
     {
         match op {
             UnaryOp::Delete => Ok(Value::Bool(true)),
@@ -73,7 +72,8 @@ impl State {
 
     // Unary `+` (section 11.4.6).
     fn plus(&mut self, value: &Value) -> Result<Value, Fault>
-        ensures { Gives itself (λ calls. spec.operate_one calls unary.Plus value.now) self.old self.new result }
+        ensures { Gives itself (λ calls. spec.operate_one calls unary.Plus value.now) self.old
+            self.new result }
     {
         let number = self.to_number(value)?;
         Ok(Value::Num(number))
@@ -81,7 +81,8 @@ impl State {
 
     // Unary `-` (section 11.4.7).
     fn minus(&mut self, value: &Value) -> Result<Value, Fault>
-        ensures { Gives itself (λ calls. spec.operate_one calls unary.Minus value.now) self.old self.new result }
+        ensures { Gives itself (λ calls. spec.operate_one calls unary.Minus value.now) self.old
+            self.new result }
     {
         let number = self.to_number(value)?;
         self.negated(number)
@@ -89,7 +90,8 @@ impl State {
 
     // Zero less the number.
     fn negated(&mut self, number: Whole) -> Result<Value, Fault>
-        ensures { Gives itself (λ _. settle (as_number (whole_sub (Some (pos 0)) number))) self.old self.new result }
+        ensures { Gives itself (λ _. settle (as_number (whole_sub (Some (pos 0)) number))) self.old
+            self.new result }
     {
         let negated = self.in_range(sub(zero(), number))?;
         Ok(Value::Num(negated))
@@ -97,10 +99,11 @@ impl State {
 
     // `~` (section 11.4.8).
     fn bit_not(&mut self, value: &Value) -> Result<Value, Fault>
-        ensures { Gives itself (λ calls. spec.operate_one calls unary.BitNot value.now) self.old self.new result }
+        ensures { Gives itself (λ calls. spec.operate_one calls unary.BitNot value.now) self.old
+            self.new result }
     {
         let number = self.to_number(value)?;
-        Ok(Value::Num(bits::not(number)))
+        Ok(Value::Num(whole_ops::not(number)))
     }
 }
 

@@ -3,8 +3,7 @@
 ghost use Rattle.std.specs.Prelude.{◌≡◌};
 ghost use Rattle.page_meaning.specs.Places as spec;
 
-use js_values::built_in::BuiltIn;
-use js_values::ids::ObjId;
+use js_values::{BuiltIn, ObjId};
 
 /// The global object.
 pub const WINDOW: ObjId = ObjId(0);

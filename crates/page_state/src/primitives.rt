@@ -14,17 +14,10 @@ use crate::convert::text_of;
 use crate::fault::Fault;
 use crate::numbers::{NumberOp, Sense};
 use crate::state::State;
-use js_core::memory::OutOfMemory;
-use js_core::units::Units;
-use js_values::throw::Throw;
-use js_values::value::Value;
+use js_core::{OutOfMemory, TEXT_LIMIT, Units};
+use js_values::{Throw, Value};
 use std::alloc::Global;
-use whole_ops::equality::loose;
-use whole_ops::fault::LooseFault;
-use whole_ops::order::text_less;
-
-/// How many units a text may have.
-pub const TEXT_LIMIT: usize = 1_048_576;
+use whole_ops::{LooseFault, loose, text_less};
 
 /// The operators whose sides both become primitive before either becomes more.
 #[derive(Clone, Copy)]
@@ -42,7 +35,8 @@ pub enum PairOp {
 impl State {
     /// Both sides become primitive, the left one first, and then the operator is applied.
     pub fn on_primitives(&mut self, op: PairOp, left: &Value, right: &Value) -> Result<Value, Fault>
-        ensures { Gives itself (λ calls. spec.on_primitives calls (paired op) left.now right.now) self.old self.new result }
+        ensures { Gives itself (λ calls. spec.on_primitives calls (paired op) left.now right.now)
+            self.old self.new result }
     {
         let p = self.to_primitive(left)?;
         self.beside_primitive(op, &p, right)
@@ -50,7 +44,8 @@ impl State {
 
     // The right side becomes primitive, and then the operator is applied.
     fn beside_primitive(&mut self, op: PairOp, p: &Value, right: &Value) -> Result<Value, Fault>
-        ensures { Gives itself (λ calls. also (to_primitive calls a_number right.now) (paired op p.now)) self.old self.new result }
+        ensures { Gives itself (λ calls. also (to_primitive calls a_number right.now)
+            (paired op p.now)) self.old self.new result }
     {
         let q = self.to_primitive(right)?;
         self.pair(op, p, &q)
@@ -81,7 +76,8 @@ impl State {
 
     // The texts of two primitive values, joined.
     fn sum_of_texts(&mut self, p: &Value, q: &Value) -> Result<Value, Fault>
-        ensures { Gives itself (λ _. settle (spec.text_or_long (spec_text p.now ++ spec_text q.now))) self.old self.new result }
+        ensures { Gives itself (λ _. settle (spec.text_or_long
+            (spec_text p.now ++ spec_text q.now))) self.old self.new result }
     {
         let answer = joined_text(self.alloc(), p, q)?;
         self.settle(answer)
@@ -89,7 +85,8 @@ impl State {
 
     // Whether the first of two primitive values is less, or not (section 11.8.5).
     fn less(&mut self, sense: Sense, p: &Value, q: &Value) -> Result<Value, Fault>
-        ensures { Gives itself (λ _. spec.less_of (sense_of sense) p.now q.now) self.old self.new result }
+        ensures { Gives itself (λ _. spec.less_of (sense_of sense) p.now q.now) self.old self.new
+            result }
     {
         match p {
             Value::Text(first) => match q {
@@ -118,7 +115,8 @@ impl State {
 
     /// `==`, where an object beside a primitive value is converted and compared once more (section 11.9.3).
     pub fn loosely(&mut self, sense: Sense, left: &Value, right: &Value) -> Result<Value, Fault>
-        ensures { Gives itself (λ calls. spec.loosely calls (sense_of sense) left.now right.now) self.old self.new result }
+        ensures { Gives itself (λ calls. spec.loosely calls (sense_of sense) left.now right.now)
+            self.old self.new result }
     {
         match loose(left, right) {
             Ok(truth) => Ok(Value::Bool(sense.of(truth))),
@@ -148,7 +146,8 @@ fn is_text(value: &Value) -> bool
 
 // The joined texts of two values, or the error where that is too long.
 fn joined_text(alloc: Global, p: &Value, q: &Value) -> Result<Result<Value, Throw>, OutOfMemory>
-    ensures { IfOk result (λ answer. answer ≡ spec.text_or_long (spec_text p.now ++ spec_text q.now)) }
+    ensures { IfOk result (λ answer. answer ≡ spec.text_or_long
+        (spec_text p.now ++ spec_text q.now)) }
 {
     let left = text_of(alloc, p)?;
     let right = text_of(alloc, q)?;
@@ -171,10 +170,10 @@ fn join(alloc: Global, left: &[u16], right: &[u16]) -> Result<Result<Value, Thro
 pub fn are_short(left: &[u16], right: &[u16]) -> bool
     ensures { result ≡ nat_le (length (left.now ++ right.now)) text_limit }
 {
-    if left.len() > TEXT_LIMIT {
+    if left.len() > TEXT_LIMIT as usize {
         return false;
     }
-    right.len() <= TEXT_LIMIT - left.len()
+    right.len() <= TEXT_LIMIT as usize - left.len()
 }
 
 fn both(alloc: Global, left: &[u16], right: &[u16]) -> Result<Units, OutOfMemory>

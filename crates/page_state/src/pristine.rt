@@ -37,17 +37,9 @@ use crate::tables::{
     NUMBER_PROTOTYPE_FUNCTIONS, OBJECT_FUNCTIONS, OBJECT_PROTOTYPE_FUNCTIONS, STRING_FUNCTIONS,
     STRING_PROTOTYPE_FUNCTIONS,
 };
-use js_core::ascii::ascii_text;
-use js_core::memory::OutOfMemory;
-use js_values::built_in::BuiltIn;
-use js_values::ids::ObjId;
-use js_values::throw::ErrorKind;
-use js_values::value::Value;
-use object_heap::fault::HeapFault;
-use object_heap::heap::Heap;
-use object_heap::object::Class;
-use object_heap::properties::Properties;
-use object_heap::property::Change;
+use js_core::{OutOfMemory, ascii_text};
+use js_values::{BuiltIn, ErrorKind, ObjId, Value};
+use object_heap::{Change, Class, Heap, HeapFault, Properties};
 use std::alloc::Global;
 
 impl State {

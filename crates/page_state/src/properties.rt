@@ -14,15 +14,9 @@ use crate::convert::number_of;
 use crate::fault::Fault;
 use crate::places::{BOOLEAN_PROTOTYPE, NUMBER_PROTOTYPE, STRING_PROTOTYPE};
 use crate::state::State;
-use js_core::memory::OutOfMemory;
-use js_core::units::Units;
-use js_core::whole::Whole;
-use js_values::ids::ObjId;
-use js_values::throw::Throw;
-use js_values::value::Value;
-use object_heap::index::array_index;
-use object_heap::object::Class;
-use object_heap::property::Change;
+use js_core::{OutOfMemory, Units, Whole};
+use js_values::{ObjId, Throw, Value};
+use object_heap::{Change, Class, array_index};
 use std::alloc::Global;
 
 impl State {

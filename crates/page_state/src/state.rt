@@ -23,17 +23,9 @@ ghost use Rattle.page_meaning.specs.Store.{with_heap};
 ghost use Rattle.page_state.specs.Does.{Does};
 ghost use Rattle.page_state.specs.Refusals.{Refuses};
 
-use js_core::memory::OutOfMemory;
-use js_core::units::Units;
-use js_values::ids::{EnvId, ObjId};
-use js_values::line::{Line, LineKind};
-use js_values::throw::Throw;
-use js_values::value::Value;
-use object_heap::fault::HeapFault;
-use object_heap::heap::Heap;
-use object_heap::object::Class;
-use object_heap::properties::Properties;
-use object_heap::property::{Change, Prop};
+use js_core::{OutOfMemory, Units};
+use js_values::{EnvId, Line, LineKind, ObjId, Throw, Value};
+use object_heap::{Change, Class, Heap, HeapFault, Prop, Properties};
 use std::alloc::Global;
 use std::marker::Model;
 
@@ -99,21 +91,24 @@ impl State {
 
     /// An own property of an object, or `None` exactly where there is none (section 8.12.1).
     pub fn own(&self, at: ObjId, name: &Units) -> Option<&Prop>
-        ensures { option_copied result ≡ own_property (object_at self.now.heap.objects at.0).props name.now }
+        ensures { option_copied result ≡ own_property
+            (object_at self.now.heap.objects at.0).props name.now }
     {
         self.heap.own(at, name)
     }
 
     /// The own property of this index in the order of creation, with its name, or `None` exactly past the last.
     pub fn own_at(&self, at: ObjId, index: u64) -> Option<(&Units, &Prop)>
-        ensures { option_map deref_pair result ≡ slice_get (object_at self.now.heap.objects at.0).props index }
+        ensures { option_map deref_pair result
+            ≡ slice_get (object_at self.now.heap.objects at.0).props index }
     {
         self.heap.own_at(at, index)
     }
 
     /// The names of the own properties of an object in the order of creation.
     pub fn own_keys(&self, at: ObjId) -> Result<Vec<Units>, OutOfMemory>
-        ensures { IfOk result (λ names. names.items ≡ keys_of (object_at self.now.heap.objects at.0).props) }
+        ensures { IfOk result (λ names. names.items
+            ≡ keys_of (object_at self.now.heap.objects at.0).props) }
     {
         self.heap.own_keys(at)
     }
@@ -127,7 +122,8 @@ impl State {
     ) -> Result<ObjId, OutOfMemory>
         requires { is_list class ≡ false }
         ensures id { IfOk result (λ at. at.0 ≡ length self.old.heap.objects) }
-        ensures made { OnOk result (self.new ≡ with_heap self.old (made self.old.heap (whole_object class proto props))) }
+        ensures made { OnOk result (self.new ≡ with_heap self.old
+            (made self.old.heap (whole_object class proto props))) }
     {
         self.heap.alloc_whole(class, proto, props)
     }
@@ -151,7 +147,8 @@ impl State {
         name: &Units,
         change: &Change,
     ) -> Result<Option<Throw>, OutOfMemory>
-        ensures { IfOk result (λ t. Does (λ _. spec_define at name.now change.now) self.old t self.new) }
+        ensures { IfOk result (λ t. Does (λ _. spec_define at name.now change.now) self.old t
+            self.new) }
     {
         refusal(self.heap.define_own(at, name, change))
     }
@@ -176,7 +173,8 @@ impl State {
         outer: Option<EnvId>,
         names: Vec<(Units, Value)>,
     ) -> Result<EnvId, OutOfMemory>
-        ensures { IfOk result (λ e. Does (λ _. spec_environment outer names.items) self.old e self.new) }
+        ensures { IfOk result (λ e. Does (λ _. spec_environment outer names.items) self.old e
+            self.new) }
     {
         self.heap.new_env(outer, names)
     }
@@ -191,7 +189,8 @@ impl State {
     /// The value of a name in the innermost environment outwards that has it, or `None` exactly where none has it
     /// (section 10.2.2.1).
     pub fn bound(&self, env: Option<EnvId>, name: &Units) -> Option<&Value>
-        ensures { option_copied result ≡ option_map (λ found. found.1) (look_in self.now.heap.environments env name.now) }
+        ensures { option_copied result ≡ option_map (λ found. found.1)
+            (look_in self.now.heap.environments env name.now) }
     {
         match self.heap.look_in(env, name) {
             Some((_, value)) => Some(value),

@@ -1,6 +1,6 @@
 //! The functions that the built-in objects of a page hold (ECMA-262 5.1 section 15).
 
-use js_values::built_in::BuiltIn;
+use js_values::BuiltIn;
 
 /// A function that an object holds: its name there, which it is, and its number of formals.
 pub(crate) type Method = (&'static [u8], BuiltIn, u8);

@@ -24,14 +24,14 @@ impl From<Fault> for Halt {
     }
 }
 
-impl From<js_core::memory::OutOfMemory> for Halt {
+impl From<js_core::OutOfMemory> for Halt {
     ghost use Rattle.std.specs.Prelude.{◌≡◌};
     ghost use Rattle.page_state.specs.declared.fault.Fault.TheVariants as fault;
     ghost use Rattle.page_state.specs.declared.turns.Halt.TheVariants as halt;
 
     ghost from_gives = { λ _ e. e ≡ halt.Fault fault.OutOfMemory };
 
-    fn from(_error: js_core::memory::OutOfMemory) -> Halt {
+    fn from(_error: js_core::OutOfMemory) -> Halt {
         Halt::Fault(Fault::OutOfMemory)
     }
 }

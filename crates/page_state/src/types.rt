@@ -10,12 +10,9 @@ ghost use Rattle.page_state.specs.Does.{Gives};
 
 use crate::fault::Fault;
 use crate::state::State;
-use js_core::ascii::ascii_text;
-use js_core::memory::OutOfMemory;
-use js_core::units::Units;
-use js_values::ids::EnvId;
-use js_values::value::Value;
-use page_meaning::reference::Reference;
+use js_core::{OutOfMemory, Units, ascii_text};
+use js_values::{EnvId, Value};
+use page_meaning::Reference;
 
 impl State {
     /// The word for a value's type.
@@ -40,7 +37,8 @@ impl State {
 
     /// `typeof` of a name, which may not be resolved.
     pub fn type_of_name(&mut self, env: Option<EnvId>, name: &Units) -> Result<Units, Fault>
-        ensures { (here : Here) → here.env ≡ env → Gives Text (λ _. names.type_of_name here name.now) self.old self.new result }
+        ensures { (here : Here) → here.env ≡ env
+            → Gives Text (λ _. names.type_of_name here name.now) self.old self.new result }
     {
         let reference = self.resolve(env, name);
         self.type_of_reference(name, reference)
@@ -48,7 +46,8 @@ impl State {
 
     // `typeof` of a name by what it means.
     fn type_of_reference(&mut self, name: &Units, reference: Reference) -> Result<Units, Fault>
-        ensures { Gives Text (λ _. names.type_of_reference name.now reference) self.old self.new result }
+        ensures { Gives Text (λ _. names.type_of_reference name.now reference) self.old self.new
+            result }
     {
         match reference {
             Reference::Environment(_) => self.type_of_read(name, reference),
@@ -59,7 +58,8 @@ impl State {
 
     // The word for the type of the value that a name has.
     fn type_of_read(&mut self, name: &Units, reference: Reference) -> Result<Units, Fault>
-        ensures { Gives Text (λ _. also (names.read name.now reference) spec.give_type) self.old self.new result }
+        ensures { Gives Text (λ _. also (names.read name.now reference) spec.give_type) self.old
+            self.new result }
     {
         let value = self.read(name, reference)?;
         Ok(self.type_text(&value)?)

@@ -12,11 +12,10 @@ ghost use Rattle.page_state.specs.Updates.{changed, put_back};
 
 use crate::fault::Fault;
 use crate::state::State;
-use js_core::units::Units;
-use js_core::whole::Whole;
-use js_values::value::Value;
-use page_meaning::reference::Reference;
-use whole_ops::arithmetic::{add, sub};
+use js_core::{Units, Whole};
+use js_values::Value;
+use page_meaning::Reference;
+use whole_ops::{add, sub};
 
 impl State {
     /// The number and one, or less one.
@@ -39,7 +38,9 @@ impl State {
         name: &Units,
         reference: Reference,
     ) -> Result<Value, Fault>
-        ensures { Gives itself (λ calls. also (spec_read name.now reference) (spec.update_with calls up prefix (spec_write name.now reference))) self.old self.new result }
+        ensures { Gives itself (λ calls. also (spec_read name.now reference)
+            (spec.update_with calls up prefix (spec_write name.now reference))) self.old self.new
+            result }
     {
         let value = self.read(name, reference)?;
         self.update_name_of(up, prefix, name, reference, &value)
@@ -54,7 +55,8 @@ impl State {
         reference: Reference,
         value: &Value,
     ) -> Result<Value, Fault>
-        ensures { Gives itself (λ calls. spec.update_with calls up prefix (spec_write name.now reference) value.now) self.old self.new result }
+        ensures { Gives itself (λ calls. spec.update_with calls up prefix
+            (spec_write name.now reference) value.now) self.old self.new result }
     {
         let old = self.to_number(value)?;
         self.change_name(up, prefix, name, reference, old)
@@ -69,7 +71,8 @@ impl State {
         reference: Reference,
         old: Whole,
     ) -> Result<Value, Fault>
-        ensures { Gives itself (λ _. changed up prefix (spec_write name.now reference) (Num old)) self.old self.new result }
+        ensures { Gives itself (λ _. changed up prefix (spec_write name.now reference) (Num old))
+            self.old self.new result }
     {
         let new = self.one_more(up, old)?;
         self.put_back_name(prefix, name, reference, old, new)
@@ -84,7 +87,8 @@ impl State {
         old: Whole,
         new: Whole,
     ) -> Result<Value, Fault>
-        ensures { Gives itself (λ _. put_back prefix (spec_write name.now reference) (Num old) (Num new)) self.old self.new result }
+        ensures { Gives itself (λ _. put_back prefix (spec_write name.now reference) (Num old)
+            (Num new)) self.old self.new result }
     {
         let _written = self.write(name, reference, Value::Num(new))?;
         Ok(updated(prefix, old, new))
@@ -99,7 +103,8 @@ impl State {
         name: &Units,
         value: &Value,
     ) -> Result<Value, Fault>
-        ensures { Gives itself (λ calls. spec.update_with calls up prefix (spec_put base.now name.now) value.now) self.old self.new result }
+        ensures { Gives itself (λ calls. spec.update_with calls up prefix
+            (spec_put base.now name.now) value.now) self.old self.new result }
     {
         let old = self.to_number(value)?;
         self.change_member(up, prefix, base, name, old)
@@ -114,7 +119,8 @@ impl State {
         name: &Units,
         old: Whole,
     ) -> Result<Value, Fault>
-        ensures { Gives itself (λ _. changed up prefix (spec_put base.now name.now) (Num old)) self.old self.new result }
+        ensures { Gives itself (λ _. changed up prefix (spec_put base.now name.now) (Num old))
+            self.old self.new result }
     {
         let new = self.one_more(up, old)?;
         self.put_back_member(prefix, base, name, old, new)
@@ -129,7 +135,8 @@ impl State {
         old: Whole,
         new: Whole,
     ) -> Result<Value, Fault>
-        ensures { Gives itself (λ _. put_back prefix (spec_put base.now name.now) (Num old) (Num new)) self.old self.new result }
+        ensures { Gives itself (λ _. put_back prefix (spec_put base.now name.now) (Num old)
+            (Num new)) self.old self.new result }
     {
         let _put = self.put_member(base, name, Value::Num(new))?;
         Ok(updated(prefix, old, new))

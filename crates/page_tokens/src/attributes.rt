@@ -13,8 +13,7 @@ use crate::characters::{
 use crate::fault::TokenFault;
 use crate::references::decoded;
 use crate::token::AttributeList;
-use js_core::memory::OutOfMemory;
-use js_core::units::Units;
+use js_core::{OutOfMemory, Units};
 use std::alloc::Global;
 
 /// The attributes with which the text begins, and what stands behind them. `NotTokens` where a reference in one of their values

@@ -9,7 +9,7 @@ ghost use Rattle.page_tokens.specs.References.{Decodes};
 
 use crate::characters::{begins_with, digit_value, digits_len, word_len};
 use crate::fault::TokenFault;
-use js_core::units::Units;
+use js_core::Units;
 use std::alloc::Global;
 
 /// The largest scalar value.

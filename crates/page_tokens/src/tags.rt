@@ -7,7 +7,7 @@ ghost use Rattle.page_tokens.specs.Tags as spec;
 use crate::characters::{
     behind_space, is_front, is_letter, is_name_front, is_space, len_before, name_len, without,
 };
-use js_core::units::Units;
+use js_core::Units;
 
 /// What stands behind a doctype, from what stands behind `<!doctype`.
 pub fn doctype(text: &[u16]) -> Option<&[u16]>

@@ -3,7 +3,7 @@
 use crate::fault::TokenFault;
 use crate::token::{PageToken, Tag};
 use crate::tokens::tokens_of;
-use js_core::units::Units;
+use js_core::Units;
 use std::fmt::Write;
 use std::process::Abort;
 use std::test::Fail;

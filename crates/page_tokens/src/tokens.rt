@@ -14,7 +14,7 @@ use crate::opening::{Opening, opening_of};
 use crate::references::decoded;
 use crate::tags::{comment, doctype, end_tag, has_raw_text, raw_text, tag_end};
 use crate::token::{PageToken, RawText, Tag};
-use js_core::units::Units;
+use js_core::Units;
 use std::alloc::Global;
 
 /// `<`.

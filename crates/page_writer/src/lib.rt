@@ -2,7 +2,6 @@
 #![tactic(auto)]
 
 mod laws;
-mod limits;
 mod literals;
 mod makers;
 mod references;

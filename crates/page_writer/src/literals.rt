@@ -4,8 +4,8 @@ ghost use Rattle.std.specs.List.{All};
 ghost use Rattle.js_core.specs.Text.{AllUnits};
 ghost use Rattle.page_writer.specs.Literals.{HasLiterals, HaveLiterals, IsLiteral, maker_values, need_values};
 
-use js_core::units::Units;
-use js_values::value::Value;
+use js_core::Units;
+use js_values::Value;
 use rebuild_plan::{Maker, Rebuild};
 
 // Each unit has 16 bits.

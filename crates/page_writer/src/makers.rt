@@ -11,15 +11,9 @@ ghost use Rattle.rebuild_plan.specs.declared.statement.Maker.TheVariants as made
 use crate::references::{push_base, push_word};
 use crate::values::{push_more_values, push_proto, push_value};
 use code_table::FunctionCode;
-use js_core::keyword::Keyword;
-use js_core::memory::OutOfMemory;
-use js_core::token::Punct;
-use js_core::units::Units;
-use js_print::lexeme::Lexeme;
-use js_print::{push_code, push_keyword, push_name, push_punct, push_unnamed_code};
-use js_values::ids::ObjId;
-use js_values::throw::ErrorKind;
-use js_values::value::Value;
+use js_core::{Keyword, OutOfMemory, Punct, Units};
+use js_print::{Lexeme, push_code, push_keyword, push_name, push_punct, push_unnamed_code};
+use js_values::{ErrorKind, ObjId, Value};
 use rebuild_plan::Maker;
 use std::alloc::Global;
 

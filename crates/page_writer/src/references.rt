@@ -10,14 +10,9 @@ ghost use Rattle.page_writer.specs.Statements as spec;
 
 use built_in_paths::path;
 use heap_walker::BUILT_IN_COUNT;
-use js_core::ascii::ascii_text;
-use js_core::memory::OutOfMemory;
-use js_core::token::Punct;
-use js_core::units::Units;
-use js_core::whole::Whole;
-use js_print::lexeme::Lexeme;
-use js_print::{push_lexeme, push_punct};
-use js_values::ids::ObjId;
+use js_core::{OutOfMemory, Punct, Units, Whole, ascii_text};
+use js_print::{Lexeme, push_lexeme, push_punct};
+use js_values::ObjId;
 use std::alloc::Global;
 
 /// Appends a name of ASCII characters.

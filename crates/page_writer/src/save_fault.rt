@@ -1,7 +1,7 @@
 //! Why a page is not saved.
 
 use heap_walker::Weight;
-use js_core::memory::OutOfMemory;
+use js_core::OutOfMemory;
 
 /// Why a page is not saved, or not whole.
 #[derive(Clone, Copy, Debug, PartialEq, Eq)]

@@ -12,14 +12,10 @@ ghost use Rattle.rebuild_plan.specs.declared.statement.Rebuild.TheVariants as re
 use crate::makers::{push_maker, push_object_function};
 use crate::references::{push_part, push_string, push_thing};
 use crate::values::{push_boolean, push_value};
-use js_core::memory::OutOfMemory;
-use js_core::token::Punct;
-use js_core::units::Units;
-use js_print::lexeme::Lexeme;
-use js_print::{push_punct, push_text};
-use js_values::ids::ObjId;
-use js_values::value::Value;
-use object_heap::property::Prop;
+use js_core::{OutOfMemory, Punct, Units};
+use js_print::{Lexeme, push_punct, push_text};
+use js_values::{ObjId, Value};
+use object_heap::Prop;
 use rebuild_plan::{Maker, Rebuild};
 use std::alloc::Global;
 

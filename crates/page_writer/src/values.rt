@@ -8,14 +8,9 @@ ghost use Rattle.js_print.specs.declared.place.Place.TheVariants.{Part};
 ghost use Rattle.page_writer.specs.Statements as spec;
 
 use crate::references::{push_number, push_part, push_word};
-use js_core::keyword::Keyword;
-use js_core::memory::OutOfMemory;
-use js_core::token::Punct;
-use js_core::whole::Whole;
-use js_print::lexeme::Lexeme;
-use js_print::{push_keyword, push_punct, push_text};
-use js_values::ids::ObjId;
-use js_values::value::Value;
+use js_core::{Keyword, OutOfMemory, Punct, Whole};
+use js_print::{Lexeme, push_keyword, push_punct, push_text};
+use js_values::{ObjId, Value};
 use std::alloc::Global;
 
 /// Appends `true` or `false`.

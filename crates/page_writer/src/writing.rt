@@ -10,15 +10,13 @@ ghost use Rattle.page_writer.specs.Page.{line, lines, page_of, saved_page};
 ghost use Rattle.page_writer.specs.Putting.{Puts};
 ghost use Rattle.page_writer.specs.Sizes.{IsSaved, Judged};
 
-use crate::limits;
 use crate::literals::tell_plan;
 use crate::save_fault::SaveFault;
 use crate::statements::push_statement;
 use heap_walker::{Walked, walk, weight_of};
-use js_core::memory::OutOfMemory;
-use js_print::lexeme::Lexeme;
-use js_print::push_lexemes;
-use page_io::sink::{PutFault, Sink};
+use js_core::{OutOfMemory, SAVED_TEXT_LIMIT, SAVED_THINGS_LIMIT};
+use js_print::{Lexeme, push_lexemes};
+use page_io::{PutFault, Sink};
 use page_state::State;
 use rebuild_plan::{Rebuild, plan};
 use std::alloc::Global;
@@ -53,10 +51,10 @@ pub fn write_walked<O: Sink>(state: &State, walked: &Walked, out: &mut O) -> Res
         (O.seen out.old).faults (O.seen out.new).faults result }
 {
     let weight = weight_of(state, walked)?;
-    if weight.things > limits::THINGS {
+    if weight.things > SAVED_THINGS_LIMIT {
         return Err(SaveFault::TooMany(weight));
     }
-    if weight.text > limits::TEXT {
+    if weight.text > SAVED_TEXT_LIMIT {
         return Err(SaveFault::TooLong(weight));
     }
     write_plan(state, walked, out)

@@ -2,8 +2,8 @@
 
 ghost use Rattle.printed_pages.specs.Printed.{AcceptedScriptsBeginStrict, AcceptedScriptsHaveSyntax, FramedScriptsAreAccepted};
 
-use js_grammar::laws::{law_one_table_of_what_goes_on, law_reading_is_the_grammar};
-use js_print::laws::{law_syntax_is_what_tokens_have, law_tokens_can_be_written};
+use js_grammar::{law_one_table_of_what_goes_on, law_reading_is_the_grammar};
+use js_print::{law_syntax_is_what_tokens_have, law_tokens_can_be_written};
 
 /// A text that is read again as a script of a form page, in the frame of one, is accepted with that script.
 pub fn law_framed_scripts_are_accepted()

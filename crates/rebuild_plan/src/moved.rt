@@ -4,11 +4,9 @@ ghost use Rattle.std.specs.Prelude.{◌≡◌, IfOk};
 ghost use Rattle.rebuild_plan.specs.Compact as spec;
 
 use heap_walker::{BUILT_IN_COUNT, Needs, Walked};
-use js_core::memory::OutOfMemory;
-use js_values::ids::ObjId;
-use js_values::value::Value;
-use object_heap::property::Prop;
-use object_heap::values::Values;
+use js_core::OutOfMemory;
+use js_values::{ObjId, Value};
+use object_heap::{Prop, Values};
 use std::alloc::Global;
 
 /// The place of an object among the built-in objects and the things that were walked.

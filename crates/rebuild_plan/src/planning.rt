@@ -16,13 +16,9 @@ use crate::moved::{moved, moved_needs, moved_prop, moved_proto, moved_value, mov
 use crate::statement::{Maker, Rebuild};
 use code_table::FunctionCode;
 use heap_walker::{BUILT_IN_COUNT, BUILT_IN_GLOBALS, Walked, needs_of};
-use js_core::ascii::ascii_text;
-use js_core::memory::OutOfMemory;
-use js_core::units::Units;
-use js_values::ids::{EnvId, ObjId};
-use js_values::throw::ErrorKind;
-use object_heap::object::Class;
-use object_heap::property::Prop;
+use js_core::{OutOfMemory, Units, ascii_text};
+use js_values::{EnvId, ErrorKind, ObjId};
+use object_heap::{Class, Prop};
 use page_state::{State, WINDOW, error_prototype, further};
 
 /// The statements that rebuild a page, of which these are the things that can be reached. The work and the memory are in proportion to

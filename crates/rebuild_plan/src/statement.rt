@@ -4,12 +4,9 @@
 
 use code_table::FunctionCode;
 use heap_walker::Needs;
-use js_core::units::Units;
-use js_values::ids::ObjId;
-use js_values::throw::ErrorKind;
-use js_values::value::Value;
-use object_heap::property::Prop;
-use object_heap::values::Values;
+use js_core::Units;
+use js_values::{ErrorKind, ObjId, Value};
+use object_heap::{Prop, Values};
 
 /// What makes a thing.
 #[derive(Drop)]

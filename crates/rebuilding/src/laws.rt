@@ -7,7 +7,7 @@ ghost use Rattle.rebuilding.specs.Running.{StatementsRun};
 
 use agreement::law_events_agree;
 use built_in_paths::law_paths_lead;
-use page_meaning::laws::law_heaps_stay_sound;
+use page_meaning::law_heaps_stay_sound;
 
 /// Each statement of a saved page that can run ends by itself after at most one step, puts out nothing and does what it says.
 pub fn law_statements_run()

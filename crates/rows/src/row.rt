@@ -2,10 +2,8 @@
 
 use crate::text::{malformed, number_at, numbers_at, pairs_at, text_at, text_of, words_at};
 use command_line::run;
-use js_core::memory::OutOfMemory;
-use page_io::memory_files::MemoryFiles;
-use page_io::memory_keeper::MemoryKeeper;
-use page_io::memory_sink::MemorySink;
+use js_core::OutOfMemory;
+use page_io::{MemoryFiles, MemoryKeeper, MemorySink};
 use serde_json::Value;
 use std::alloc::Global;
 use std::io;

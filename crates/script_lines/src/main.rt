@@ -10,13 +10,11 @@ ghost use Rattle.script_lines.specs.Answers.{IsAnswer};
 mod answer;
 
 use answer::Answer;
-use expression_parser::fault::ParseFault;
-use js_core::memory::OutOfMemory;
-use js_core::units::Units;
-use js_lexer::fault::LexFault;
-use js_lexer::tokens::{one_reading, tokens};
-use js_print::print::print;
-use script_parser::script::script;
+use expression_parser::ParseFault;
+use js_core::{OutOfMemory, Units};
+use js_lexer::{LexFault, law_one_reading, tokens};
+use js_print::print;
+use script_parser::script;
 use std::alloc::Global;
 use std::io;
 
@@ -25,7 +23,7 @@ use std::io;
 fn answer_to(alloc: Global, line: &str) -> Result<Answer, OutOfMemory>
     ensures { IfOk result (IsAnswer (utf16_of line.now)) }
 {
-    one_reading();
+    law_one_reading();
     let text = Units::from_utf8(alloc, line)?;
     let tokens = match tokens(alloc, &text) {
         Ok(tokens) => tokens,

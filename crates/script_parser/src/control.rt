@@ -10,14 +10,9 @@ ghost use Rattle.js_grammar.specs.Parser.{many as spec_many};
 use crate::ending::has_more;
 use crate::inner::{Statements, body_of};
 use crate::node::node;
-use expression_parser::cursor::Cursor;
-use expression_parser::fault::ParseFault;
-use expression_parser::lists::many;
-use js_core::keyword::Keyword;
-use js_core::syntax::{Expr, Stmt, StmtNode};
-use js_core::token::Punct;
-use js_grammar::operators::Level;
-use js_grammar::sign::Sign;
+use expression_parser::{Cursor, ParseFault, many};
+use js_core::{Expr, Keyword, Punct, Stmt, StmtNode};
+use js_grammar::{Level, Sign};
 use std::alloc::Global;
 
 impl<
@@ -26,9 +21,13 @@ impl<
     S: Fn(Global, usize, &mut Cursor<'_>) -> Result<Stmt, ParseFault>,
 > Statements<E, B, S> {
     fn statements(&self, tokens: &mut Cursor<'_>) -> Result<Vec<Stmt>, ParseFault>
-        requires expressions { Nests self.now.grammar.depth (E.pre self.now.grammar.expression) (E.post self.now.grammar.expression) (B.pre self.now.grammar.body) (B.post self.now.grammar.body) }
-        requires statements { StatementsNest self.now.grammar.depth (S.pre self.now.statement) (S.post self.now.statement) }
-        ensures { ReadsAll (spec_many reader.has_more (statement_in self.now.grammar.depth) tokens.old) result tokens.new }
+        requires expressions { Nests self.now.grammar.depth (E.pre self.now.grammar.expression)
+            (E.post self.now.grammar.expression) (B.pre self.now.grammar.body)
+            (B.post self.now.grammar.body) }
+        requires statements { StatementsNest self.now.grammar.depth (S.pre self.now.statement)
+            (S.post self.now.statement) }
+        ensures { ReadsAll (spec_many reader.has_more
+            (statement_in self.now.grammar.depth) tokens.old) result tokens.new }
     {
         many(
             self.grammar.alloc,
@@ -41,9 +40,14 @@ impl<
     /// Reads statements in braces.
     #[tactic(auto, unfolding(js_grammar::specs::StatementReader::braced))]
     pub fn braced(&self, tokens: &mut Cursor<'_>) -> Result<Vec<Stmt>, ParseFault>
-        requires expressions { Nests self.now.grammar.depth (E.pre self.now.grammar.expression) (E.post self.now.grammar.expression) (B.pre self.now.grammar.body) (B.post self.now.grammar.body) }
-        requires statements { StatementsNest self.now.grammar.depth (S.pre self.now.statement) (S.post self.now.statement) }
-        ensures { ReadsAll (reader.braced limit (expression_in self.now.grammar.depth) (body_in self.now.grammar.depth) (statement_in self.now.grammar.depth) tokens.old) result tokens.new }
+        requires expressions { Nests self.now.grammar.depth (E.pre self.now.grammar.expression)
+            (E.post self.now.grammar.expression) (B.pre self.now.grammar.body)
+            (B.post self.now.grammar.body) }
+        requires statements { StatementsNest self.now.grammar.depth (S.pre self.now.statement)
+            (S.post self.now.statement) }
+        ensures { ReadsAll (reader.braced limit (expression_in self.now.grammar.depth)
+            (body_in self.now.grammar.depth) (statement_in self.now.grammar.depth) tokens.old)
+            result tokens.new }
     {
         tokens.expect(Sign::Mark(Punct::LeftBrace))?;
         let found = self.statements(tokens)?;
@@ -54,9 +58,14 @@ impl<
     /// Reads a block.
     #[tactic(auto, unfolding(js_grammar::specs::StatementReader::block))]
     pub fn block(&self, tokens: &mut Cursor<'_>) -> Result<Stmt, ParseFault>
-        requires expressions { Nests self.now.grammar.depth (E.pre self.now.grammar.expression) (E.post self.now.grammar.expression) (B.pre self.now.grammar.body) (B.post self.now.grammar.body) }
-        requires statements { StatementsNest self.now.grammar.depth (S.pre self.now.statement) (S.post self.now.statement) }
-        ensures { Reads (reader.block limit (expression_in self.now.grammar.depth) (body_in self.now.grammar.depth) (statement_in self.now.grammar.depth) tokens.old) result tokens.new }
+        requires expressions { Nests self.now.grammar.depth (E.pre self.now.grammar.expression)
+            (E.post self.now.grammar.expression) (B.pre self.now.grammar.body)
+            (B.post self.now.grammar.body) }
+        requires statements { StatementsNest self.now.grammar.depth (S.pre self.now.statement)
+            (S.post self.now.statement) }
+        ensures { Reads (reader.block limit (expression_in self.now.grammar.depth)
+            (body_in self.now.grammar.depth) (statement_in self.now.grammar.depth) tokens.old)
+            result tokens.new }
     {
         let found = self.braced(tokens)?;
         node(StmtNode::Block(found), tokens)
@@ -65,9 +74,14 @@ impl<
     /// Reads an expression in parentheses.
     #[tactic(auto, unfolding(js_grammar::specs::StatementReader::condition))]
     pub fn condition(&self, tokens: &mut Cursor<'_>) -> Result<Expr, ParseFault>
-        requires expressions { Nests self.now.grammar.depth (E.pre self.now.grammar.expression) (E.post self.now.grammar.expression) (B.pre self.now.grammar.body) (B.post self.now.grammar.body) }
-        requires statements { StatementsNest self.now.grammar.depth (S.pre self.now.statement) (S.post self.now.statement) }
-        ensures { Reads (reader.condition limit (expression_in self.now.grammar.depth) (body_in self.now.grammar.depth) (statement_in self.now.grammar.depth) tokens.old) result tokens.new }
+        requires expressions { Nests self.now.grammar.depth (E.pre self.now.grammar.expression)
+            (E.post self.now.grammar.expression) (B.pre self.now.grammar.body)
+            (B.post self.now.grammar.body) }
+        requires statements { StatementsNest self.now.grammar.depth (S.pre self.now.statement)
+            (S.post self.now.statement) }
+        ensures { Reads (reader.condition limit (expression_in self.now.grammar.depth)
+            (body_in self.now.grammar.depth) (statement_in self.now.grammar.depth) tokens.old)
+            result tokens.new }
     {
         tokens.expect(Sign::Mark(Punct::LeftParenthesis))?;
         let value = self.expression(tokens)?;
@@ -78,9 +92,14 @@ impl<
     /// Reads what stands behind `if`. An `else` belongs to the nearest `if`.
     #[tactic(auto, unfolding(js_grammar::specs::StatementReader::conditional, js_grammar::specs::Parser::eat))]
     pub fn conditional(&self, tokens: &mut Cursor<'_>) -> Result<Stmt, ParseFault>
-        requires expressions { Nests self.now.grammar.depth (E.pre self.now.grammar.expression) (E.post self.now.grammar.expression) (B.pre self.now.grammar.body) (B.post self.now.grammar.body) }
-        requires statements { StatementsNest self.now.grammar.depth (S.pre self.now.statement) (S.post self.now.statement) }
-        ensures { Reads (reader.conditional limit (expression_in self.now.grammar.depth) (body_in self.now.grammar.depth) (statement_in self.now.grammar.depth) tokens.old) result tokens.new }
+        requires expressions { Nests self.now.grammar.depth (E.pre self.now.grammar.expression)
+            (E.post self.now.grammar.expression) (B.pre self.now.grammar.body)
+            (B.post self.now.grammar.body) }
+        requires statements { StatementsNest self.now.grammar.depth (S.pre self.now.statement)
+            (S.post self.now.statement) }
+        ensures { Reads (reader.conditional limit (expression_in self.now.grammar.depth)
+            (body_in self.now.grammar.depth) (statement_in self.now.grammar.depth) tokens.old)
+            result tokens.new }
     {
         let test = self.condition(tokens)?;
         let first = self.statement(tokens)?;

@@ -9,13 +9,9 @@ ghost use Rattle.js_grammar.specs.Endings as spec;
 ghost use Rattle.js_grammar.specs.StatementReader as reader;
 ghost use Rattle.expression_parser.specs.Reads.{Reads};
 
-use expression_parser::cursor::Cursor;
-use expression_parser::fault::ParseFault;
-use js_core::keyword::Keyword;
-use js_core::syntax::Declarator;
-use js_core::token::Punct;
-use js_grammar::ending::Ending;
-use js_grammar::sign::Sign;
+use expression_parser::{Cursor, ParseFault};
+use js_core::{Declarator, Keyword, Punct};
+use js_grammar::{Ending, Sign};
 
 /// How an expression that was read to its end goes on: it has taken each `(`, `[` and point already.
 pub const READ_EXPRESSION: Ending = Ending::AfterExpression(false);

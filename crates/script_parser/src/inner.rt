@@ -8,12 +8,9 @@ ghost use Rattle.expression_parser.specs.Inside.{Nests, limit, expression_in, bo
 ghost use Rattle.expression_parser.specs.Reads.{Reads};
 ghost use Rattle.script_parser.specs.Inner.{StatementsNest, statement_in};
 
-use expression_parser::cursor::Cursor;
-use expression_parser::fault::ParseFault;
-use expression_parser::grammar::Grammar;
-use js_core::memory::OutOfMemory;
-use js_core::syntax::{Expr, Stmt, StmtNode};
-use js_grammar::operators::Level;
+use expression_parser::{Cursor, Grammar, ParseFault};
+use js_core::{Expr, OutOfMemory, Stmt, StmtNode};
+use js_grammar::Level;
 use std::alloc::Global;
 
 /// The functions that read what stands inside a statement.
@@ -32,8 +29,11 @@ impl<
 > Statements<E, B, S> {
     /// Reads a statement inside another.
     pub fn statement(&self, tokens: &mut Cursor<'_>) -> Result<Stmt, ParseFault>
-        requires expressions { Nests self.now.grammar.depth (E.pre self.now.grammar.expression) (E.post self.now.grammar.expression) (B.pre self.now.grammar.body) (B.post self.now.grammar.body) }
-        requires statements { StatementsNest self.now.grammar.depth (S.pre self.now.statement) (S.post self.now.statement) }
+        requires expressions { Nests self.now.grammar.depth (E.pre self.now.grammar.expression)
+            (E.post self.now.grammar.expression) (B.pre self.now.grammar.body)
+            (B.post self.now.grammar.body) }
+        requires statements { StatementsNest self.now.grammar.depth (S.pre self.now.statement)
+            (S.post self.now.statement) }
         ensures { Reads (statement_in self.now.grammar.depth tokens.old) result tokens.new }
     {
         (self.statement)(self.grammar.alloc, self.grammar.depth, tokens)
@@ -41,9 +41,14 @@ impl<
 
     /// Reads a whole expression.
     pub fn expression(&self, tokens: &mut Cursor<'_>) -> Result<Expr, ParseFault>
-        requires expressions { Nests self.now.grammar.depth (E.pre self.now.grammar.expression) (E.post self.now.grammar.expression) (B.pre self.now.grammar.body) (B.post self.now.grammar.body) }
-        requires statements { StatementsNest self.now.grammar.depth (S.pre self.now.statement) (S.post self.now.statement) }
-        ensures { Reads (reader.expression limit (expression_in self.now.grammar.depth) (body_in self.now.grammar.depth) (statement_in self.now.grammar.depth) tokens.old) result tokens.new }
+        requires expressions { Nests self.now.grammar.depth (E.pre self.now.grammar.expression)
+            (E.post self.now.grammar.expression) (B.pre self.now.grammar.body)
+            (B.post self.now.grammar.body) }
+        requires statements { StatementsNest self.now.grammar.depth (S.pre self.now.statement)
+            (S.post self.now.statement) }
+        ensures { Reads (reader.expression limit (expression_in self.now.grammar.depth)
+            (body_in self.now.grammar.depth) (statement_in self.now.grammar.depth) tokens.old)
+            result tokens.new }
     {
         self.grammar.all(true, tokens)
     }

@@ -8,11 +8,9 @@ ghost use Rattle.script_parser.specs.Inner.{StatementsNest, statement_in};
 use crate::ending::{READ_EXPRESSION, ended, returns};
 use crate::inner::Statements;
 use crate::node::node;
-use expression_parser::cursor::Cursor;
-use expression_parser::fault::ParseFault;
-use js_core::syntax::{Expr, Stmt, StmtNode};
-use js_grammar::ending::Ending;
-use js_grammar::operators::Level;
+use expression_parser::{Cursor, ParseFault};
+use js_core::{Expr, Stmt, StmtNode};
+use js_grammar::{Ending, Level};
 use std::alloc::Global;
 
 impl<
@@ -23,9 +21,14 @@ impl<
     /// Reads the end of this statement.
     #[tactic(auto, unfolding(js_grammar::specs::StatementReader::ended_as))]
     pub fn ended_as(&self, statement: Stmt, tokens: &mut Cursor<'_>) -> Result<Stmt, ParseFault>
-        requires expressions { Nests self.now.grammar.depth (E.pre self.now.grammar.expression) (E.post self.now.grammar.expression) (B.pre self.now.grammar.body) (B.post self.now.grammar.body) }
-        requires statements { StatementsNest self.now.grammar.depth (S.pre self.now.statement) (S.post self.now.statement) }
-        ensures { Reads (reader.ended_as limit (expression_in self.now.grammar.depth) (body_in self.now.grammar.depth) (statement_in self.now.grammar.depth) statement tokens.old) result tokens.new }
+        requires expressions { Nests self.now.grammar.depth (E.pre self.now.grammar.expression)
+            (E.post self.now.grammar.expression) (B.pre self.now.grammar.body)
+            (B.post self.now.grammar.body) }
+        requires statements { StatementsNest self.now.grammar.depth (S.pre self.now.statement)
+            (S.post self.now.statement) }
+        ensures { Reads (reader.ended_as limit (expression_in self.now.grammar.depth)
+            (body_in self.now.grammar.depth) (statement_in self.now.grammar.depth) statement
+            tokens.old) result tokens.new }
     {
         ended(tokens, Ending::AfterAll)?;
         Ok(statement)
@@ -34,9 +37,14 @@ impl<
     /// Reads the operand of a `return`, and its end.
     #[tactic(auto, unfolding(js_grammar::specs::StatementReader::returned))]
     fn returned(&self, tokens: &mut Cursor<'_>) -> Result<Stmt, ParseFault>
-        requires expressions { Nests self.now.grammar.depth (E.pre self.now.grammar.expression) (E.post self.now.grammar.expression) (B.pre self.now.grammar.body) (B.post self.now.grammar.body) }
-        requires statements { StatementsNest self.now.grammar.depth (S.pre self.now.statement) (S.post self.now.statement) }
-        ensures { Reads (reader.returned limit (expression_in self.now.grammar.depth) (body_in self.now.grammar.depth) (statement_in self.now.grammar.depth) tokens.old) result tokens.new }
+        requires expressions { Nests self.now.grammar.depth (E.pre self.now.grammar.expression)
+            (E.post self.now.grammar.expression) (B.pre self.now.grammar.body)
+            (B.post self.now.grammar.body) }
+        requires statements { StatementsNest self.now.grammar.depth (S.pre self.now.statement)
+            (S.post self.now.statement) }
+        ensures { Reads (reader.returned limit (expression_in self.now.grammar.depth)
+            (body_in self.now.grammar.depth) (statement_in self.now.grammar.depth) tokens.old)
+            result tokens.new }
     {
         let value = self.expression(tokens)?;
         ended(tokens, READ_EXPRESSION)?;
@@ -44,9 +52,14 @@ impl<
     }
 
     fn return_by(&self, is_bare: bool, tokens: &mut Cursor<'_>) -> Result<Stmt, ParseFault>
-        requires expressions { Nests self.now.grammar.depth (E.pre self.now.grammar.expression) (E.post self.now.grammar.expression) (B.pre self.now.grammar.body) (B.post self.now.grammar.body) }
-        requires statements { StatementsNest self.now.grammar.depth (S.pre self.now.statement) (S.post self.now.statement) }
-        ensures { Reads (reader.return_by limit (expression_in self.now.grammar.depth) (body_in self.now.grammar.depth) (statement_in self.now.grammar.depth) is_bare tokens.old) result tokens.new }
+        requires expressions { Nests self.now.grammar.depth (E.pre self.now.grammar.expression)
+            (E.post self.now.grammar.expression) (B.pre self.now.grammar.body)
+            (B.post self.now.grammar.body) }
+        requires statements { StatementsNest self.now.grammar.depth (S.pre self.now.statement)
+            (S.post self.now.statement) }
+        ensures { Reads (reader.return_by limit (expression_in self.now.grammar.depth)
+            (body_in self.now.grammar.depth) (statement_in self.now.grammar.depth) is_bare
+            tokens.old) result tokens.new }
     {
         if !is_bare {
             return self.returned(tokens);
@@ -57,18 +70,28 @@ impl<
 
     /// Reads what stands behind `return`: an operand only where it stands in the same line.
     pub fn return_statement(&self, tokens: &mut Cursor<'_>) -> Result<Stmt, ParseFault>
-        requires expressions { Nests self.now.grammar.depth (E.pre self.now.grammar.expression) (E.post self.now.grammar.expression) (B.pre self.now.grammar.body) (B.post self.now.grammar.body) }
-        requires statements { StatementsNest self.now.grammar.depth (S.pre self.now.statement) (S.post self.now.statement) }
-        ensures { Reads (reader.return limit (expression_in self.now.grammar.depth) (body_in self.now.grammar.depth) (statement_in self.now.grammar.depth) tokens.old) result tokens.new }
+        requires expressions { Nests self.now.grammar.depth (E.pre self.now.grammar.expression)
+            (E.post self.now.grammar.expression) (B.pre self.now.grammar.body)
+            (B.post self.now.grammar.body) }
+        requires statements { StatementsNest self.now.grammar.depth (S.pre self.now.statement)
+            (S.post self.now.statement) }
+        ensures { Reads (reader.return limit (expression_in self.now.grammar.depth)
+            (body_in self.now.grammar.depth) (statement_in self.now.grammar.depth) tokens.old)
+            result tokens.new }
     {
         self.return_by(returns(tokens), tokens)
     }
 
     #[tactic(auto, unfolding(js_grammar::specs::StatementReader::thrown))]
     fn thrown(&self, tokens: &mut Cursor<'_>) -> Result<Stmt, ParseFault>
-        requires expressions { Nests self.now.grammar.depth (E.pre self.now.grammar.expression) (E.post self.now.grammar.expression) (B.pre self.now.grammar.body) (B.post self.now.grammar.body) }
-        requires statements { StatementsNest self.now.grammar.depth (S.pre self.now.statement) (S.post self.now.statement) }
-        ensures { Reads (reader.thrown limit (expression_in self.now.grammar.depth) (body_in self.now.grammar.depth) (statement_in self.now.grammar.depth) tokens.old) result tokens.new }
+        requires expressions { Nests self.now.grammar.depth (E.pre self.now.grammar.expression)
+            (E.post self.now.grammar.expression) (B.pre self.now.grammar.body)
+            (B.post self.now.grammar.body) }
+        requires statements { StatementsNest self.now.grammar.depth (S.pre self.now.statement)
+            (S.post self.now.statement) }
+        ensures { Reads (reader.thrown limit (expression_in self.now.grammar.depth)
+            (body_in self.now.grammar.depth) (statement_in self.now.grammar.depth) tokens.old)
+            result tokens.new }
     {
         let value = self.expression(tokens)?;
         ended(tokens, READ_EXPRESSION)?;
@@ -78,9 +101,14 @@ impl<
     /// Reads what stands behind `throw`. `NotScript` where a line end stands before the operand.
     #[tactic(auto, unfolding(js_grammar::specs::StatementReader::throw))]
     pub fn throw(&self, tokens: &mut Cursor<'_>) -> Result<Stmt, ParseFault>
-        requires expressions { Nests self.now.grammar.depth (E.pre self.now.grammar.expression) (E.post self.now.grammar.expression) (B.pre self.now.grammar.body) (B.post self.now.grammar.body) }
-        requires statements { StatementsNest self.now.grammar.depth (S.pre self.now.statement) (S.post self.now.statement) }
-        ensures { Reads (reader.throw limit (expression_in self.now.grammar.depth) (body_in self.now.grammar.depth) (statement_in self.now.grammar.depth) tokens.old) result tokens.new }
+        requires expressions { Nests self.now.grammar.depth (E.pre self.now.grammar.expression)
+            (E.post self.now.grammar.expression) (B.pre self.now.grammar.body)
+            (B.post self.now.grammar.body) }
+        requires statements { StatementsNest self.now.grammar.depth (S.pre self.now.statement)
+            (S.post self.now.statement) }
+        ensures { Reads (reader.throw limit (expression_in self.now.grammar.depth)
+            (body_in self.now.grammar.depth) (statement_in self.now.grammar.depth) tokens.old)
+            result tokens.new }
     {
         if !tokens.same_line() {
             return Err(ParseFault::NotScript);

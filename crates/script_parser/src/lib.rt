@@ -9,8 +9,10 @@ mod inner;
 mod jump;
 mod loops;
 mod node;
-pub mod script;
+mod reading;
 mod statement;
 mod switch;
 mod try_catch;
 mod variables;
+
+pub use reading::script;

@@ -8,13 +8,9 @@ ghost use Rattle.script_parser.specs.Inner.{StatementsNest, statement_in};
 use crate::ending::ended;
 use crate::inner::{Statements, body_of};
 use crate::node::node;
-use expression_parser::cursor::Cursor;
-use expression_parser::fault::ParseFault;
-use js_core::keyword::Keyword;
-use js_core::syntax::{Expr, Stmt, StmtNode};
-use js_grammar::ending::Ending;
-use js_grammar::operators::Level;
-use js_grammar::sign::Sign;
+use expression_parser::{Cursor, ParseFault};
+use js_core::{Expr, Keyword, Stmt, StmtNode};
+use js_grammar::{Ending, Level, Sign};
 use std::alloc::Global;
 
 impl<
@@ -25,9 +21,14 @@ impl<
     /// Reads what stands behind `do`.
     #[tactic(auto, unfolding(js_grammar::specs::StatementReader::do_while))]
     pub fn do_while(&self, tokens: &mut Cursor<'_>) -> Result<Stmt, ParseFault>
-        requires expressions { Nests self.now.grammar.depth (E.pre self.now.grammar.expression) (E.post self.now.grammar.expression) (B.pre self.now.grammar.body) (B.post self.now.grammar.body) }
-        requires statements { StatementsNest self.now.grammar.depth (S.pre self.now.statement) (S.post self.now.statement) }
-        ensures { Reads (reader.do_while limit (expression_in self.now.grammar.depth) (body_in self.now.grammar.depth) (statement_in self.now.grammar.depth) tokens.old) result tokens.new }
+        requires expressions { Nests self.now.grammar.depth (E.pre self.now.grammar.expression)
+            (E.post self.now.grammar.expression) (B.pre self.now.grammar.body)
+            (B.post self.now.grammar.body) }
+        requires statements { StatementsNest self.now.grammar.depth (S.pre self.now.statement)
+            (S.post self.now.statement) }
+        ensures { Reads (reader.do_while limit (expression_in self.now.grammar.depth)
+            (body_in self.now.grammar.depth) (statement_in self.now.grammar.depth) tokens.old)
+            result tokens.new }
     {
         let repeated = self.statement(tokens)?;
         tokens.expect(Sign::Word(Keyword::While))?;
@@ -39,9 +40,14 @@ impl<
 
     /// Reads what stands behind `while`.
     pub fn while_loop(&self, tokens: &mut Cursor<'_>) -> Result<Stmt, ParseFault>
-        requires expressions { Nests self.now.grammar.depth (E.pre self.now.grammar.expression) (E.post self.now.grammar.expression) (B.pre self.now.grammar.body) (B.post self.now.grammar.body) }
-        requires statements { StatementsNest self.now.grammar.depth (S.pre self.now.statement) (S.post self.now.statement) }
-        ensures { Reads (reader.while limit (expression_in self.now.grammar.depth) (body_in self.now.grammar.depth) (statement_in self.now.grammar.depth) tokens.old) result tokens.new }
+        requires expressions { Nests self.now.grammar.depth (E.pre self.now.grammar.expression)
+            (E.post self.now.grammar.expression) (B.pre self.now.grammar.body)
+            (B.post self.now.grammar.body) }
+        requires statements { StatementsNest self.now.grammar.depth (S.pre self.now.statement)
+            (S.post self.now.statement) }
+        ensures { Reads (reader.while limit (expression_in self.now.grammar.depth)
+            (body_in self.now.grammar.depth) (statement_in self.now.grammar.depth) tokens.old)
+            result tokens.new }
     {
         let test = self.condition(tokens)?;
         let repeated = self.statement(tokens)?;

@@ -5,10 +5,8 @@ ghost use Rattle.js_grammar.specs.StatementReader as reader;
 ghost use Rattle.expression_parser.specs.Inside.{limit};
 ghost use Rattle.expression_parser.specs.Reads.{Reads};
 
-use expression_parser::cursor::Cursor;
-use expression_parser::fault::ParseFault;
-use expression_parser::height::check_height;
-use js_core::syntax::{Stmt, StmtNode};
+use expression_parser::{Cursor, ParseFault, check_height};
+use js_core::{Stmt, StmtNode};
 
 /// The statement with this node, at a place in the tokens. `NotScript` where it is too high.
 #[tactic(auto, unfolding(js_grammar::specs::Parser::within_limit))]

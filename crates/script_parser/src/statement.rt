@@ -12,14 +12,9 @@ ghost use Rattle.script_parser.specs.Beginnings.{begins, statement_behind};
 use crate::ending::has_more;
 use crate::inner::Statements;
 use crate::node::node;
-use expression_parser::cursor::Cursor;
-use expression_parser::fault::ParseFault;
-use expression_parser::lists::many;
-use js_core::keyword::Keyword;
-use js_core::syntax::{Expr, Stmt, StmtNode};
-use js_core::token::Punct;
-use js_grammar::operators::Level;
-use js_grammar::sign::Sign;
+use expression_parser::{Cursor, ParseFault, many};
+use js_core::{Expr, Keyword, Punct, Stmt, StmtNode};
+use js_grammar::{Level, Sign};
 use std::alloc::Global;
 use std::rc::Rc;
 
@@ -50,9 +45,14 @@ impl<
 > Statements<E, B, S> {
     /// Reads the rest of the statement that begins with this word. `NotScript` where none begins so.
     fn statement_behind(&self, word: Keyword, tokens: &mut Cursor<'_>) -> Result<Stmt, ParseFault>
-        requires expressions { Nests self.now.grammar.depth (E.pre self.now.grammar.expression) (E.post self.now.grammar.expression) (B.pre self.now.grammar.body) (B.post self.now.grammar.body) }
-        requires statements { StatementsNest self.now.grammar.depth (S.pre self.now.statement) (S.post self.now.statement) }
-        ensures { Reads (statement_behind limit (expression_in self.now.grammar.depth) (body_in self.now.grammar.depth) (statement_in self.now.grammar.depth) word tokens.old) result tokens.new }
+        requires expressions { Nests self.now.grammar.depth (E.pre self.now.grammar.expression)
+            (E.post self.now.grammar.expression) (B.pre self.now.grammar.body)
+            (B.post self.now.grammar.body) }
+        requires statements { StatementsNest self.now.grammar.depth (S.pre self.now.statement)
+            (S.post self.now.statement) }
+        ensures { Reads (statement_behind limit (expression_in self.now.grammar.depth)
+            (body_in self.now.grammar.depth) (statement_in self.now.grammar.depth) word tokens.old)
+            result tokens.new }
     {
         match word {
             Keyword::Var => self.variables(tokens),
@@ -73,9 +73,14 @@ impl<
     /// Reads a statement that begins with this word, which comes next.
     #[tactic(auto, using(crate::proofs::Beginnings::begun, crate::proofs::Beginnings::not_begun))]
     fn statement_by_word(&self, word: Keyword, tokens: &mut Cursor<'_>) -> Result<Stmt, ParseFault>
-        requires expressions { Nests self.now.grammar.depth (E.pre self.now.grammar.expression) (E.post self.now.grammar.expression) (B.pre self.now.grammar.body) (B.post self.now.grammar.body) }
-        requires statements { StatementsNest self.now.grammar.depth (S.pre self.now.statement) (S.post self.now.statement) }
-        ensures { Reads (reader.statement_by limit (expression_in self.now.grammar.depth) (body_in self.now.grammar.depth) (statement_in self.now.grammar.depth) (Some (Word word)) tokens.old) result tokens.new }
+        requires expressions { Nests self.now.grammar.depth (E.pre self.now.grammar.expression)
+            (E.post self.now.grammar.expression) (B.pre self.now.grammar.body)
+            (B.post self.now.grammar.body) }
+        requires statements { StatementsNest self.now.grammar.depth (S.pre self.now.statement)
+            (S.post self.now.statement) }
+        ensures { Reads (reader.statement_by limit (expression_in self.now.grammar.depth)
+            (body_in self.now.grammar.depth) (statement_in self.now.grammar.depth)
+            (Some (Word word)) tokens.old) result tokens.new }
     {
         if begins_statement(word) {
             tokens.skip();
@@ -89,9 +94,14 @@ impl<
 
     /// Reads a statement that begins with this sign, which comes next.
     fn statement_by(&self, sign: Option<Sign>, tokens: &mut Cursor<'_>) -> Result<Stmt, ParseFault>
-        requires expressions { Nests self.now.grammar.depth (E.pre self.now.grammar.expression) (E.post self.now.grammar.expression) (B.pre self.now.grammar.body) (B.post self.now.grammar.body) }
-        requires statements { StatementsNest self.now.grammar.depth (S.pre self.now.statement) (S.post self.now.statement) }
-        ensures { Reads (reader.statement_by limit (expression_in self.now.grammar.depth) (body_in self.now.grammar.depth) (statement_in self.now.grammar.depth) sign tokens.old) result tokens.new }
+        requires expressions { Nests self.now.grammar.depth (E.pre self.now.grammar.expression)
+            (E.post self.now.grammar.expression) (B.pre self.now.grammar.body)
+            (B.post self.now.grammar.body) }
+        requires statements { StatementsNest self.now.grammar.depth (S.pre self.now.statement)
+            (S.post self.now.statement) }
+        ensures { Reads (reader.statement_by limit (expression_in self.now.grammar.depth)
+            (body_in self.now.grammar.depth) (statement_in self.now.grammar.depth) sign tokens.old)
+            result tokens.new }
     {
         match sign {
             Some(Sign::Word(word)) => self.statement_by_word(word, tokens),
@@ -107,9 +117,14 @@ impl<
     /// Reads a statement.
     #[tactic(auto, unfolding(js_grammar::specs::StatementReader::any_statement))]
     pub fn any_statement(&self, tokens: &mut Cursor<'_>) -> Result<Stmt, ParseFault>
-        requires expressions { Nests self.now.grammar.depth (E.pre self.now.grammar.expression) (E.post self.now.grammar.expression) (B.pre self.now.grammar.body) (B.post self.now.grammar.body) }
-        requires statements { StatementsNest self.now.grammar.depth (S.pre self.now.statement) (S.post self.now.statement) }
-        ensures { Reads (reader.any_statement limit (expression_in self.now.grammar.depth) (body_in self.now.grammar.depth) (statement_in self.now.grammar.depth) tokens.old) result tokens.new }
+        requires expressions { Nests self.now.grammar.depth (E.pre self.now.grammar.expression)
+            (E.post self.now.grammar.expression) (B.pre self.now.grammar.body)
+            (B.post self.now.grammar.body) }
+        requires statements { StatementsNest self.now.grammar.depth (S.pre self.now.statement)
+            (S.post self.now.statement) }
+        ensures { Reads (reader.any_statement limit (expression_in self.now.grammar.depth)
+            (body_in self.now.grammar.depth) (statement_in self.now.grammar.depth) tokens.old)
+            result tokens.new }
     {
         let sign = tokens.sign();
         self.statement_by(sign, tokens)
@@ -118,9 +133,14 @@ impl<
     /// Reads what stands behind the `function` of a declaration.
     #[tactic(auto, unfolding(js_grammar::specs::StatementReader::function))]
     fn function(&self, tokens: &mut Cursor<'_>) -> Result<Stmt, ParseFault>
-        requires expressions { Nests self.now.grammar.depth (E.pre self.now.grammar.expression) (E.post self.now.grammar.expression) (B.pre self.now.grammar.body) (B.post self.now.grammar.body) }
-        requires statements { StatementsNest self.now.grammar.depth (S.pre self.now.statement) (S.post self.now.statement) }
-        ensures { Reads (reader.function limit (expression_in self.now.grammar.depth) (body_in self.now.grammar.depth) (statement_in self.now.grammar.depth) tokens.old) result tokens.new }
+        requires expressions { Nests self.now.grammar.depth (E.pre self.now.grammar.expression)
+            (E.post self.now.grammar.expression) (B.pre self.now.grammar.body)
+            (B.post self.now.grammar.body) }
+        requires statements { StatementsNest self.now.grammar.depth (S.pre self.now.statement)
+            (S.post self.now.statement) }
+        ensures { Reads (reader.function limit (expression_in self.now.grammar.depth)
+            (body_in self.now.grammar.depth) (statement_in self.now.grammar.depth) tokens.old)
+            result tokens.new }
     {
         let name = tokens.identifier()?;
         let code = self.grammar.procedure(Some(name), tokens)?;
@@ -131,9 +151,14 @@ impl<
     /// Reads a statement or a function declaration.
     #[tactic(auto, unfolding(js_grammar::specs::StatementReader::element))]
     fn element(&self, tokens: &mut Cursor<'_>) -> Result<Stmt, ParseFault>
-        requires expressions { Nests self.now.grammar.depth (E.pre self.now.grammar.expression) (E.post self.now.grammar.expression) (B.pre self.now.grammar.body) (B.post self.now.grammar.body) }
-        requires statements { StatementsNest self.now.grammar.depth (S.pre self.now.statement) (S.post self.now.statement) }
-        ensures { Reads (reader.element limit (expression_in self.now.grammar.depth) (body_in self.now.grammar.depth) (statement_in self.now.grammar.depth) tokens.old) result tokens.new }
+        requires expressions { Nests self.now.grammar.depth (E.pre self.now.grammar.expression)
+            (E.post self.now.grammar.expression) (B.pre self.now.grammar.body)
+            (B.post self.now.grammar.body) }
+        requires statements { StatementsNest self.now.grammar.depth (S.pre self.now.statement)
+            (S.post self.now.statement) }
+        ensures { Reads (reader.element limit (expression_in self.now.grammar.depth)
+            (body_in self.now.grammar.depth) (statement_in self.now.grammar.depth) tokens.old)
+            result tokens.new }
     {
         match tokens.sign() {
             Some(Sign::Word(Keyword::Function)) => {
@@ -146,9 +171,14 @@ impl<
 
     /// Reads the source elements before a `}` and the end.
     pub fn elements(&self, tokens: &mut Cursor<'_>) -> Result<Vec<Stmt>, ParseFault>
-        requires expressions { Nests self.now.grammar.depth (E.pre self.now.grammar.expression) (E.post self.now.grammar.expression) (B.pre self.now.grammar.body) (B.post self.now.grammar.body) }
-        requires statements { StatementsNest self.now.grammar.depth (S.pre self.now.statement) (S.post self.now.statement) }
-        ensures { ReadsAll (reader.elements limit (expression_in self.now.grammar.depth) (body_in self.now.grammar.depth) (statement_in self.now.grammar.depth) tokens.old) result tokens.new }
+        requires expressions { Nests self.now.grammar.depth (E.pre self.now.grammar.expression)
+            (E.post self.now.grammar.expression) (B.pre self.now.grammar.body)
+            (B.post self.now.grammar.body) }
+        requires statements { StatementsNest self.now.grammar.depth (S.pre self.now.statement)
+            (S.post self.now.statement) }
+        ensures { ReadsAll (reader.elements limit (expression_in self.now.grammar.depth)
+            (body_in self.now.grammar.depth) (statement_in self.now.grammar.depth) tokens.old)
+            result tokens.new }
     {
         many(
             self.grammar.alloc,

@@ -8,13 +8,9 @@ ghost use Rattle.script_parser.specs.Inner.{StatementsNest, statement_in};
 
 use crate::inner::Statements;
 use crate::node::node;
-use expression_parser::cursor::Cursor;
-use expression_parser::fault::ParseFault;
-use js_core::keyword::Keyword;
-use js_core::syntax::{Catch, Expr, Stmt, StmtNode};
-use js_core::token::Punct;
-use js_grammar::operators::Level;
-use js_grammar::sign::Sign;
+use expression_parser::{Cursor, ParseFault};
+use js_core::{Catch, Expr, Keyword, Punct, Stmt, StmtNode};
+use js_grammar::{Level, Sign};
 use std::alloc::Global;
 
 impl<
@@ -30,9 +26,14 @@ impl<
         catch: Option<Catch>,
         tokens: &mut Cursor<'_>,
     ) -> Result<Stmt, ParseFault>
-        requires expressions { Nests self.now.grammar.depth (E.pre self.now.grammar.expression) (E.post self.now.grammar.expression) (B.pre self.now.grammar.body) (B.post self.now.grammar.body) }
-        requires statements { StatementsNest self.now.grammar.depth (S.pre self.now.statement) (S.post self.now.statement) }
-        ensures { Reads (reader.finally limit (expression_in self.now.grammar.depth) (body_in self.now.grammar.depth) (statement_in self.now.grammar.depth) block.items (catch_of catch) tokens.old) result tokens.new }
+        requires expressions { Nests self.now.grammar.depth (E.pre self.now.grammar.expression)
+            (E.post self.now.grammar.expression) (B.pre self.now.grammar.body)
+            (B.post self.now.grammar.body) }
+        requires statements { StatementsNest self.now.grammar.depth (S.pre self.now.statement)
+            (S.post self.now.statement) }
+        ensures { Reads (reader.finally limit (expression_in self.now.grammar.depth)
+            (body_in self.now.grammar.depth) (statement_in self.now.grammar.depth) block.items
+            (catch_of catch) tokens.old) result tokens.new }
     {
         let last = Some(self.braced(tokens)?);
         node(StmtNode::Try { block, catch, last }, tokens)
@@ -41,9 +42,14 @@ impl<
     /// Reads what stands behind `catch`.
     #[tactic(auto, unfolding(js_grammar::specs::StatementReader::caught, js_grammar::specs::Parser::eat))]
     fn caught(&self, block: Vec<Stmt>, tokens: &mut Cursor<'_>) -> Result<Stmt, ParseFault>
-        requires expressions { Nests self.now.grammar.depth (E.pre self.now.grammar.expression) (E.post self.now.grammar.expression) (B.pre self.now.grammar.body) (B.post self.now.grammar.body) }
-        requires statements { StatementsNest self.now.grammar.depth (S.pre self.now.statement) (S.post self.now.statement) }
-        ensures { Reads (reader.caught limit (expression_in self.now.grammar.depth) (body_in self.now.grammar.depth) (statement_in self.now.grammar.depth) block.items tokens.old) result tokens.new }
+        requires expressions { Nests self.now.grammar.depth (E.pre self.now.grammar.expression)
+            (E.post self.now.grammar.expression) (B.pre self.now.grammar.body)
+            (B.post self.now.grammar.body) }
+        requires statements { StatementsNest self.now.grammar.depth (S.pre self.now.statement)
+            (S.post self.now.statement) }
+        ensures { Reads (reader.caught limit (expression_in self.now.grammar.depth)
+            (body_in self.now.grammar.depth) (statement_in self.now.grammar.depth) block.items
+            tokens.old) result tokens.new }
     {
         tokens.expect(Sign::Mark(Punct::LeftParenthesis))?;
         let name = tokens.identifier()?;
@@ -60,9 +66,14 @@ impl<
     /// Reads what stands behind `try`.
     #[tactic(auto, unfolding(js_grammar::specs::StatementReader::tried, js_grammar::specs::Parser::eat))]
     pub fn tried(&self, tokens: &mut Cursor<'_>) -> Result<Stmt, ParseFault>
-        requires expressions { Nests self.now.grammar.depth (E.pre self.now.grammar.expression) (E.post self.now.grammar.expression) (B.pre self.now.grammar.body) (B.post self.now.grammar.body) }
-        requires statements { StatementsNest self.now.grammar.depth (S.pre self.now.statement) (S.post self.now.statement) }
-        ensures { Reads (reader.tried limit (expression_in self.now.grammar.depth) (body_in self.now.grammar.depth) (statement_in self.now.grammar.depth) tokens.old) result tokens.new }
+        requires expressions { Nests self.now.grammar.depth (E.pre self.now.grammar.expression)
+            (E.post self.now.grammar.expression) (B.pre self.now.grammar.body)
+            (B.post self.now.grammar.body) }
+        requires statements { StatementsNest self.now.grammar.depth (S.pre self.now.statement)
+            (S.post self.now.statement) }
+        ensures { Reads (reader.tried limit (expression_in self.now.grammar.depth)
+            (body_in self.now.grammar.depth) (statement_in self.now.grammar.depth) tokens.old)
+            result tokens.new }
     {
         let block = self.braced(tokens)?;
         if tokens.eat(Sign::Word(Keyword::Catch)) {

@@ -11,14 +11,9 @@ ghost use Rattle.js_grammar.specs.Parser.{separated as spec_separated};
 use crate::ending::{READ_EXPRESSION, ended, ending_of};
 use crate::inner::Statements;
 use crate::node::node;
-use expression_parser::cursor::Cursor;
-use expression_parser::fault::ParseFault;
-use expression_parser::lists::separated;
-use js_core::syntax::{Declarator, Expr, Stmt, StmtNode};
-use js_core::token::Punct;
-use js_core::units::Units;
-use js_grammar::operators::Level;
-use js_grammar::sign::Sign;
+use expression_parser::{Cursor, ParseFault, separated};
+use js_core::{Declarator, Expr, Punct, Stmt, StmtNode, Units};
+use js_grammar::{Level, Sign};
 use std::alloc::Global;
 
 impl<
@@ -34,9 +29,14 @@ impl<
         is_initialised: bool,
         tokens: &mut Cursor<'_>,
     ) -> Result<Declarator, ParseFault>
-        requires expressions { Nests self.now.grammar.depth (E.pre self.now.grammar.expression) (E.post self.now.grammar.expression) (B.pre self.now.grammar.body) (B.post self.now.grammar.body) }
-        requires statements { StatementsNest self.now.grammar.depth (S.pre self.now.statement) (S.post self.now.statement) }
-        ensures { Reads (reader.declared_by limit (expression_in self.now.grammar.depth) (body_in self.now.grammar.depth) (statement_in self.now.grammar.depth) inn name is_initialised tokens.old) result tokens.new }
+        requires expressions { Nests self.now.grammar.depth (E.pre self.now.grammar.expression)
+            (E.post self.now.grammar.expression) (B.pre self.now.grammar.body)
+            (B.post self.now.grammar.body) }
+        requires statements { StatementsNest self.now.grammar.depth (S.pre self.now.statement)
+            (S.post self.now.statement) }
+        ensures { Reads (reader.declared_by limit (expression_in self.now.grammar.depth)
+            (body_in self.now.grammar.depth) (statement_in self.now.grammar.depth) inn name
+            is_initialised tokens.old) result tokens.new }
     {
         if !is_initialised {
             return Ok(Declarator { name, value: None });
@@ -50,9 +50,14 @@ impl<
 
     #[tactic(auto, unfolding(js_grammar::specs::StatementReader::declaration, js_grammar::specs::Parser::eat))]
     fn declaration(&self, inn: bool, tokens: &mut Cursor<'_>) -> Result<Declarator, ParseFault>
-        requires expressions { Nests self.now.grammar.depth (E.pre self.now.grammar.expression) (E.post self.now.grammar.expression) (B.pre self.now.grammar.body) (B.post self.now.grammar.body) }
-        requires statements { StatementsNest self.now.grammar.depth (S.pre self.now.statement) (S.post self.now.statement) }
-        ensures { Reads (reader.declaration limit (expression_in self.now.grammar.depth) (body_in self.now.grammar.depth) (statement_in self.now.grammar.depth) inn tokens.old) result tokens.new }
+        requires expressions { Nests self.now.grammar.depth (E.pre self.now.grammar.expression)
+            (E.post self.now.grammar.expression) (B.pre self.now.grammar.body)
+            (B.post self.now.grammar.body) }
+        requires statements { StatementsNest self.now.grammar.depth (S.pre self.now.statement)
+            (S.post self.now.statement) }
+        ensures { Reads (reader.declaration limit (expression_in self.now.grammar.depth)
+            (body_in self.now.grammar.depth) (statement_in self.now.grammar.depth) inn tokens.old)
+            result tokens.new }
     {
         let name = tokens.identifier()?;
         let is_initialised = tokens.eat(Sign::Mark(Punct::SimpleAssign));
@@ -65,9 +70,14 @@ impl<
         inn: bool,
         tokens: &mut Cursor<'_>,
     ) -> Result<Vec<Declarator>, ParseFault>
-        requires expressions { Nests self.now.grammar.depth (E.pre self.now.grammar.expression) (E.post self.now.grammar.expression) (B.pre self.now.grammar.body) (B.post self.now.grammar.body) }
-        requires statements { StatementsNest self.now.grammar.depth (S.pre self.now.statement) (S.post self.now.statement) }
-        ensures { ReadsAll (spec_separated (reader.declaration limit (expression_in self.now.grammar.depth) (body_in self.now.grammar.depth) (statement_in self.now.grammar.depth) inn) tokens.old) result tokens.new }
+        requires expressions { Nests self.now.grammar.depth (E.pre self.now.grammar.expression)
+            (E.post self.now.grammar.expression) (B.pre self.now.grammar.body)
+            (B.post self.now.grammar.body) }
+        requires statements { StatementsNest self.now.grammar.depth (S.pre self.now.statement)
+            (S.post self.now.statement) }
+        ensures { ReadsAll (spec_separated (reader.declaration limit
+            (expression_in self.now.grammar.depth) (body_in self.now.grammar.depth)
+            (statement_in self.now.grammar.depth) inn) tokens.old) result tokens.new }
     {
         separated(
             self.grammar.alloc,
@@ -79,9 +89,14 @@ impl<
     /// Reads the declarations behind `var`, and their end.
     #[tactic(auto, unfolding(js_grammar::specs::StatementReader::variables))]
     pub fn variables(&self, tokens: &mut Cursor<'_>) -> Result<Stmt, ParseFault>
-        requires expressions { Nests self.now.grammar.depth (E.pre self.now.grammar.expression) (E.post self.now.grammar.expression) (B.pre self.now.grammar.body) (B.post self.now.grammar.body) }
-        requires statements { StatementsNest self.now.grammar.depth (S.pre self.now.statement) (S.post self.now.statement) }
-        ensures { Reads (reader.variables limit (expression_in self.now.grammar.depth) (body_in self.now.grammar.depth) (statement_in self.now.grammar.depth) tokens.old) result tokens.new }
+        requires expressions { Nests self.now.grammar.depth (E.pre self.now.grammar.expression)
+            (E.post self.now.grammar.expression) (B.pre self.now.grammar.body)
+            (B.post self.now.grammar.body) }
+        requires statements { StatementsNest self.now.grammar.depth (S.pre self.now.statement)
+            (S.post self.now.statement) }
+        ensures { Reads (reader.variables limit (expression_in self.now.grammar.depth)
+            (body_in self.now.grammar.depth) (statement_in self.now.grammar.depth) tokens.old)
+            result tokens.new }
     {
         let found = self.declarations(true, tokens)?;
         ended(tokens, ending_of(found.as_slice()))?;
@@ -91,9 +106,14 @@ impl<
     /// Reads an expression statement.
     #[tactic(auto, unfolding(js_grammar::specs::StatementReader::expressed))]
     pub fn expressed(&self, tokens: &mut Cursor<'_>) -> Result<Stmt, ParseFault>
-        requires expressions { Nests self.now.grammar.depth (E.pre self.now.grammar.expression) (E.post self.now.grammar.expression) (B.pre self.now.grammar.body) (B.post self.now.grammar.body) }
-        requires statements { StatementsNest self.now.grammar.depth (S.pre self.now.statement) (S.post self.now.statement) }
-        ensures { Reads (reader.expressed limit (expression_in self.now.grammar.depth) (body_in self.now.grammar.depth) (statement_in self.now.grammar.depth) tokens.old) result tokens.new }
+        requires expressions { Nests self.now.grammar.depth (E.pre self.now.grammar.expression)
+            (E.post self.now.grammar.expression) (B.pre self.now.grammar.body)
+            (B.post self.now.grammar.body) }
+        requires statements { StatementsNest self.now.grammar.depth (S.pre self.now.statement)
+            (S.post self.now.statement) }
+        ensures { Reads (reader.expressed limit (expression_in self.now.grammar.depth)
+            (body_in self.now.grammar.depth) (statement_in self.now.grammar.depth) tokens.old)
+            result tokens.new }
     {
         let value = self.expression(tokens)?;
         ended(tokens, READ_EXPRESSION)?;

@@ -1,7 +1,7 @@
 //! Why a page is not saved.
 
 use event_file::EventFault;
-use js_core::memory::OutOfMemory;
+use js_core::OutOfMemory;
 use page_check::AcceptFault;
 use page_writer::SaveFault;
 use thiserror::Error;

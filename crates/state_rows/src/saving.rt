@@ -3,7 +3,7 @@
 use crate::fault::Fault;
 use event_file::calls;
 use page_check::accept;
-use page_io::memory_sink::MemorySink;
+use page_io::MemorySink;
 use page_writer::write_state;
 use session::load;
 use std::alloc::Global;

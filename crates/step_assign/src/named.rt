@@ -16,13 +16,10 @@ ghost use Rattle.step_parts.specs.declared.family.Family.TheVariants.{Named};
 ghost use Rattle.step_assign.specs.Waiting.{ReadsThenRuns, RunsRight};
 
 use code_table::Kind;
-use js_core::memory::OutOfMemory;
-use js_core::operators::BinaryOp;
-use js_core::units::Units;
-use js_values::value::Value;
+use js_core::{BinaryOp, OutOfMemory, Units};
+use js_values::Value;
 use page_frames::{Begin, BoxedFrame, Frame, Meter, NameFrame, Next, Spot};
-use page_meaning::reference::Reference;
-use page_meaning::signal::Signal;
+use page_meaning::{Reference, Signal};
 use page_state::{Fault, State};
 use step_parts::{give, plain};
 

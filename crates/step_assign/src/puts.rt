@@ -9,9 +9,8 @@ ghost use Rattle.page_meaning.specs.Properties as spec_properties;
 ghost use Rattle.page_frames.specs.RestProperties as spec;
 ghost use Rattle.page_state.specs.Does.{Gives, itself};
 
-use js_core::operators::BinaryOp;
-use js_core::units::Units;
-use js_values::value::Value;
+use js_core::{BinaryOp, Units};
+use js_values::Value;
 use page_state::{Fault, State};
 
 /// A property takes the value, which is given.

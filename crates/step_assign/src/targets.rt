@@ -7,11 +7,10 @@ ghost use Rattle.page_state.specs.Does.{Gives, itself};
 ghost use Rattle.step_assign.specs.Waiting.{RunsTarget, TargetGoes};
 
 use code_table::Kind;
-use js_core::memory::OutOfMemory;
-use js_core::units::Units;
-use js_values::value::Value;
+use js_core::{OutOfMemory, Units};
+use js_values::Value;
 use page_frames::{Begin, BoxedFrame, Frame, Meter, Next, Spot, TargetFrame};
-use page_meaning::signal::Signal;
+use page_meaning::Signal;
 use page_state::{Fault, State};
 use step_parts::{give, plain};
 

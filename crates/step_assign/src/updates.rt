@@ -7,8 +7,8 @@ ghost use Rattle.page_meaning.specs.Properties.{put_member, read_property};
 ghost use Rattle.page_frames.specs.RestProperties as spec;
 ghost use Rattle.page_state.specs.Does.{Gives, itself};
 
-use js_core::units::Units;
-use js_values::value::Value;
+use js_core::Units;
+use js_values::Value;
 use page_state::{Fault, State};
 
 /// A property by its name is updated.

@@ -11,9 +11,9 @@ ghost use Rattle.step_parts.specs.Families.{family_of};
 ghost use Rattle.step_call.specs.Arguments.{arg_part, is_new as spec_new};
 
 use code_table::Kind;
-use js_core::memory::OutOfMemory;
-use js_values::value::Value;
-use object_heap::values::Values;
+use js_core::OutOfMemory;
+use js_values::Value;
+use object_heap::Values;
 use page_frames::{Begin, BoxedCall, CallFrame, Meter, Next, Spot};
 use page_state::State;
 use step_parts::{Family, run_part};

@@ -11,10 +11,9 @@ ghost use Rattle.page_frames.specs.RestCalls.{mean_call, with_fresh};
 ghost use Rattle.step_call.specs.Callees.{Descends};
 
 use code_table::FunctionCode;
-use js_core::memory::OutOfMemory;
-use js_values::ids::{EnvId, ObjId};
-use js_values::value::Value;
-use object_heap::values::Values;
+use js_core::OutOfMemory;
+use js_values::{EnvId, ObjId, Value};
+use object_heap::Values;
 use page_frames::{Begin, BoxedCall, BoxedFrame, CallFrame, CalledFrame, Frame, Meter, Next, Spot};
 use page_state::State;
 use std::alloc::Global;

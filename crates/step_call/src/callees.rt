@@ -16,10 +16,9 @@ ghost use Rattle.step_call.specs.Arguments.{arg_part};
 
 use crate::arguments::{next_argument, one_more};
 use code_table::Kind;
-use js_core::memory::OutOfMemory;
-use js_core::units::Units;
-use js_values::value::Value;
-use object_heap::values::Values;
+use js_core::{OutOfMemory, Units};
+use js_values::Value;
+use object_heap::Values;
 use page_frames::{Meter, Next, Spot};
 use page_state::{Fault, State};
 use step_parts::{Family, give, run_part};

@@ -11,13 +11,9 @@ ghost use Rattle.step_call.specs.Callees.{Descends, may_run as spec_may, runs, r
 
 use crate::bodies::{call_page, construct_page, run_bound};
 use crate::natives::run_native;
-use js_core::memory::OutOfMemory;
-use js_values::built_in::BuiltIn;
-use js_values::ids::ObjId;
-use js_values::throw::Throw;
-use js_values::value::Value;
-use object_heap::object::Class;
-use object_heap::values::Values;
+use js_core::OutOfMemory;
+use js_values::{BuiltIn, ObjId, Throw, Value};
+use object_heap::{Class, Values};
 use page_frames::{Begin, CallFrame, Meter, Next};
 use page_state::State;
 use step_parts::{give, take_step};

@@ -5,10 +5,10 @@ ghost use Rattle.page_meaning.specs.Functions.{call_end as spec_end};
 ghost use Rattle.page_frames.specs.RestCalls as spec;
 ghost use Rattle.page_frames.specs.Step.{Steps};
 
-use js_core::memory::OutOfMemory;
-use js_values::value::Value;
+use js_core::OutOfMemory;
+use js_values::Value;
 use page_frames::{CalledFrame, Frame, Meter, Next};
-use page_meaning::signal::Signal;
+use page_meaning::Signal;
 use page_state::{State, built};
 
 /// A call whose body, or whose other call, has ended: it gives its level of depth back (sections 13.2.1 and 13.2.2).

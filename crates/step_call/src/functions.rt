@@ -14,16 +14,9 @@ ghost use Rattle.page_state.specs.Turns.{Tells};
 ghost use Rattle.step_call.specs.Callees.{Descends};
 
 use crate::bodies::run_call;
-use js_core::ascii::ascii_text;
-use js_core::memory::OutOfMemory;
-use js_values::built_in::BuiltIn;
-use js_values::ids::ObjId;
-use js_values::throw::Throw;
-use js_values::value::Value;
-use object_heap::object::Class;
-use object_heap::properties::Properties;
-use object_heap::property::Prop;
-use object_heap::values::Values;
+use js_core::{OutOfMemory, ascii_text};
+use js_values::{BuiltIn, ObjId, Throw, Value};
+use object_heap::{Class, Prop, Properties, Values};
 use page_frames::{CallFrame, Meter, Next};
 use page_state::{
     FUNCTION_PROTOTYPE, Fault, Halt, State, argument, arguments_from, function_at, index_value,

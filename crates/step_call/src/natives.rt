@@ -11,13 +11,11 @@ ghost use Rattle.page_state.specs.Turns.{Ends};
 ghost use Rattle.step_call.specs.Callees.{Descends};
 
 use crate::functions::run_function;
-use js_core::memory::OutOfMemory;
-use js_values::built_in::BuiltIn;
-use js_values::value::Value;
-use object_heap::values::Values;
+use js_core::OutOfMemory;
+use js_values::{BuiltIn, Value};
+use object_heap::Values;
 use page_frames::{Meter, Next};
-use page_meaning::family::RowFamily;
-use page_meaning::signal::Signal;
+use page_meaning::{RowFamily, Signal};
 use page_state::{Fault, Halt, State};
 use step_parts::give;
 use step_visit::begin_visit;

@@ -7,8 +7,8 @@ ghost use Rattle.page_frames.specs.Where.{spot_node};
 ghost use Rattle.step_parts.specs.Families.{family_of};
 ghost use Rattle.step_expr.specs.Begins.{begins_first};
 
-use js_core::memory::OutOfMemory;
-use object_heap::values::Values;
+use js_core::OutOfMemory;
+use object_heap::Values;
 use page_frames::{Meter, Next, Spot};
 use page_state::State;
 use step_parts::await_part;

@@ -18,15 +18,11 @@ ghost use Rattle.step_expr.specs.Holding.{Skips, holder as spec_holder};
 
 use crate::held::{after, holder, holding};
 use code_table::Kind;
-use js_core::ascii::ascii_text;
-use js_core::memory::OutOfMemory;
-use js_core::whole::Whole;
-use js_values::ids::ObjId;
-use js_values::value::Value;
-use object_heap::index::index_name;
-use object_heap::values::Values;
+use js_core::{OutOfMemory, Whole, ascii_text};
+use js_values::{ObjId, Value};
+use object_heap::{Values, index_name};
 use page_frames::{Meter, Next, Spot};
-use page_meaning::signal::Signal;
+use page_meaning::Signal;
 use page_state::{Fault, State};
 use step_parts::{give, run_part};
 

@@ -12,13 +12,11 @@ ghost use Rattle.step_expr.specs.Holding.{holder as spec_holder};
 
 use crate::held::{after, holder, holding};
 use code_table::{Kind, Names};
-use js_core::memory::OutOfMemory;
-use js_core::units::Units;
-use js_values::ids::ObjId;
-use js_values::value::Value;
-use object_heap::values::Values;
+use js_core::{OutOfMemory, Units};
+use js_values::{ObjId, Value};
+use object_heap::Values;
 use page_frames::{Meter, Next, Spot};
-use page_meaning::signal::Signal;
+use page_meaning::Signal;
 use page_state::State;
 use std::alloc::Global;
 use step_parts::{give, run_part};

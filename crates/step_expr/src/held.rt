@@ -5,10 +5,9 @@ ghost use Rattle.js_values.specs.declared.value.Value.TheVariants.{Object};
 ghost use Rattle.page_frames.specs.RestLiterals.{object_in as spec_object};
 ghost use Rattle.step_expr.specs.Holding.{holder as spec_holder};
 
-use js_core::memory::OutOfMemory;
-use js_values::ids::ObjId;
-use js_values::value::Value;
-use object_heap::values::Values;
+use js_core::OutOfMemory;
+use js_values::{ObjId, Value};
+use object_heap::Values;
 use std::alloc::Global;
 
 /// This object is held.

@@ -9,15 +9,14 @@ ghost use Rattle.step_parts.specs.Families.{family_of};
 
 use crate::sides::run_right;
 use code_table::Kind;
-use js_core::memory::OutOfMemory;
-use js_core::operators::BinaryOp;
-use js_values::value::Value;
-use object_heap::values::Values;
+use js_core::{BinaryOp, OutOfMemory};
+use js_values::Value;
+use object_heap::Values;
 use page_frames::{Meter, Next, Spot};
-use page_meaning::signal::Signal;
+use page_meaning::Signal;
 use page_state::State;
 use step_parts::{enter_part, give};
-use whole_ops::conversions::is_true;
+use whole_ops::is_true;
 
 /// An operator on values or a choice goes on with the value of a part (sections 11.4 to 11.12).
 pub fn go_operator(

@@ -12,9 +12,8 @@ ghost use Rattle.step_parts.specs.declared.family.Family.TheVariants.{Plain};
 ghost use Rattle.step_parts.specs.Families.{family_of};
 
 use code_table::{FunctionCode, Kind};
-use js_core::memory::OutOfMemory;
-use js_core::units::Units;
-use js_values::value::Value;
+use js_core::{OutOfMemory, Units};
+use js_values::Value;
 use page_frames::{Meter, Next, Spot};
 use page_state::{Fault, State};
 use step_parts::give;

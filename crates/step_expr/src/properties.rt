@@ -12,10 +12,9 @@ ghost use Rattle.step_parts.specs.Families.{family_of};
 
 use crate::sides::run_right;
 use code_table::Kind;
-use js_core::memory::OutOfMemory;
-use js_core::units::Units;
-use js_values::value::Value;
-use object_heap::values::Values;
+use js_core::{OutOfMemory, Units};
+use js_values::Value;
+use object_heap::Values;
 use page_frames::{Meter, Next, Spot};
 use page_state::{Fault, State};
 use step_parts::give;

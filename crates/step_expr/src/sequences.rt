@@ -14,11 +14,11 @@ use crate::elements::{begin_list, go_list};
 use crate::fields::{begin_literal, go_literal};
 use crate::held::after;
 use code_table::Kind;
-use js_core::memory::OutOfMemory;
-use js_values::value::Value;
-use object_heap::values::Values;
+use js_core::OutOfMemory;
+use js_values::Value;
+use object_heap::Values;
 use page_frames::{Meter, Next, Spot};
-use page_meaning::signal::Signal;
+use page_meaning::Signal;
 use page_state::State;
 use step_parts::run_part;
 

@@ -5,9 +5,9 @@ ghost use Rattle.code_table.specs.Kind.{kind_of};
 ghost use Rattle.page_frames.specs.Step.{Goes};
 ghost use Rattle.page_frames.specs.Where.{spot_node};
 
-use js_core::memory::OutOfMemory;
-use js_values::value::Value;
-use object_heap::values::Values;
+use js_core::OutOfMemory;
+use js_values::Value;
+use object_heap::Values;
 use page_frames::{Meter, Next, Spot};
 use page_state::State;
 use step_parts::run_part;

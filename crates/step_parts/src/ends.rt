@@ -8,10 +8,10 @@ ghost use Rattle.page_frames.specs.declared.meter.Meter.{Meter as Metered};
 ghost use Rattle.page_frames.specs.Step.{Leads};
 ghost use Rattle.page_state.specs.Does.{Does, Gives, itself};
 
-use js_core::memory::OutOfMemory;
-use js_values::value::Value;
+use js_core::OutOfMemory;
+use js_values::Value;
 use page_frames::{Meter, Next};
-use page_meaning::signal::Signal;
+use page_meaning::Signal;
 use page_state::Fault;
 
 /// The end that an answer is: its value, or its exception.

@@ -9,9 +9,8 @@ ghost use Rattle.step_parts.specs.Operands.{Operand, Reads};
 
 use crate::operators::operated;
 use code_table::Kind;
-use js_core::memory::OutOfMemory;
-use js_core::units::Units;
-use js_values::value::Value;
+use js_core::{OutOfMemory, Units};
+use js_values::Value;
 use page_frames::Spot;
 use page_state::{State, text_of};
 

@@ -8,13 +8,9 @@ ghost use Rattle.page_meaning.specs.Operators.{operate, says, yes_or_no};
 ghost use Rattle.page_meaning.specs.Store.{Store};
 ghost use Rattle.page_state.specs.Does.{Does};
 
-use js_core::operators::BinaryOp;
-use js_core::whole::Whole;
-use js_values::value::Value;
-use whole_ops::bits::{BitOp, bits};
-use whole_ops::equality::{loose, same};
-use whole_ops::fault::OpFault;
-use whole_ops::{arithmetic, order};
+use js_core::{BinaryOp, Whole};
+use js_values::Value;
+use whole_ops::{BitOp, OpFault, bits, loose, same};
 
 /// The value of an operator at two values; `None` where it throws, and where it would have to convert or to ask an object.
 pub(crate) fn operated(op: BinaryOp, left: &Value, right: &Value) -> Option<Value>
@@ -46,21 +42,21 @@ fn on_numbers(op: BinaryOp, a: Whole, b: Whole) -> Option<Value>
         Does (λ calls. operate calls op (Num a) (Num b)) s (Val v) s) }
 {
     match op {
-        BinaryOp::Mul => number(arithmetic::mul(a, b)),
-        BinaryOp::Div => number(arithmetic::div(a, b)),
-        BinaryOp::Rem => number(arithmetic::rem(a, b)),
-        BinaryOp::Add => number(arithmetic::add(a, b)),
-        BinaryOp::Sub => number(arithmetic::sub(a, b)),
+        BinaryOp::Mul => number(whole_ops::mul(a, b)),
+        BinaryOp::Div => number(whole_ops::div(a, b)),
+        BinaryOp::Rem => number(whole_ops::rem(a, b)),
+        BinaryOp::Add => number(whole_ops::add(a, b)),
+        BinaryOp::Sub => number(whole_ops::sub(a, b)),
         BinaryOp::Shl => Some(Value::Num(bits(BitOp::Shl, a, b))),
         BinaryOp::Shr => Some(Value::Num(bits(BitOp::Shr, a, b))),
         BinaryOp::Ushr => Some(Value::Num(bits(BitOp::Ushr, a, b))),
         BinaryOp::BitAnd => Some(Value::Num(bits(BitOp::And, a, b))),
         BinaryOp::BitXor => Some(Value::Num(bits(BitOp::Xor, a, b))),
         BinaryOp::BitOr => Some(Value::Num(bits(BitOp::Or, a, b))),
-        BinaryOp::Less => Some(Value::Bool(holds(order::less(a, b)))),
-        BinaryOp::Greater => Some(Value::Bool(holds(order::less(b, a)))),
-        BinaryOp::LessEq => Some(Value::Bool(fails(order::less(b, a)))),
-        BinaryOp::GreaterEq => Some(Value::Bool(fails(order::less(a, b)))),
+        BinaryOp::Less => Some(Value::Bool(holds(whole_ops::less(a, b)))),
+        BinaryOp::Greater => Some(Value::Bool(holds(whole_ops::less(b, a)))),
+        BinaryOp::LessEq => Some(Value::Bool(fails(whole_ops::less(b, a)))),
+        BinaryOp::GreaterEq => Some(Value::Bool(fails(whole_ops::less(a, b)))),
         _ => None,
     }
 }

@@ -10,10 +10,10 @@ ghost use Rattle.page_frames.specs.Where.{numbered, spot_node};
 ghost use Rattle.step_parts.specs.Running.{Awaits, AwaitsNode, Enters};
 
 use crate::operands::plain;
-use js_core::memory::OutOfMemory;
-use object_heap::values::Values;
+use js_core::OutOfMemory;
+use object_heap::Values;
 use page_frames::{Begin, BoxedFrame, ExprFrame, Frame, Meter, Next, Spot, StmtFrame};
-use page_meaning::signal::Signal;
+use page_meaning::Signal;
 use page_state::State;
 use std::alloc::Global;
 

@@ -14,9 +14,9 @@ use crate::loops::{
     do_again, do_tested, for_again, for_test, for_tested, while_again, while_tested,
 };
 use code_table::Kind;
-use js_core::memory::OutOfMemory;
+use js_core::OutOfMemory;
 use page_frames::{Meter, Next, Spot};
-use page_meaning::signal::Signal;
+use page_meaning::Signal;
 use page_state::State;
 
 /// A `while` after its test, or after its body (section 12.6.2).

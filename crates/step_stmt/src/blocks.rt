@@ -11,7 +11,7 @@ ghost use Rattle.step_parts.specs.Running.{Awaits};
 
 use crate::ends::nothing;
 use code_table::Kind;
-use js_core::memory::OutOfMemory;
+use js_core::OutOfMemory;
 use page_frames::{Meter, Next, Spot};
 use page_state::State;
 use step_parts::{await_statement, run_statement};

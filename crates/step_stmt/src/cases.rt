@@ -14,14 +14,14 @@ ghost use Rattle.step_stmt.specs.Cases as cases;
 
 use crate::ends::{nothing, unbroken};
 use code_table::Kind;
-use js_core::memory::OutOfMemory;
-use js_values::value::Value;
+use js_core::OutOfMemory;
+use js_values::Value;
 use page_frames::{Begin, BoxedFrame, CaseFrame, Frame, Meter, Next, Spot};
-use page_meaning::signal::Signal;
+use page_meaning::Signal;
 use page_state::State;
 use std::alloc::Global;
 use step_parts::plain;
-use whole_ops::equality::same;
+use whole_ops::same;
 
 // The number of the test of the case of this index, and of its statements.
 fn test_place(index: u64) -> u64

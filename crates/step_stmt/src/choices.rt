@@ -11,14 +11,13 @@ ghost use Rattle.page_frames.specs.Weight.{weigh};
 ghost use Rattle.page_frames.specs.Where.{here_of, spot_node};
 
 use code_table::Kind;
-use js_core::memory::OutOfMemory;
-use js_core::units::Units;
-use js_values::value::Value;
+use js_core::{OutOfMemory, Units};
+use js_values::Value;
 use page_frames::{Begin, BoxedFrame, Frame, Meter, Next, Spot, StmtFrame};
-use page_meaning::signal::Signal;
+use page_meaning::Signal;
 use page_state::State;
 use step_parts::{enter_part, run_statement};
-use whole_ops::conversions::is_true;
+use whole_ops::is_true;
 
 /// An `if` after its test: what is chosen runs in its place.
 pub(crate) fn if_tested(

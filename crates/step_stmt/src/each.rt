@@ -14,12 +14,10 @@ ghost use Rattle.page_frames.specs.Where.{here_of, spot_node};
 ghost use Rattle.step_stmt.specs.Visits.{visit};
 
 use crate::ends::{loop_end, nothing};
-use js_core::memory::OutOfMemory;
-use js_core::units::Units;
-use js_values::ids::ObjId;
-use js_values::value::Value;
+use js_core::{OutOfMemory, Units};
+use js_values::{ObjId, Value};
 use page_frames::{Begin, BoxedFrame, EachFrame, Frame, Listed, Meter, Next, Spot};
-use page_meaning::signal::Signal;
+use page_meaning::Signal;
 use page_state::State;
 use std::alloc::Global;
 use step_parts::take_step;

@@ -7,9 +7,9 @@ ghost use Rattle.page_meaning.specs.Statements as spec;
 ghost use Rattle.page_frames.specs.declared.meter.Next.TheVariants.{Give};
 ghost use Rattle.step_stmt.specs.Ends.{ended_or};
 
-use js_values::value::Value;
+use js_values::Value;
 use page_frames::Next;
-use page_meaning::signal::Signal;
+use page_meaning::Signal;
 
 /// The end of a statement that ends by itself.
 pub(crate) fn nothing() -> Next

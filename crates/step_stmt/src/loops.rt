@@ -14,8 +14,8 @@ ghost use Rattle.step_stmt.specs.Turns.{body_of};
 
 use crate::turns::{take_turn, turn_when};
 use code_table::Kind;
-use js_core::memory::OutOfMemory;
-use js_values::value::Value;
+use js_core::OutOfMemory;
+use js_values::Value;
 use page_frames::{Meter, Next, Spot};
 use page_state::State;
 use step_parts::{await_statement, plain, run_statement};

@@ -17,10 +17,10 @@ use crate::each::each_listed;
 use crate::ends::nothing;
 use crate::loops::{do_begun, while_again};
 use code_table::Kind;
-use js_core::memory::OutOfMemory;
-use js_values::value::Value;
+use js_core::OutOfMemory;
+use js_values::Value;
 use page_frames::{Frame, Meter, Next, Spot, StmtFrame};
-use page_meaning::signal::Signal;
+use page_meaning::Signal;
 use page_state::State;
 use step_parts::{Family, await_statement, plain, run_statement};
 

@@ -6,13 +6,13 @@ ghost use Rattle.page_meaning.specs.Loops.{turn as spec_turn, turn_if};
 ghost use Rattle.page_frames.specs.Step.{Leads};
 ghost use Rattle.step_stmt.specs.Turns.{GoesOnAs, IsPaid, body_of};
 
-use js_core::memory::OutOfMemory;
-use js_values::value::Value;
+use js_core::OutOfMemory;
+use js_values::Value;
 use page_frames::{Meter, Next, Spot};
-use page_meaning::signal::Signal;
+use page_meaning::Signal;
 use page_state::State;
 use step_parts::{run_statement, take_step};
-use whole_ops::conversions::is_true;
+use whole_ops::is_true;
 
 /// Takes a step, and runs the part of this number; the frame goes on from its end with this turn.
 pub(crate) fn take_turn(

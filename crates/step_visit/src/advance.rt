@@ -7,15 +7,13 @@ ghost use Rattle.step_visit.specs.Advancing.{CallsFor, Climbs};
 
 use crate::finding::next_element;
 use crate::stopping::stop;
-use js_core::memory::OutOfMemory;
-use js_values::ids::ObjId;
-use js_values::value::Value;
-use object_heap::values::Values;
+use js_core::OutOfMemory;
+use js_values::{ObjId, Value};
+use object_heap::Values;
 use page_frames::{
     Begin, BoxedCall, BoxedFrame, CallFrame, Frame, Meter, Next, VisitFrame, Visited,
 };
-use page_meaning::signal::Signal;
-use page_meaning::visit::Visit;
+use page_meaning::{Signal, Visit};
 use page_state::{State, index_value};
 use std::alloc::Global;
 

@@ -4,8 +4,7 @@ ghost use Rattle.std.specs.Prelude.{◌-◌};
 ghost use Rattle.page_state.specs.Turns.{Tells};
 ghost use Rattle.step_visit.specs.Finding.{next_found};
 
-use js_values::ids::ObjId;
-use js_values::value::Value;
+use js_values::{ObjId, Value};
 use page_state::{Halt, State, take_turn};
 
 /// The next element from an index on with its index, or `None` past the last. Each turn takes a step, over a hole too.

@@ -2,7 +2,7 @@
 
 ghost use Rattle.step_visit.specs.Stopping.{Stops};
 
-use js_core::memory::OutOfMemory;
+use js_core::OutOfMemory;
 use page_frames::Next;
 use page_state::Halt;
 

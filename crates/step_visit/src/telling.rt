@@ -3,11 +3,10 @@
 ghost use Rattle.std.specs.Prelude.{◌≡◌};
 ghost use Rattle.step_visit.specs.Telling.{Filters, Follows, Keeps, Maps, after_every, after_some};
 
-use js_values::ids::ObjId;
-use js_values::value::Value;
-use page_meaning::visit::Visit;
+use js_values::{ObjId, Value};
+use page_meaning::Visit;
 use page_state::{Fault, State, further};
-use whole_ops::conversions::is_true;
+use whole_ops::is_true;
 
 /// How a visit goes on.
 #[derive(Drop)]

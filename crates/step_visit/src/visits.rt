@@ -16,14 +16,10 @@ use crate::advance::advance;
 use crate::finding::next_element;
 use crate::stopping::stop;
 use crate::telling::{Told, tell};
-use js_core::memory::OutOfMemory;
-use js_values::built_in::BuiltIn;
-use js_values::ids::ObjId;
-use js_values::throw::Throw;
-use js_values::value::Value;
+use js_core::OutOfMemory;
+use js_values::{BuiltIn, ObjId, Throw, Value};
 use page_frames::{Frame, Meter, Next, VisitFrame, Visited};
-use page_meaning::signal::Signal;
-use page_meaning::visit::Visit;
+use page_meaning::{Signal, Visit};
 use page_state::{Fault, State, argument, further};
 use step_parts::give;
 

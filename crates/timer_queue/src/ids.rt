@@ -5,7 +5,7 @@ ghost use Rattle.timer_queue.specs.Marks.{AreMarks};
 ghost use Rattle.timer_queue.specs.Timers.{least_free};
 
 use crate::timer::Live;
-use js_core::memory::OutOfMemory;
+use js_core::OutOfMemory;
 use std::alloc::Global;
 
 // For each id that the least free one may be, and 0, whether it is live.

@@ -9,5 +9,5 @@ mod tests;
 mod timer;
 
 pub use laws::{law_ids_are_distinct, law_takings_are_firings};
-pub use queue::{MOST_TIMERS, Queue};
+pub use queue::Queue;
 pub use timer::Live;

@@ -6,13 +6,10 @@ ghost use Rattle.timer_queue.specs.Timers as spec;
 
 use crate::ids::least_free;
 use crate::timer::Live;
-use js_core::memory::OutOfMemory;
-use js_values::ids::ObjId;
+use js_core::OutOfMemory;
+use js_values::ObjId;
 use std::alloc::Global;
 use std::marker::Model;
-
-/// At most so many timers are live at once.
-pub const MOST_TIMERS: usize = 65_536;
 
 /// The live timers of a page, which contracts see as their list in starting order.
 #[derive(Drop)]
@@ -165,8 +162,10 @@ impl Queue {
     /// removed, and an interval is put at the end, due one period later. None where no timer is due.
     pub fn take_due(&mut self, until: u64) -> Option<(u32, u64, ObjId)>
         requires { until < 2 ^ 60 }
-        ensures taken { result ≡ option_map (λ t. (t.id, t.due, t.call)) (spec.first (spec.due_timers self.old until)) }
-        ensures left { self.new ≡ spec.after_first self.old (spec.first (spec.due_timers self.old until)) }
+        ensures taken { result ≡ option_map (λ t. (t.id, t.due, t.call))
+            (spec.first (spec.due_timers self.old until)) }
+        ensures left { self.new ≡ spec.after_first self.old
+            (spec.first (spec.due_timers self.old until)) }
     {
         match first_due(self.timers.as_slice(), until) {
             Some(timer) => {

@@ -1,5 +1,5 @@
 use crate::{Live, Queue};
-use js_values::ids::ObjId;
+use js_values::ObjId;
 use std::test::Fail;
 
 #[test]

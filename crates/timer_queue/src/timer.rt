@@ -1,6 +1,6 @@
 //! Timers.
 
-use js_values::ids::ObjId;
+use js_values::ObjId;
 
 /// A live timer.
 #[derive(Clone, Copy, Debug, PartialEq, Eq)]

@@ -2,7 +2,7 @@
 use Rattle.std.specs.Prelude.{ℕ, ℤ, List, codes, bytes_eq, Option, Some, None, if◌then◌else◌}
 use Rattle.js_values.specs.declared.value.Value.{Value}
 use Rattle.js_values.specs.declared.value.Value.TheVariants.{Num, Text}
-use Rattle.whole_ops.specs.declared.bits.BitOp.TheVariants.{And, Or, Xor, Shl, Shr, Ushr}
+use Rattle.whole_ops.specs.declared.bit_ops.BitOp.TheVariants.{And, Or, Xor, Shl, Shr, Ushr}
 use Rattle.whole_ops.specs.Arithmetic.{whole_add, whole_sub, whole_mul, whole_div, whole_rem}
 use Rattle.whole_ops.specs.Bits.{whole_bits, whole_not}
 use Rattle.whole_ops.specs.Equality.{same_of, loose_of}

@@ -3,9 +3,9 @@
 ghost use Rattle.std.specs.Prelude.{◌≡◌};
 ghost use Rattle.whole_lines.specs.Answers as spec;
 
-use js_core::whole::Whole;
+use js_core::Whole;
 use std::fmt;
-use whole_ops::fault::{LooseFault, OpFault};
+use whole_ops::{LooseFault, OpFault};
 
 /// What an operator answers.
 #[derive(Clone, Copy, Debug, PartialEq, Eq)]

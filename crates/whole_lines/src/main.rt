@@ -10,7 +10,7 @@ mod operand;
 mod operator;
 
 use answer::Answer;
-use js_core::memory::OutOfMemory;
+use js_core::OutOfMemory;
 use operand::operand;
 use operator::Operator;
 use std::alloc::Global;

@@ -5,12 +5,10 @@ ghost use Rattle.js_core.specs.Text.{utf16_of};
 ghost use Rattle.whole_lines.specs.Operands as spec;
 ghost use Rattle.whole_ops.specs.Numeral.{to_whole};
 
-use js_core::memory::OutOfMemory;
-use js_core::units::Units;
-use js_core::whole::Whole;
-use js_values::value::Value;
+use js_core::{OutOfMemory, Units, Whole};
+use js_values::Value;
 use std::alloc::Global;
-use whole_ops::numeral::to_number;
+use whole_ops::to_number;
 
 /// The value that a word means: a string is written behind an apostrophe, a number as `to_number` reads it, and any other
 /// value by its name. What is no number of the language is NaN.

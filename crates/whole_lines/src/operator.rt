@@ -4,14 +4,9 @@ ghost use Rattle.std.specs.Prelude.{◌≡◌};
 ghost use Rattle.whole_lines.specs.Operators as spec;
 
 use crate::answer::Answer;
-use js_core::whole::Whole;
-use js_values::value::Value;
-use whole_ops::arithmetic::{add, div, mul, rem, sub};
-use whole_ops::bits::{BitOp, bits, not};
-use whole_ops::equality::{loose, same};
-use whole_ops::numeral::to_number;
-use whole_ops::order::less;
-use whole_ops::power::pow;
+use js_core::Whole;
+use js_values::Value;
+use whole_ops::{BitOp, add, bits, div, less, loose, mul, not, pow, rem, same, sub, to_number};
 
 /// An operator.
 #[derive(Clone, Copy, Debug, PartialEq, Eq)]

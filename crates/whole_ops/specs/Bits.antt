@@ -1,8 +1,8 @@
 -- The operators on bits (ECMA-262 5.1 sections 9.5, 9.6, 11.4.8, 11.7 and 11.10).
 use Rattle.std.specs.Prelude.{ℕ, ℤ, pos, ◌-◌, ◌*◌, ◌/◌, ◌%◌, ◌^◌, ◌-ℤ◌, nat_lt, bit_and, bit_or, bit_xor, unsigned_abs, Option, Some, None, if◌then◌else◌}
 use Rattle.std.specs.Int.{int_rem_euclid, int_shr}
-use Rattle.whole_ops.specs.declared.bits.BitOp.{BitOp}
-use Rattle.whole_ops.specs.declared.bits.BitOp.TheVariants.{And, Or, Xor, Shl, Shr, Ushr}
+use Rattle.whole_ops.specs.declared.bit_ops.BitOp.{BitOp}
+use Rattle.whole_ops.specs.declared.bit_ops.BitOp.TheVariants.{And, Or, Xor, Shl, Shr, Ushr}
 
 -- ToUint32: the number modulo 2^32, and 0 for NaN
 abbrev pub to_uint32 : Option ℤ → ℕ

@@ -5,7 +5,7 @@ ghost use Rattle.js_core.specs.Whole.{InRange};
 ghost use Rattle.whole_ops.specs.Arithmetic as spec;
 
 use crate::fault::OpFault;
-use js_core::whole::Whole;
+use js_core::Whole;
 
 /// The size of the largest number.
 pub(crate) const LARGEST: u64 = Whole::LARGEST as u64;

@@ -7,11 +7,8 @@ ghost use Rattle.whole_ops.specs.Equality as equality;
 use crate::fault::{LooseFault, OpFault};
 use crate::numeral::to_number;
 use crate::text::to_text;
-use js_core::ascii::ascii_text;
-use js_core::memory::OutOfMemory;
-use js_core::units::Units;
-use js_core::whole::Whole;
-use js_values::value::Value;
+use js_core::{OutOfMemory, Units, Whole, ascii_text};
+use js_values::Value;
 use std::alloc::Global;
 
 /// The number of the value (ECMA-262 5.1 section 9.3). An object answers `NeedsPrimitive`, and a string that writes a

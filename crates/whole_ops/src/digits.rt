@@ -19,7 +19,8 @@ pub(crate) const HEXADECIMAL: u64 = 16;
 pub(crate) fn size_in_range(radix: u64, digits: &[u16]) -> Option<u64>
     requires low { 2 ≤ radix }
     requires high { radix ≤ 16 }
-    ensures { SomeIff result (digits_value radix digits.now ≤ largest) (digits_value radix digits.now) }
+    ensures { SomeIff result (digits_value radix digits.now ≤ largest)
+        (digits_value radix digits.now) }
 {
     let mut size: u64 = 0;
     for digit in digits {

@@ -7,10 +7,8 @@ ghost use Rattle.whole_ops.specs.Numeral.{to_whole};
 use crate::conversions::number_of_truth;
 use crate::fault::{LooseFault, OpFault};
 use crate::numeral::to_number;
-use js_core::units::Units;
-use js_core::whole::Whole;
-use js_values::ids::ObjId;
-use js_values::value::Value;
+use js_core::{Units, Whole};
+use js_values::{ObjId, Value};
 
 /// `===` (ECMA-262 5.1 section 11.9.6).
 pub fn same(a: &Value, b: &Value) -> bool

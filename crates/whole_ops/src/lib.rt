@@ -2,16 +2,26 @@
 //! numbers.
 #![tactic(auto)]
 
-pub mod arithmetic;
-pub mod bits;
-pub mod conversions;
+mod arithmetic;
+mod bit_ops;
+mod conversions;
 mod digits;
-pub mod equality;
-pub mod fault;
-pub mod numeral;
-pub mod order;
-pub mod power;
+mod equality;
+mod fault;
+mod numeral;
+mod order;
+mod power;
 #[cfg(test)]
 mod tests;
-pub mod text;
-pub mod white_space;
+mod text;
+mod white_space;
+
+pub use arithmetic::{add, div, mul, rem, sub};
+pub use bit_ops::{BitOp, bits, not, to_uint32};
+pub use conversions::{is_true, number_of, text_of};
+pub use equality::{loose, same};
+pub use fault::{LooseFault, OpFault};
+pub use numeral::to_number;
+pub use order::{less, text_less};
+pub use power::pow;
+pub use white_space::{is_str_white_space, trimmed};

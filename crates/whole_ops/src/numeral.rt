@@ -12,8 +12,7 @@ use crate::digits::{
 };
 use crate::fault::OpFault;
 use crate::white_space::trimmed;
-use js_core::units::Units;
-use js_core::whole::Whole;
+use js_core::{Units, Whole};
 
 /// `Infinity`
 const INFINITY: [u16; 8] = [

@@ -7,7 +7,7 @@ ghost use Rattle.whole_ops.specs.Power as spec;
 
 use crate::arithmetic::{LARGEST, quotient, whole_or_outside};
 use crate::fault::OpFault;
-use js_core::whole::Whole;
+use js_core::Whole;
 
 /// The first to the power of the second (ECMA-262 5.1 section 15.8.2.13): NaN where the second is NaN, or the first is
 /// NaN and the second is not 0; and `Outside` exactly where the power is out of range, infinite or a fraction. Where the

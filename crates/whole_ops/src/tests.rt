@@ -1,7 +1,7 @@
 //! Rows whose answers were worked out from the standard by hand.
 
 use crate::arithmetic::{add, div, mul, rem, sub};
-use crate::bits::{BitOp, bits, not};
+use crate::bit_ops::{BitOp, bits, not};
 use crate::conversions::{is_true, number_of, text_of};
 use crate::equality::{loose, same};
 use crate::fault::{LooseFault, OpFault};
@@ -9,10 +9,8 @@ use crate::numeral::to_number;
 use crate::order::{less, text_less};
 use crate::power::pow;
 use crate::text::to_text;
-use js_core::units::Units;
-use js_core::whole::Whole;
-use js_values::ids::ObjId;
-use js_values::value::Value;
+use js_core::{Units, Whole};
+use js_values::{ObjId, Value};
 use std::process::Abort;
 use std::test::Fail;
 

@@ -4,10 +4,7 @@ ghost use Rattle.std.specs.Prelude.{◌≡◌, IfOk};
 ghost use Rattle.whole_ops.specs.Numeral as spec;
 
 use itoa::Buffer;
-use js_core::ascii::ascii_text;
-use js_core::memory::OutOfMemory;
-use js_core::units::Units;
-use js_core::whole::Whole;
+use js_core::{OutOfMemory, Units, Whole, ascii_text};
 use std::alloc::Global;
 
 /// The text of the number (section 9.8.1): its decimal digits, with `-` before them where it is below 0, or `NaN`. It is

@@ -4,7 +4,7 @@ ghost use Rattle.std.specs.Prelude.{◌≡◌, ◌≤◌, reverse, length};
 ghost use Rattle.std.specs.List.{prefix_len};
 ghost use Rattle.whole_ops.specs.WhiteSpace as spec;
 
-use js_core::characters::{is_line_end, is_white_space};
+use js_core::{is_line_end, is_white_space};
 
 /// The text without the white space with which it begins and ends.
 #[tactic(auto, unfolding(crate::specs::WhiteSpace::trimmed))]

@@ -1,5 +1,0 @@
-use Rattle.js_lexer.proofs.OneToken.{nothing_at_end}
-use Rattle.js_lexer.proofs.tokens.token.Goals as goal
-
-pub returns-in_default-clause-refused : goal.returns-in_default-clause-refused
-returns-in_default-clause-refused c e rest what = nothing_at_end c.args.text.now rest what c.in_default.len_below

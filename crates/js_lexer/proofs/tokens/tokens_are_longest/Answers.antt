@@ -1,5 +1,0 @@
-use Rattle.js_lexer.proofs.LongestToken.{longest}
-use Rattle.js_lexer.proofs.tokens.tokens_are_longest.Goals as goal
-
-pub returns : goal.returns
-returns c = longest
