@@ -78,15 +78,23 @@ fn time_array(rt: &HostRuntime, count: u64, pops: bool) -> io::Result<()> {
     println!(rt; "{done} {}", spent.as_nanos())
 }
 
+fn time_count(rt: &HostRuntime, number: &str, pops: bool) -> io::Result<()> {
+    match number.parse::<u64>() {
+        Ok(count) => time_array(rt, count, pops),
+        Err(_) => Ok(()),
+    }
+}
+
+fn time_word(rt: &HostRuntime, word: &str) -> io::Result<()> {
+    match word.strip_prefix("pop-") {
+        Some(number) => time_count(rt, number, true),
+        None => time_count(rt, word, false),
+    }
+}
+
 fn main(rt: HostRuntime) -> io::Result<()> {
     for word in std::env::args(&rt)?.skip(1) {
-        let (pops, number) = match word.as_str().strip_prefix("pop-") {
-            Some(number) => (true, number),
-            None => (false, word.as_str()),
-        };
-        if let Ok(count) = number.parse::<u64>() {
-            time_array(&rt, count, pops)?;
-        }
+        time_word(&rt, word.as_str())?;
     }
     Ok(())
 }
