@@ -1,8 +1,8 @@
 -- That the text of a page with opened scopes is accepted as a form page.
 use Rattle.std.proofs.Common.{◌≡◌, ◌∙◌, refl, sym, ap, subst, ℕ, ◌+◌, Bool, true, false, List, [], ◌∷◌}
-use Rattle.std.specs.Prelude.{◌||◌, ◌&&◌, not, bytes_eq, codes}
+use Rattle.std.specs.Prelude.{◌||◌, ◌&&◌, bytes_eq, codes}
 use Rattle.std.specs.List.{list_all}
-use Rattle.std.proofs.lemmas.Bool.{and_parts, ltb-false}
+use Rattle.std.proofs.lemmas.Bool.{and_parts, ltb-false, not-true}
 use Rattle.js_core.specs.Height.{stmts_height}
 use Rattle.js_core.specs.Text.{utf16_of}
 use Rattle.js_core.specs.Tree as tree
@@ -56,17 +56,13 @@ lined_again script text again = record {
 
 -- ---- the law
 
-not_true : (b : Bool) → not b ≡ true → b ≡ false
-not_true true h = absurd (cc h)
-not_true false h = refl
-
 -- the script of an accepted plain page can be opened
 pub plain_script : (bytes : List ℕ) (scripts : List tree.Stmts) (page : IsAcceptedAs bytes Plain scripts) → IsSyntax page.script → IsPlainScript page.script
 plain_script bytes scripts page syntax = record {
   syntax = syntax;
   orderly = page.read.low.orderly.orderly;
   low = ltb-false plain_height_limit (stmts_height page.script) page.read.low.low;
-  plain = not_true (has_reserved_name page.script) page.read.formed;
+  plain = not-true (has_reserved_name page.script) page.read.formed;
 }
 
 module _ (formed : OpenedScriptsAreForm) (printed : ScriptsAreReadAgain) (framing : FramedScriptsAreAccepted)

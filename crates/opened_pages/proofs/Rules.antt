@@ -1,7 +1,7 @@
 -- Opened scripts of plain pages keep the rules of form pages.
-use Rattle.std.proofs.Common.{◌≡◌, refl, ap, ◌∙◌, ℕ, ◌+◌, ◌≤◌, Bool, true, false, ◌||◌, not, List, [], ◌∷◌}
+use Rattle.std.proofs.Common.{◌≡◌, ap, ◌∙◌, ℕ, ◌+◌, ◌≤◌, Bool, ◌||◌, List, [], ◌∷◌}
 use Rattle.std.specs.List.{All}
-use Rattle.std.proofs.lemmas.Bool.{le-ltb, ltb-false}
+use Rattle.std.proofs.lemmas.Bool.{le-ltb, ltb-false, not-true}
 use Rattle.std.proofs.lemmas.List.Elements.{All-cons, All-head, All-nil, All-tail, All-weaker}
 use Rattle.js_core.specs.Height.{stmts_height}
 use Rattle.js_core.specs.Tree as tree
@@ -15,10 +15,6 @@ use Rattle.scope_analysis.specs.Form.{has_high_function, has_reserved_name}
 use Rattle.scope_analysis.specs.FormScripts.{IsFormPageScript}
 use Rattle.scope_analysis.specs.Limits.{form_height_limit, plain_height_limit}
 
-not_true : (b : Bool) → not b ≡ true → b ≡ false
-not_true true h = absurd (cc h)
-not_true false h = refl
-
 low_of : (script : tree.Stmts) → KeepsRules Plain script → stmts_height script ≤ plain_height_limit
 low_of script keeps = ltb-false plain_height_limit (stmts_height script) keeps.low
 
@@ -27,7 +23,7 @@ plain_of script keeps = record {
   syntax = keeps.syntax;
   orderly = keeps.orderly;
   low = low_of script keeps;
-  plain = not_true (has_reserved_name script) keeps.formed;
+  plain = not-true (has_reserved_name script) keeps.formed;
 }
 
 form_of : (script : tree.Stmts) → IsSyntax script → IsFormPageScript script → KeepsRules Form script

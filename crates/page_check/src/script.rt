@@ -96,7 +96,7 @@ pub fn page_script(alloc: Global, kind: Kind, text: Units) -> Result<Script, Scr
     Ok(script)
 }
 
-/// The strict script with this text. Its text and its tokens take as much memory as its tree, and go as soon as it is read.
+/// The strict script with this text. Its text and its tokens go as soon as it is read.
 fn strict_script(alloc: Global, text: Units) -> Result<Script, ScriptFault>
     ensures ok { IfOk result (IsStrictScript text) }
     ensures syntax { IfOk result IsSyntax }
