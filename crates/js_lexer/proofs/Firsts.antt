@@ -4,6 +4,7 @@ use Rattle.std.specs.Prelude.{nat_lt}
 use Rattle.std.specs.Int.{is_in_range}
 use Rattle.std.specs.Char.{is_ascii_alphabetic}
 use Rattle.std.proofs.lemmas.Bool.Decides.{nat_tests}
+use Rattle.std.proofs.lemmas.Bool.{or_right}
 use Rattle.unicode_ident.specs.Ident.{is_xid_start, is_xid_continue}
 use Rattle.unicode_ident.proofs.IdentLemmas.{is_xid_start-ascii, is_xid_continue-ascii, is_xid_start-is_xid_continue}
 use Rattle.js_core.specs.declared.token.Punct.{Punct}
@@ -26,10 +27,6 @@ low_line_is_part u e =
     let same : u ≡ 95 = grind (arith, nat_tests) in
     let at : is_xid_continue 95 ≡ true = is_xid_continue-ascii 95 (lit< tt) in
     rw (same, at) refl
-
-pub or_right : (a b : Bool) → b ≡ true → (a || b) ≡ true
-or_right true b e = refl
-or_right false b e = e
 
 part_from_start : (dollar low surrogate start part joiner : Bool) → (low ≡ true → (not surrogate && part) ≡ true) → (start ≡ true → part ≡ true) → (dollar || low || (not surrogate && start)) ≡ true → (dollar || joiner || (not surrogate && part)) ≡ true
 part_from_start true low surrogate start part joiner f g e = refl

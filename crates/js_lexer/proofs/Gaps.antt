@@ -1,5 +1,6 @@
 -- Gaps, taken from the left.
-use Rattle.std.proofs.Common.{◌≡◌, Bool, true, false, ◌||◌, ℕ, List, ◌∙◌, refl, sym, ap, subst, Some, None}
+use Rattle.std.proofs.Common.{◌≡◌, Bool, false, ◌||◌, ℕ, List, ◌∙◌, refl, sym, ap, subst, Some, None}
+use Rattle.std.proofs.Math.Bool.{or-false, or_assoc}
 use Rattle.js_lexer.proofs.Pairs.{some_pair}
 use Rattle.js_lexer.specs.Separators.{separator_of, Gap}
 use Rattle.js_lexer.specs.Separators.Gap.{none, more}
@@ -11,21 +12,13 @@ pub record GoesOn (text rest : List ℕ) (line : Bool) : Type 0 where
 pub gap_begins : (text : List ℕ) → GoesOn text text false
 gap_begins text = record { goes_on = λ behind later gap. gap }
 
-or_assoc : (a b c : Bool) → ((a || b) || c) ≡ (a || (b || c))
-or_assoc true b c = refl
-or_assoc false b c = refl
-
-pub or_false : (a : Bool) → (a || false) ≡ a
-or_false true = refl
-or_false false = refl
-
 pub gap_goes_on : (text rest behind : List ℕ) (line here : Bool) → GoesOn text rest line → separator_of rest ≡ Some (here, behind) → GoesOn text behind (line || here)
 gap_goes_on text rest behind line here before e = record {
   goes_on = λ end later gap. subst (λ b. Gap text end b) (sym (or_assoc line here later)) (before.goes_on end (here || later) (more rest behind end here later e gap));
 }
 
 pub gap_ends : (text rest : List ℕ) (line : Bool) → GoesOn text rest line → separator_of rest ≡ None → Gap text rest line
-gap_ends text rest line before e = subst (λ b. Gap text rest b) (or_false line) (before.goes_on rest false (none rest e))
+gap_ends text rest line before e = subst (λ b. Gap text rest b) (or-false line) (before.goes_on rest false (none rest e))
 
 no_separator : (text rest : List ℕ) (line : Bool) → separator_of text ≡ None → Gap text rest line → (rest ≡ text) × (line ≡ false)
 no_separator text rest line e (none t f) = (refl, refl)

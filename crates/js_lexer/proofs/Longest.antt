@@ -5,20 +5,20 @@ use Rattle.std.specs.Str.{bytes_eq}
 use Rattle.std.specs.List.{find, list_all}
 use Rattle.std.proofs.lemmas.Bool.Decides.{nat_tests}
 use Rattle.std.proofs.lemmas.List.{append_cancel_left}
+use Rattle.std.proofs.lemmas.Bool.{and_parts}
 use Rattle.js_core.specs.declared.token.Punct.{Punct}
 use Rattle.js_core.specs.declared.token.Punct.TheVariants.{Ampersand, AmpersandAssign, Caret, CaretAssign, Colon, Comma, Dot, DoubleAmpersand, DoubleVerticalBar, Equals, ExclamationMark, GreaterThan, GreaterThanOrEqual, LeftBrace, LeftBracket, LeftParenthesis, LessThan, LessThanOrEqual, MinusAssign, MinusMinus, MinusSign, NotEquals, Percent, PercentAssign, PlusAssign, PlusPlus, PlusSign, QuestionMark, RightBrace, RightBracket, RightParenthesis, Semicolon, ShiftLeft, ShiftLeftAssign, ShiftRight, ShiftRightAssign, ShiftRightUnsigned, ShiftRightUnsignedAssign, SimpleAssign, Slash, SlashAssign, Star, StarAssign, StrictEquals, StrictNotEquals, Tilde, VerticalBar, VerticalBarAssign}
 use Rattle.js_core.specs.Spelling.{punct_text}
 use Rattle.js_lexer.specs.Punctuators.{opens_comment, StandsAt}
 use Rattle.js_lexer.specs.Reading.{is_front, punctuators}
-use Rattle.js_lexer.proofs.Runs.{and_left, and_right}
 
 -- a front and what stands behind it
 pub front_splits : (cs us : List ℕ) → is_front cs us ≡ true → us ≡ cs ++ drop (length cs) us
 front_splits [] us e = refl
 front_splits (c ∷ cs) [] e = absurd (cc)
 front_splits (c ∷ cs) (u ∷ us) e =
-    let head : u ≡ c = let t = and_left (u == c) (is_front cs us) e in grind (arith, nat_tests) in
-    let rest = front_splits cs us (and_right (u == c) (is_front cs us) e) in
+    let head : u ≡ c = let t = (and_parts (u == c) (is_front cs us) e).0 in grind (arith, nat_tests) in
+    let rest = front_splits cs us (and_parts (u == c) (is_front cs us) e).1 in
     ap (λ v. v ∷ us) head ∙ ap (λ vs. c ∷ vs) rest
 
 pub front_of : (cs rest : List ℕ) → is_front cs (cs ++ rest) ≡ true
@@ -28,7 +28,7 @@ front_of (c ∷ cs) rest = let same : (c == c) ≡ true = grind (arith, nat_test
 pub front_within : (cs us : List ℕ) → is_front cs us ≡ true → length cs ≤ length us
 front_within [] us e = omega arith
 front_within (c ∷ cs) [] e = absurd (cc)
-front_within (c ∷ cs) (u ∷ us) e = omega (arith, front_within cs us (and_right (u == c) (is_front cs us) e))
+front_within (c ∷ cs) (u ∷ us) e = omega (arith, front_within cs us (and_parts (u == c) (is_front cs us) e).1)
 
 -- each punct_text is at least as long as those behind it
 abbrev falling : List Punct → Bool
@@ -44,12 +44,12 @@ module _ (text : List ℕ) where
 
   shorter : (n : ℕ) (ps : List Punct) → list_all (λ q. nat_le (length (punct_text q)) n) ps ≡ true → NoLonger n ps
   shorter n [] e k d l s = absurd (omega arith)
-  shorter n (p ∷ ps) e zero d l s = let t = and_left (nat_le (length (punct_text p)) n) _ e in grind (arith, nat_tests)
-  shorter n (p ∷ ps) e (suc k) d l s = shorter n ps (and_right (nat_le (length (punct_text p)) n) _ e) k d (omega arith) s
+  shorter n (p ∷ ps) e zero d l s = let t = (and_parts (nat_le (length (punct_text p)) n) _ e).0 in grind (arith, nat_tests)
+  shorter n (p ∷ ps) e (suc k) d l s = shorter n ps (and_parts (nat_le (length (punct_text p)) n) _ e).1 k d (omega arith) s
 
   first_is_longest : (ps : List Punct) (p : Punct) → falling ps ≡ true → find stands ps ≡ Some p → (stands p ≡ true) × NoLonger (length (punct_text p)) ps
   first_is_longest [] p f e = absurd (cc)
-  first_is_longest (q ∷ ps) p f e = by_case (stands q) refl e (first_is_longest ps p (and_right (list_all (λ r. nat_le (length (punct_text r)) (length (punct_text q))) ps) (falling ps) f))
+  first_is_longest (q ∷ ps) p f e = by_case (stands q) refl e (first_is_longest ps p (and_parts (list_all (λ r. nat_le (length (punct_text r)) (length (punct_text q))) ps) (falling ps) f).1)
     where
       by_case : (b : Bool) → stands q ≡ b → cond b (Some q) (find stands ps) ≡ Some p → (find stands ps ≡ Some p → (stands p ≡ true) × NoLonger (length (punct_text p)) ps) → (stands p ≡ true) × NoLonger (length (punct_text p)) (q ∷ ps)
       by_case true s e rest =
@@ -58,7 +58,7 @@ module _ (text : List ℕ) where
         where
           here : NoLonger (length (punct_text q)) (q ∷ ps)
           here zero d l h = omega arith
-          here (suc k) d l h = shorter (length (punct_text q)) ps (and_left (list_all (λ r. nat_le (length (punct_text r)) (length (punct_text q))) ps) (falling ps) f) k d (omega arith) h
+          here (suc k) d l h = shorter (length (punct_text q)) ps (and_parts (list_all (λ r. nat_le (length (punct_text r)) (length (punct_text q))) ps) (falling ps) f).0 k d (omega arith) h
       by_case false s e rest = let r = rest e in (r.0, there r.1)
         where
           there : NoLonger (length (punct_text p)) ps → NoLonger (length (punct_text p)) (q ∷ ps)

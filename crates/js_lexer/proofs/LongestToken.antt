@@ -1,6 +1,7 @@
 -- No longer front of a text is a token than the one that stands there.
 use Rattle.std.proofs.Common.{◌≡◌, ◌∙◌, ℕ, ◌+◌, ◌*◌, ◌≤◌, Bool, true, false, cond, not, ◌&&◌, ◌||◌, ◌==◌, List, [], ◌∷◌, ◌++◌, length, drop, Option, Some, None, refl, sym, ap, subst, length-append, arith}
 use Rattle.std.specs.List.{list_all}
+use Rattle.std.proofs.lemmas.Bool.{and_parts}
 use Rattle.js_core.specs.declared.token.TokenKind.{TokenKind}
 use Rattle.js_core.specs.Characters.{is_line_end}
 use Rattle.js_lexer.specs.Characters.{is_identifier_part, is_decimal_digit, is_hex_digit, begins_with}
@@ -14,7 +15,6 @@ use Rattle.js_lexer.proofs.Firsts.{class_of}
 use Rattle.js_lexer.proofs.Literals.{append_none, closes_once}
 use Rattle.js_lexer.proofs.OneToken.{word_class, word_of, number_class, number_of, literal_parts, number_run, string_class, string_of, punct_class, punct_of, nothing_at_end}
 use Rattle.js_lexer.proofs.Pairs.{some_pair}
-use Rattle.js_lexer.proofs.Runs.{and_left, and_right}
 
 -- Characters of a string, where more text follows
 
@@ -122,12 +122,12 @@ module _ (tail : List ℕ) where
 front_within_run : (class : ℕ → Bool) (cs more units rest : List ℕ) → cs ++ more ≡ units ++ rest → list_all class cs ≡ true → begins_with class rest ≡ false → length cs ≤ length units
 front_within_run class [] more units rest e a x = omega arith
 front_within_run class (c ∷ cs) more [] rest e a x =
-    let yes : class c ≡ true = and_left (class c) (list_all class cs) a in
+    let yes : class c ≡ true = (and_parts (class c) (list_all class cs) a).0 in
     let no_more : begins_with class (c ∷ cs ++ more) ≡ false = ap (begins_with class) e ∙ x in
     absurd (cc)
 front_within_run class (c ∷ cs) more (u ∷ us) rest e a x =
     let tails : cs ++ more ≡ us ++ rest = cc in
-    let less = front_within_run class cs more us rest tails (and_right (class c) (list_all class cs) a) x in
+    let less = front_within_run class cs more us rest tails (and_parts (class c) (list_all class cs) a).1 x in
     omega arith
 
 lengths : (text units rest : List ℕ) → text ≡ units ++ rest → length text ≡ length units + length rest

@@ -5,6 +5,7 @@ use Rattle.std.specs.Char.{is_digit}
 use Rattle.std.specs.List.{prefix_len, list_all}
 use Rattle.std.specs.Str.Parse.{digits_value}
 use Rattle.std.proofs.lemmas.Bool.Decides.{nat_tests}
+use Rattle.std.proofs.lemmas.Bool.{and_parts, or_left, or_right}
 use Rattle.js_core.specs.Whole.{largest}
 use Rattle.js_core.specs.declared.token.Punct.{Punct}
 use Rattle.js_core.specs.declared.token.TokenKind.{TokenKind}
@@ -17,7 +18,7 @@ use Rattle.js_lexer.specs.Reading.{whole_from, is_literal_part}
 use Rattle.js_lexer.specs.Strings.{Closes}
 use Rattle.js_lexer.specs.Tokens.{WordAt, NumberAt, TokenAt}
 use Rattle.js_lexer.specs.Tokens.TokenAt.{word, number, string, punctuator}
-use Rattle.js_lexer.proofs.Firsts.{class_of, class_of_quote, class_of_digit, class_of_start, class_of_other, first_of_both, or_right, is_plain, plain_first, start_is_part, start_of_ascii, punctuator_is_other}
+use Rattle.js_lexer.proofs.Firsts.{class_of, class_of_quote, class_of_digit, class_of_start, class_of_other, first_of_both, is_plain, plain_first, start_is_part, start_of_ascii, punctuator_is_other}
 use Rattle.js_lexer.proofs.Firsts.Class.{Quote, Digit, Start, Other}
 use Rattle.js_lexer.proofs.Literals.{closes_once}
 use Rattle.js_lexer.proofs.Longest.{stands_once}
@@ -55,10 +56,6 @@ all_of p q f (u ∷ us) e = by_case (p u) refl e (all_of p q f us)
 
 digit_is_part : (u : ℕ) → is_digit u 10 ≡ true → is_literal_part u ≡ true
 digit_is_part u e = rw e refl
-
-or_left : (a b : Bool) → a ≡ true → (a || b) ≡ true
-or_left true b e = refl
-or_left false b e = absurd (cc)
 
 hex_is_part : (u : ℕ) → is_digit u 16 ≡ true → is_literal_part u ≡ true
 hex_is_part u e = by_case (is_decimal_digit u) refl
@@ -109,13 +106,9 @@ unfolding value_of
 literal_begins [] value e = absurd (cc)
 literal_begins (u ∷ us) value e = by_case (u == 48) refl e
   where
-    first : (a b : Bool) → (a && b) ≡ true → a ≡ true
-    first true b e = refl
-    first false b e = absurd (cc)
-
     by_case : (b : Bool) → (u == 48) ≡ b → cond b (value_behind_zero us) (value_in 10 (u ∷ us)) ≡ Some value → is_decimal_digit u ≡ true
     by_case true h e = zero_is_digit u h
-    by_case false h e = first (is_decimal_digit u) (list_all (λ v. is_digit v 10) us) (value_in_parts 10 (u ∷ us) value e)
+    by_case false h e = (and_parts (is_decimal_digit u) (list_all (λ v. is_digit v 10) us) (value_in_parts 10 (u ∷ us) value e)).0
 
 refused_parts : (digit point start : Bool) → (digit || point || start) ≡ false → ((digit || start) ≡ false) × (point ≡ false)
 refused_parts false false start e = (e, refl)

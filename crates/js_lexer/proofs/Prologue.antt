@@ -1,12 +1,12 @@
 -- Directive prologues, taken from the left.
 use Rattle.std.proofs.Common.{◌≡◌, ◌∙◌, ℕ, true, false, List, ◌∷◌, length, refl, sym, subst, Some, None, arith}
 use Rattle.std.specs.Prelude.{codes}
+use Rattle.std.proofs.lemmas.Bool.{and_parts}
 use Rattle.js_core.specs.declared.token.Token.{Token}
 use Rattle.js_core.specs.declared.token.TokenKind.{TokenKind}
 use Rattle.js_core.specs.declared.token.TokenKind.TheVariants.{Word, Number, Text, Punct as Punctuator}
 use Rattle.js_lexer.specs.Directives.{is_text, is_text_of, is_use_strict, behind_statement, IsStrict}
 use Rattle.js_lexer.specs.Directives.IsStrict.{here, later}
-use Rattle.js_lexer.proofs.Runs.{and_left}
 
 text_of_is_text : (units : List ℕ) (what : TokenKind) → is_text_of units what ≡ true → is_text what ≡ true
 text_of_is_text units (Word w) e = absurd (cc)
@@ -16,7 +16,7 @@ text_of_is_text units (Punctuator p) e = absurd (cc)
 
 use_strict_is_text : (token : Token) → is_use_strict token ≡ true → is_text token.what ≡ true
 unfolding is_use_strict
-use_strict_is_text token e = text_of_is_text (codes "use strict") token.what (and_left (is_text_of (codes "use strict") token.what) _ e)
+use_strict_is_text token e = text_of_is_text (codes "use strict") token.what (and_parts (is_text_of (codes "use strict") token.what) _ e).0
 
 pub no_text : (all tokens : List Token) (token : Token) → all ≡ token ∷ tokens → is_text token.what ≡ false → IsStrict all → ⊥
 no_text all tokens token a e (here t ts b s f) = let is : t ≡ token = cc in let text = use_strict_is_text token (subst (λ x. is_use_strict x ≡ true) is s) in absurd (cc)

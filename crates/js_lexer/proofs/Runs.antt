@@ -1,15 +1,8 @@
 -- Longest runs of units of a class.
-use Rattle.std.proofs.Common.{◌≡◌, ◌∙◌, ℕ, ◌+◌, Bool, true, false, cond, ◌&&◌, List, [], ◌∷◌, ◌++◌, take, drop, refl, sym, ap, suc, arith}
+use Rattle.std.proofs.Common.{◌≡◌, ◌∙◌, ℕ, ◌+◌, Bool, true, false, cond, List, [], ◌∷◌, ◌++◌, take, drop, refl, sym, ap, suc, arith}
 use Rattle.std.specs.List.{prefix_len, list_all}
+use Rattle.std.proofs.lemmas.Bool.{and_parts}
 use Rattle.js_lexer.specs.Characters.{begins_with}
-
-pub and_left : (a b : Bool) → (a && b) ≡ true → a ≡ true
-and_left true b e = refl
-and_left false b e = absurd (cc)
-
-pub and_right : (a b : Bool) → (a && b) ≡ true → b ≡ true
-and_right true b e = e
-and_right false b e = absurd (cc)
 
 -- units of a class that no more of it follow
 pub record Run (class : ℕ → Bool) (text units rest : List ℕ) : Type 0 where
@@ -60,16 +53,16 @@ module _ (class : ℕ → Bool) where
   pub same_run : (units rest units' rest' : List ℕ) → units ++ rest ≡ units' ++ rest' → list_all class units ≡ true → list_all class units' ≡ true → begins_with class rest ≡ false → begins_with class rest' ≡ false → (units ≡ units') × (rest ≡ rest')
   same_run [] rest [] rest' e a b x y = (refl, e)
   same_run [] rest (v ∷ vs) rest' e a b x y =
-      let yes : class v ≡ true = and_left (class v) (list_all class vs) b in
+      let yes : class v ≡ true = (and_parts (class v) (list_all class vs) b).0 in
       let no_more : begins_with class (v ∷ vs ++ rest') ≡ false = sym (ap (begins_with class) e) ∙ x in
       absurd (cc)
   same_run (u ∷ us) rest [] rest' e a b x y =
-      let yes : class u ≡ true = and_left (class u) (list_all class us) a in
+      let yes : class u ≡ true = (and_parts (class u) (list_all class us) a).0 in
       let no_more : begins_with class (u ∷ us ++ rest) ≡ false = ap (begins_with class) e ∙ y in
       absurd (cc)
   same_run (u ∷ us) rest (v ∷ vs) rest' e a b x y =
       let head : u ≡ v = cc in let tails : us ++ rest ≡ vs ++ rest' = cc in
-      let more = same_run us rest vs rest' tails (and_right (class u) (list_all class us) a) (and_right (class v) (list_all class vs) b) x y in
+      let more = same_run us rest vs rest' tails (and_parts (class u) (list_all class us) a).1 (and_parts (class v) (list_all class vs) b).1 x y in
       (ap (λ w. w ∷ us) head ∙ ap (λ ws. v ∷ ws) more.0, more.1)
 
   pub one_run : (text units rest units' rest' : List ℕ) → Run class text units rest → Run class text units' rest' → (units ≡ units') × (rest ≡ rest')
