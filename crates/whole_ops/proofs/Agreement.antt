@@ -7,13 +7,15 @@ use Rattle.std.specs.Str.Parse.{digits_value}
 use Rattle.std.proofs.lemmas.Bool.Decides.{nat_tests}
 use Rattle.std.proofs.lemmas.List.Folds.{list_all-append}
 use Rattle.std.proofs.lemmas.Str.Parse.{digit_from_value}
+use Rattle.std.proofs.lemmas.Bool.{and_from, and_parts, not-true, not_from_false, or_parts}
+use Rattle.std.proofs.Math.Bool.{and-false, or-true}
 use Rattle.js_core.specs.Characters.{is_white_space, is_line_end}
 use Rattle.whole_ops.specs.Arithmetic.{Outcome, whole_or_outside}
 use Rattle.whole_ops.specs.WhiteSpace.{is_str_white_space, trimmed}
 use Rattle.whole_ops.specs.Numeral.{are_digits, begins_with_digit, behind_digits, is_sign, without_sign, is_exponent, goes_on_as_decimal, is_decimal, behind_hex_prefix, decimal_of, hexadecimal_of, literal_of, to_whole, with_sign}
 use Rattle.whole_ops.specs.Grammar.{AreDigits, IsNumeral, IsSign, no_sign, plus_sign, minus_sign, IsExponent, exponent, IsExponentOrNothing, no_exponent, some_exponent, IsDecimal, infinity, point_behind_digits, point_before_digits, exponent_behind_digits, IsLiteral, integer, decimal, hexadecimal, Writes, blank, literal}
 use Rattle.whole_ops.specs.declared.fault.OpFault.TheVariants.{Outside}
-use Rattle.whole_ops.proofs.Conjunctions.{and-left, and-right, and-both, and-false, or-true, not-true, not-false, all-append, all-weaker}
+use Rattle.whole_ops.proofs.EachUnit.{all-append, all-weaker}
 use Rattle.whole_ops.proofs.Spans.{behind-append}
 use Rattle.whole_ops.proofs.Trims.{is_within, trimmed_all, trimmed_between}
 
@@ -58,7 +60,7 @@ exponent_mark c (inr e) = ap is_plain e
 plain_exponent : (t : List ℕ) → IsExponent t → list_all is_plain t ≡ true
 plain_exponent t (exponent mark sign digits minus m s d e) =
     ap (list_all is_plain) e
-    ∙ and-both (is_plain mark) (list_all is_plain (sign ++ digits)) (exponent_mark mark m)
+    ∙ and_from (is_plain mark) (list_all is_plain (sign ++ digits)) (exponent_mark mark m)
     (all-append is_plain sign digits (plain_sign sign minus s) (plain_digits digits d.1))
 
 plain_rest : (t : List ℕ) → IsExponentOrNothing t → list_all is_plain t ≡ true
@@ -78,11 +80,11 @@ plain_decimal t (exponent_behind_digits whole rest w x e) =
     ap (list_all is_plain) e ∙ all-append is_plain whole rest (plain_digits whole w.1) (plain_exponent rest x)
 
 within_plain : (t : List ℕ) → list_all is_plain t ≡ true → list_all is_within t ≡ true
-within_plain = all-weaker is_plain is_within (λ u h. and-left (is_within u) (not ((u == 120) || (u == 88))) h)
+within_plain = all-weaker is_plain is_within (λ u h. (and_parts (is_within u) (not ((u == 120) || (u == 88))) h).0)
 
 within_hex_digit : (c : ℕ) → is_digit c 16 ≡ true → is_within c ≡ true
 within_hex_digit c h =
-    let r = hex_digit_range c h in not-false (is_str_white_space c) (printed c (omega arith) (omega arith))
+    let r = hex_digit_range c h in not_from_false (is_str_white_space c) (printed c (omega arith) (omega arith))
 
 hex_mark : (c : ℕ) → (c ≡ 120) ⊎ (c ≡ 88) → is_within c ≡ true
 unfolding is_white_space is_line_end
@@ -97,7 +99,7 @@ within_literal t gives (decimal sign unsigned minus s d e g) =
     within_plain t (ap (list_all is_plain) e ∙ all-append is_plain sign unsigned (plain_sign sign minus s) (plain_decimal unsigned d))
 within_literal t gives (hexadecimal mark digits m d e g) =
     ap (list_all is_within) e
-    ∙ and-both (is_within mark) (list_all is_within digits) (hex_mark mark m) (all-weaker (λ c. is_digit c 16) is_within within_hex_digit digits d.1)
+    ∙ and_from (is_within mark) (list_all is_within digits) (hex_mark mark m) (all-weaker (λ c. is_digit c 16) is_within within_hex_digit digits d.1)
 
 -- ---- how literals begin
 
@@ -116,11 +118,11 @@ no_sign_digit c h =
 digits_unsigned : (ds rest : List ℕ) → IsNumeral 10 ds → begins_unsigned (ds ++ rest) ≡ true
 digits_unsigned [] rest h = let some = h.0 in absurd (omega arith)
 digits_unsigned (c ∷ cs) rest h =
-    not-false (is_sign c) (no_sign_digit c (and-left (is_digit c 10) (list_all (λ d. is_digit d 10) cs) h.1))
+    not_from_false (is_sign c) (no_sign_digit c (and_parts (is_digit c 10) (list_all (λ d. is_digit d 10) cs) h.1).0)
 
 digits_begin : (ds rest : List ℕ) → IsNumeral 10 ds → begins_with_digit (ds ++ rest) ≡ true
 digits_begin [] rest h = let some = h.0 in absurd (omega arith)
-digits_begin (c ∷ cs) rest h = and-left (is_digit c 10) (list_all (λ d. is_digit d 10) cs) h.1
+digits_begin (c ∷ cs) rest h = (and_parts (is_digit c 10) (list_all (λ d. is_digit d 10) cs) h.1).0
 
 decimal_unsigned : (t : List ℕ) → IsDecimal t → begins_unsigned t ≡ true
 decimal_unsigned t (infinity e) = ap begins_unsigned e
@@ -131,25 +133,17 @@ decimal_unsigned t (exponent_behind_digits whole rest w x e) = ap begins_unsigne
 no_prefix : (c : ℕ) (cs : List ℕ) → list_all is_plain cs ≡ true → behind_hex_prefix (c ∷ cs) ≡ None
 no_prefix c [] h = refl
 no_prefix c (d ∷ cs) h =
-    let plain = and-left (is_plain d) (list_all is_plain cs) h in
-    let no_mark : ((d == 120) || (d == 88)) ≡ false = not-true ((d == 120) || (d == 88)) (and-right (is_within d) (not ((d == 120) || (d == 88))) plain) in
+    let plain = (and_parts (is_plain d) (list_all is_plain cs) h).0 in
+    let no_mark : ((d == 120) || (d == 88)) ≡ false = not-true ((d == 120) || (d == 88)) (and_parts (is_within d) (not ((d == 120) || (d == 88))) plain).1 in
     rw (no_mark, and-false (c == 48))
-
-or-no-left : (a b : Bool) → (a || b) ≡ false → a ≡ false
-or-no-left true b h = h
-or-no-left false b h = refl
-
-or-no-right : (a b : Bool) → (a || b) ≡ false → b ≡ false
-or-no-right true b h = cc
-or-no-right false b h = h
 
 unsigned_literal : (t : List ℕ) → begins_unsigned t ≡ true → list_all is_plain t ≡ true → literal_of t ≡ decimal_of false t
 unfolding literal_of
 unsigned_literal [] u h = cc
 unsigned_literal (c ∷ cs) u h =
     let sign : ((c == 43) || (c == 45)) ≡ false = not-true (is_sign c) u in
-    let minus : (c == 45) ≡ false = or-no-right (c == 43) (c == 45) sign in
-    rw (no_prefix c cs (and-right (is_plain c) (list_all is_plain cs) h), sign, minus)
+    let minus : (c == 45) ≡ false = (or_parts (c == 43) (c == 45) sign).1 in
+    rw (no_prefix c cs (and_parts (is_plain c) (list_all is_plain cs) h).1, sign, minus)
 
 plus_literal : (t : List ℕ) → literal_of (43 ∷ t) ≡ decimal_of false t
 unfolding literal_of
@@ -198,7 +192,7 @@ without_sign_digits sign ds minus (no_sign e m) h = rw e (unsigned_digits ds h) 
   unsigned_digits : (t : List ℕ) → IsNumeral 10 t → are_digits 10 (without_sign t) ≡ true
   unsigned_digits [] h = let some = h.0 in absurd (omega arith)
   unsigned_digits (c ∷ cs) h =
-      let no : ((c == 43) || (c == 45)) ≡ false = no_sign_digit c (and-left (is_digit c 10) (list_all (λ d. is_digit d 10) cs) h.1) in rw no (h.1)
+      let no : ((c == 43) || (c == 45)) ≡ false = no_sign_digit c (and_parts (is_digit c 10) (list_all (λ d. is_digit d 10) cs) h.1).0 in rw no (h.1)
 without_sign_digits sign ds minus (plus_sign e m) h = rw e (numeral_digits 10 ds h)
 without_sign_digits sign ds minus (minus_sign e m) h = rw e (numeral_digits 10 ds h)
 
@@ -242,7 +236,7 @@ integer_gives ds minus h = rw (numeral_digits 10 ds h)
 
 unsigned_numeral : (ds : List ℕ) → IsNumeral 10 ds → begins_unsigned ds ≡ true
 unsigned_numeral [] h = let some = h.0 in absurd (omega arith)
-unsigned_numeral (c ∷ cs) h = not-false (is_sign c) (no_sign_digit c (and-left (is_digit c 10) (list_all (λ d. is_digit d 10) cs) h.1))
+unsigned_numeral (c ∷ cs) h = not_from_false (is_sign c) (no_sign_digit c (and_parts (is_digit c 10) (list_all (λ d. is_digit d 10) cs) h.1).0)
 
 -- ---- literals and texts
 

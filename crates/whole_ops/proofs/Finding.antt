@@ -5,11 +5,12 @@ use Rattle.std.specs.List.{list_all}
 use Rattle.std.specs.Str.{bytes_eq}
 use Rattle.std.proofs.lemmas.Bool.Decides.{nat_tests}
 use Rattle.std.proofs.lemmas.Slice.Eq.{bytes_eq-Decides}
+use Rattle.std.proofs.lemmas.Bool.{and_parts}
 use Rattle.js_core.specs.Whole.{nan}
 use Rattle.whole_ops.specs.WhiteSpace.{is_str_white_space, trimmed}
 use Rattle.whole_ops.specs.Numeral.{are_digits, begins_with_digit, behind_digits, begins_with_minus, without_sign, is_exponent, goes_on_as_decimal, is_decimal, behind_hex_prefix, decimal_of, hexadecimal_of, literal_behind, literal_of, to_whole}
 use Rattle.whole_ops.specs.Grammar.{IsNumeral, IsSign, no_sign, plus_sign, minus_sign, IsExponent, exponent, IsExponentOrNothing, no_exponent, some_exponent, IsDecimal, infinity, point_behind_digits, point_before_digits, exponent_behind_digits, IsLiteral, integer, decimal, hexadecimal, Writes, blank, literal}
-use Rattle.whole_ops.proofs.Conjunctions.{and-left, and-right, all-append}
+use Rattle.whole_ops.proofs.EachUnit.{all-append}
 use Rattle.whole_ops.proofs.Spans.{taken, taken-behind, taken_pass, taken_yes, taken_no}
 use Rattle.whole_ops.proofs.Trims.{trimmed_parts}
 
@@ -66,8 +67,8 @@ one_of_two c a b h = by_case (c == a) refl (c == b) refl where
 exponent_found : (c : ℕ) (cs : List ℕ) → is_exponent (c ∷ cs) ≡ true → IsExponent (c ∷ cs)
 unfolding is_exponent
 exponent_found c cs h =
-    let mark = and-left ((c == 101) || (c == 69)) (are_digits 10 (without_sign cs)) h in
-    let digits = and-right ((c == 101) || (c == 69)) (are_digits 10 (without_sign cs)) h in
+    let mark = (and_parts ((c == 101) || (c == 69)) (are_digits 10 (without_sign cs)) h).0 in
+    let digits = (and_parts ((c == 101) || (c == 69)) (are_digits 10 (without_sign cs)) h).1 in
     let parts = sign_parts cs in
     exponent c parts.sign (without_sign cs) (begins_with_minus cs) (one_of_two c 101 69 mark) parts.is (numeral_found 10 (without_sign cs) digits) (ap (λ t. c ∷ t) parts.joined)
 
@@ -104,12 +105,12 @@ goes_found t (c ∷ cs) e h n = by_case (c == 46) refl where
   by_case true k =
       let point : c ≡ 46 = grind (arith, nat_tests) in
       let parts = rw k at h in
-      point_found t cs (e ∙ ap (λ d. d ∷ cs) point) (and-left (begins_with_digit t || begins_with_digit cs) (is_exponent (behind_digits cs)) parts)
-      (and-right (begins_with_digit t || begins_with_digit cs) (is_exponent (behind_digits cs)) parts)
+      point_found t cs (e ∙ ap (λ d. d ∷ cs) point) (and_parts (begins_with_digit t || begins_with_digit cs) (is_exponent (behind_digits cs)) parts).0
+      (and_parts (begins_with_digit t || begins_with_digit cs) (is_exponent (behind_digits cs)) parts).1
   by_case false k =
       let parts = rw k at h in
-      exponent_behind_digits (taken is_decimal_digit t) (c ∷ cs) (numeral_begins t (and-left (begins_with_digit t) (is_exponent (c ∷ cs)) parts))
-      (exponent_found c cs (and-right (begins_with_digit t) (is_exponent (c ∷ cs)) parts))
+      exponent_behind_digits (taken is_decimal_digit t) (c ∷ cs) (numeral_begins t (and_parts (begins_with_digit t) (is_exponent (c ∷ cs)) parts).0)
+      (exponent_found c cs (and_parts (begins_with_digit t) (is_exponent (c ∷ cs)) parts).1)
       (taken-behind is_decimal_digit t ∙ ap (λ r. taken is_decimal_digit t ++ r) e)
 
 decimal_found : (t : List ℕ) → is_decimal t ≡ true → are_digits 10 t ≡ false → IsDecimal t
@@ -132,11 +133,11 @@ hex_parts (c ∷ []) digits e = cc
 hex_parts (c ∷ d ∷ cs) digits e = by_case ((c == 48) && ((d == 120) || (d == 88))) refl where
   by_case : (b : Bool) → ((c == 48) && ((d == 120) || (d == 88))) ≡ b → HexParts (c ∷ d ∷ cs) digits
   by_case true k =
-      let zero : (c == 48) ≡ true = and-left (c == 48) ((d == 120) || (d == 88)) k in
+      let zero : (c == 48) ≡ true = (and_parts (c == 48) ((d == 120) || (d == 88)) k).0 in
       let is_zero : c ≡ 48 = grind (arith, nat_tests) in
       let same = rw k at e in
       let rest : cs ≡ digits = cc in
-      record { mark = d; is = one_of_two d 120 88 (and-right (c == 48) ((d == 120) || (d == 88)) k); joined = rw (is_zero, rest) }
+      record { mark = d; is = one_of_two d 120 88 (and_parts (c == 48) ((d == 120) || (d == 88)) k).1; joined = rw (is_zero, rest) }
   by_case false k = let none = rw k at e in cc
 
 hexadecimal_found : (t digits : List ℕ) → HexParts t digits → (hexadecimal_of digits ≡ Ok nan) ⊎ IsLiteral t (hexadecimal_of digits)

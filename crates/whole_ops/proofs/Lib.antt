@@ -1,5 +1,5 @@
 pub mod Agreement
-pub mod Conjunctions
+pub mod EachUnit
 pub mod Finding
 pub mod NumeralDigits
 pub mod Powers

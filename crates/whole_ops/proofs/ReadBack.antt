@@ -8,6 +8,7 @@ use Rattle.std.specs.Str.Parse.{digits_value}
 use Rattle.std.proofs.lemmas.Bool.Decides.{nat_tests}
 use Rattle.std.proofs.lemmas.Fmt.{digits_decimal, digits_value-decimal, decimal_nonempty}
 use Rattle.std.proofs.lemmas.Str.Parse.{IsDigitsTest, IsNumeralModel, numerals_by_value}
+use Rattle.std.proofs.lemmas.Bool.{and_from, and_parts}
 use Rattle.js_core.specs.Characters.{is_white_space, is_line_end}
 use Rattle.js_core.specs.Whole.{largest}
 use Rattle.whole_ops.specs.Arithmetic.{Outcome, whole_or_outside}
@@ -15,7 +16,6 @@ use Rattle.whole_ops.specs.WhiteSpace.{trimmed}
 use Rattle.whole_ops.specs.Numeral.{is_exponent, goes_on_as_decimal, is_decimal, decimal_of, literal_of, to_whole, text_of_whole}
 use Rattle.whole_ops.specs.Grammar.{AreDigits, IsNumeral, no_sign, minus_sign, integer, literal}
 use Rattle.whole_ops.proofs.Agreement.{digit_range, agrees}
-use Rattle.whole_ops.proofs.Conjunctions.{and-left, and-right, and-both}
 
 is_digit_in_range : (c : ℕ) → 48 ≤ c → c ≤ 57 → is_digit c 10 ≡ true
 is_digit_in_range c l h = grind (arith, nat_tests)
@@ -23,8 +23,8 @@ is_digit_in_range c l h = grind (arith, nat_tests)
 tells : IsDigitsTest (AreDigits 10)
 tells = record {
   empty = refl;
-  parts = λ c cs h. (digit_range c (and-left (is_digit c 10) (list_all (λ d. is_digit d 10) cs) h), and-right (is_digit c 10) (list_all (λ d. is_digit d 10) cs) h);
-  more = λ c cs r h. and-both (is_digit c 10) (list_all (λ d. is_digit d 10) cs) (is_digit_in_range c r.0 r.1) h;
+  parts = λ c cs h. (digit_range c (and_parts (is_digit c 10) (list_all (λ d. is_digit d 10) cs) h).0, (and_parts (is_digit c 10) (list_all (λ d. is_digit d 10) cs) h).1);
+  more = λ c cs r h. and_from (is_digit c 10) (list_all (λ d. is_digit d 10) cs) (is_digit_in_range c r.0 r.1) h;
 }
 
 own : IsNumeralModel (AreDigits 10) (digits_value 10)

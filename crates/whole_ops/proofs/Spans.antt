@@ -2,8 +2,8 @@
 use Rattle.std.proofs.Common.{◌≡◌, ℕ, suc, ◌+◌, Bool, true, false, not, List, [], ◌∷◌, ◌++◌, take, refl, sym, ap, ◌∙◌, arith}
 use Rattle.std.specs.List.{list_all, prefix_len}
 use Rattle.std.proofs.lemmas.List.{take-append-drop}
+use Rattle.std.proofs.lemmas.Bool.{and_from, and_parts, not-true}
 use Rattle.whole_ops.specs.WhiteSpace.{behind}
-use Rattle.whole_ops.proofs.Conjunctions.{and-left, and-right, and-both, not-true}
 
 abbrev pub taken : (ℕ → Bool) → List ℕ → List ℕ
 taken p t = take (prefix_len p t) t
@@ -30,18 +30,18 @@ pub taken_pass : (p : ℕ → Bool) (t : List ℕ) → list_all p (taken p t) �
 taken_pass p [] = refl
 taken_pass p (u ∷ us) = by_case (p u) refl (taken_pass p us) where
   by_case : (b : Bool) → p u ≡ b → list_all p (taken p us) ≡ true → list_all p (taken p (u ∷ us)) ≡ true
-  by_case true e rest = ap (list_all p) (taken_yes p u us e) ∙ and-both (p u) (list_all p (taken p us)) e rest
+  by_case true e rest = ap (list_all p) (taken_yes p u us e) ∙ and_from (p u) (list_all p (taken p us)) e rest
   by_case false e rest = ap (list_all p) (taken_no p u us e)
 
 pub behind-append : (p : ℕ → Bool) (s t : List ℕ) → list_all p s ≡ true → behind p (s ++ t) ≡ behind p t
 behind-append p [] t h = refl
 behind-append p (u ∷ us) t h =
-    behind_yes p u (us ++ t) (and-left (p u) (list_all p us) h) ∙ behind-append p us t (and-right (p u) (list_all p us) h)
+    behind_yes p u (us ++ t) (and_parts (p u) (list_all p us) h).0 ∙ behind-append p us t (and_parts (p u) (list_all p us) h).1
 
 pub behind_all : (p : ℕ → Bool) (t : List ℕ) → list_all p t ≡ true → behind p t ≡ []
 behind_all p [] h = refl
-behind_all p (u ∷ us) h = behind_yes p u us (and-left (p u) (list_all p us) h) ∙ behind_all p us (and-right (p u) (list_all p us) h)
+behind_all p (u ∷ us) h = behind_yes p u us (and_parts (p u) (list_all p us) h).0 ∙ behind_all p us (and_parts (p u) (list_all p us) h).1
 
 pub behind_apart : (p : ℕ → Bool) (t : List ℕ) → list_all (λ u. not (p u)) t ≡ true → behind p t ≡ t
 behind_apart p [] h = refl
-behind_apart p (u ∷ us) h = behind_no p u us (not-true (p u) (and-left (not (p u)) (list_all (λ v. not (p v)) us) h))
+behind_apart p (u ∷ us) h = behind_no p u us (not-true (p u) (and_parts (not (p u)) (list_all (λ v. not (p v)) us) h).0)

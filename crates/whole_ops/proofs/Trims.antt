@@ -2,9 +2,10 @@
 use Rattle.std.proofs.Common.{◌≡◌, ℕ, ◌-◌, ◌≤◌, Bool, true, not, List, [], ◌∷◌, ◌++◌, length, take, drop, reverse, sym, ap, ◌∙◌, arith, length-drop, append_assoc}
 use Rattle.std.specs.List.{list_all}
 use Rattle.std.proofs.lemmas.List.{take-append-drop, reverse-append, reverse-reverse, length-reverse, drop_at}
+use Rattle.std.proofs.lemmas.Bool.{and_parts, not-true}
 use Rattle.whole_ops.specs.Grammar.{AreWhiteSpace}
 use Rattle.whole_ops.specs.WhiteSpace.{is_str_white_space, behind, trimmed}
-use Rattle.whole_ops.proofs.Conjunctions.{and-left, all-reverse, not-true}
+use Rattle.whole_ops.proofs.EachUnit.{all-reverse}
 use Rattle.whole_ops.proofs.Spans.{taken, taken-behind, taken_pass, behind_no, behind-append, behind_all, behind_apart}
 
 -- the text without its last units
@@ -24,7 +25,7 @@ trimmed_behind [] after h space = rw (behind_all is_str_white_space after space)
 trimmed_behind (u ∷ us) after h space =
     let within = u ∷ us in
     let from_first : behind is_str_white_space (within ++ after) ≡ within ++ after =
-    behind_no is_str_white_space u (us ++ after) (not-true (is_str_white_space u) (and-left (is_within u) (list_all is_within us) h)) in
+    behind_no is_str_white_space u (us ++ after) (not-true (is_str_white_space u) (and_parts (is_within u) (list_all is_within us) h).0) in
     let from_last : behind is_str_white_space (reverse (within ++ after)) ≡ reverse within =
     ap (behind is_str_white_space) (reverse-append within after)
     ∙ behind-append is_str_white_space (reverse after) (reverse within) (all-reverse is_str_white_space after space)
