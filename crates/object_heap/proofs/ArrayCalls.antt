@@ -1,6 +1,6 @@
 -- Each call on an array leaves an array.
 use Rattle.std.proofs.Common.{◌≡◌, refl, sym, ap, subst, ◌∙◌, ℕ, ◌+◌, ◌≤◌, Bool, true, false, ◌&&◌, ◌||◌, not, List, Option, Some, None, unwrap_or, pos, nat_lt, nat_le, bytes_eq, arith}
-use Rattle.std.proofs.lemmas.Bool.{leb-true, lt-ltb, ltb-false, ltb-true}
+use Rattle.std.proofs.lemmas.Bool.{and_parts, leb-true, lt-ltb, ltb-false, ltb-true}
 use Rattle.std.proofs.lemmas.Slice.Eq.{bytes_eq-Decides}
 use Rattle.js_values.specs.declared.throw.Throw.{Throw}
 use Rattle.js_values.specs.declared.throw.Throw.TheVariants.{CannotDefine, CannotSet}
@@ -16,7 +16,6 @@ use Rattle.object_heap.specs.Index.{index_end, index_of}
 use Rattle.object_heap.specs.Property.{Props, may_update, own_property, updated, without_property}
 use Rattle.object_heap.proofs.Arrays.{array_if, above_more, end_kept_small, index_is_not_length, index_is_small, updated_length, with_new_length, with_number, within_elements, within_ordinary, within_removed, Within}
 use Rattle.object_heap.proofs.Kept.{define_keeps, define_own_keeps, delete_own_keeps, prevented_keeps, put_own_keeps}
-use Rattle.object_heap.proofs.Lists.{right_of}
 
 within : (props : Props) (a : IsArray props) → Within (number_in a.length.value) a.length props
 within props a = record { there = a.there; above = a.above }
@@ -116,7 +115,7 @@ shrunk_array t o change end a small is =
         let kept = end_kept end o.props in
         let whole : p.value ≡ number (number_in p.value) = subst (λ v. v ≡ number (number_in v)) (sym is) refl in
         let low : number_in p.value ≤ index_end = subst (λ v. number_in v ≤ index_end) (sym is) small in
-        let h = updated_length a.length change a.is_length (right_of a.length.writable (may_update a.length change) may) whole low in
+        let h = updated_length a.length change a.is_length (and_parts a.length.writable (may_update a.length change) may).1 whole low in
         with_new_length kept a.length (with_value p (number kept)) (elements_below kept o.props)
         (within_elements (number_in a.length.value) kept a.length o.props (within o.props a)) (with_number p kept h (end_kept_small end o.props small)) (omega arith)
 

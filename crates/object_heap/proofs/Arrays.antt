@@ -1,6 +1,6 @@
 -- Arrays stay arrays.
 use Rattle.std.proofs.Common.{◌≡◌, refl, sym, ap, ◌∙◌, ℕ, ◌<◌, ◌≤◌, Bool, true, false, ◌&&◌, not, List, [], ◌∷◌, ◌++◌, Option, Some, None, unwrap_or, nat_lt, bytes_eq, if◌then◌else◌, arith}
-use Rattle.std.proofs.lemmas.Bool.{lt-ltb, ltb-true}
+use Rattle.std.proofs.lemmas.Bool.{and_parts, lt-ltb, ltb-true, not-true}
 use Rattle.std.proofs.lemmas.Slice.Eq.{bytes_eq-Decides}
 use Rattle.std.specs.List.{list_all}
 use Rattle.js_values.specs.declared.throw.Throw.{Throw}
@@ -12,7 +12,7 @@ use Rattle.object_heap.specs.Attempt.{Attempt}
 use Rattle.object_heap.specs.Define.{define_ordinary, defined_over, elements_below, end_kept, end_with, is_below, length_name, number, number_in, with_value}
 use Rattle.object_heap.specs.Index.{index_end, index_of, is_decimal, number_of}
 use Rattle.object_heap.specs.Property.{Props, asks, keeps, may_update, own_property, updated, with_property, without_property}
-use Rattle.object_heap.proofs.Lists.{all_filter, all_last, all_remove, all_set, all_weaker, apart, left_of, lookup_before, lookup_filter, lookup_remove_other, lookup_set, lookup_set_other, right_of}
+use Rattle.object_heap.proofs.Lists.{all_filter, all_last, all_remove, all_set, all_weaker, apart, lookup_before, lookup_filter, lookup_remove_other, lookup_set, lookup_set_other}
 
 pub array_if : (b : Bool) (x y : Attempt Object) → (b ≡ true → IsArray x.after.props) → (b ≡ false → IsArray y.after.props) → IsArray (if b then x else y).after.props
 array_if true x y f g = f refl
@@ -37,7 +37,7 @@ index_is_small name i h = by_case (is_decimal name && nat_lt (number_of name) in
     by_case : (b : Bool) → (is_decimal name && nat_lt (number_of name) index_end) ≡ b → i < index_end
     by_case true p =
         let same : number_of name ≡ i = cc (rw p at h) in
-        let less : number_of name < index_end = ltb-true _ _ (right_of (is_decimal name) _ p) in
+        let less : number_of name < index_end = ltb-true _ _ (and_parts (is_decimal name) _ p).1 in
         omega (arith, same, less)
     by_case false p = cc (rw p at h)
 
@@ -97,20 +97,16 @@ keeps_same (Some true) false h = cc
 keeps_same (Some false) true h = cc
 keeps_same (Some false) false h = refl
 
-pub not_true : (b : Bool) → not b ≡ true → b ≡ false
-not_true true h = cc
-not_true false h = refl
-
 -- what may be changed of a length: its value, and whether it is writable
 pub updated_length : (l : Prop) (change : Change) → IsLength l → may_update l change ≡ true → (updated l change).value ≡ number (number_in (updated l change).value) → number_in (updated l change).value ≤ index_end → IsLength (updated l change)
 updated_length l change h may is small =
     let asked = rw h.configurable at may in
-    let flags = left_of (not (asks change.configurable) && keeps change.enumerable l.enumerable) _ asked in
+    let flags = (and_parts (not (asks change.configurable) && keeps change.enumerable l.enumerable) _ asked).0 in
     record {
       number = is;
       small = small;
-      enumerable = keeps_same change.enumerable l.enumerable (right_of (not (asks change.configurable)) (keeps change.enumerable l.enumerable) flags) ∙ h.enumerable;
-      configurable = ap (unwrap_or change.configurable) h.configurable ∙ not_true (asks change.configurable) (left_of (not (asks change.configurable)) (keeps change.enumerable l.enumerable) flags);
+      enumerable = keeps_same change.enumerable l.enumerable (and_parts (not (asks change.configurable)) (keeps change.enumerable l.enumerable) flags).1 ∙ h.enumerable;
+      configurable = ap (unwrap_or change.configurable) h.configurable ∙ not-true (asks change.configurable) (and_parts (not (asks change.configurable)) (keeps change.enumerable l.enumerable) flags).0;
     }
 
 end_with_small : (end : ℕ) (index : Option ℕ) (configurable : Bool) → end ≤ index_end → ((i : ℕ) → index ≡ Some i → i < index_end) → end_with end index configurable ≤ index_end

@@ -1,8 +1,8 @@
 -- What other crates cite of the heap's proofs.
-use Rattle.std.proofs.Common.{◌≡◌, refl, sym, ap, ◌∙◌, ℕ, ◌+◌, ◌<◌, ◌≤◌, Bool, true, false, ◌||◌, ◌&&◌, is_some, List, [], ◌∷◌, ◌++◌, Option, Some, None, length, slice_set, nat_lt, bytes_eq, arith, if◌then◌else◌}
+use Rattle.std.proofs.Common.{◌≡◌, refl, sym, ap, ◌∙◌, ℕ, ◌+◌, ◌<◌, ◌≤◌, Bool, true, false, ◌||◌, ◌&&◌, is_some, List, [], ◌∷◌, ◌++◌, Option, Some, None, length, slice_set, nat_lt, bytes_eq, arith}
 use Rattle.std.proofs.Math.ListN.{get_or-append}
 use Rattle.std.proofs.Math.Seq.{get_or-append_seam}
-use Rattle.std.proofs.lemmas.Bool.{lt-ltb}
+use Rattle.std.proofs.lemmas.Bool.{cond-false, cond-true, lt-ltb}
 use Rattle.std.proofs.lemmas.List.{get_or-set_same, get_or-set_other}
 use Rattle.std.specs.Option.{ForSome}
 use Rattle.js_core.specs.GlobalNames.{names_global}
@@ -234,33 +234,25 @@ property_removed_other props name other far = lists.lookup_remove_other (bytes_e
 
 -- ---- a new property as an equation
 
-taken : {A : Type 0} (b : Bool) (x y : A) → b ≡ true → (if b then x else y) ≡ x
-taken true x y e = refl
-taken false x y e = cc e
-
-left : {A : Type 0} (b : Bool) (x y : A) → b ≡ false → (if b then x else y) ≡ y
-left true x y e = cc e
-left false x y e = refl
-
 -- nothing of an object that is neither closed nor the global one is closed
 pub open_at : (o : Object) (name : List ℕ) → o.closed ≡ false → is_window o.class ≡ false → is_closed_at o name ≡ false
 open_at o name closed window = rw closed (rw window refl)
 
 pub ordinary_new : (o : Object) (name : List ℕ) (change : Change) → own_property o.props name ≡ None → o.extensible ≡ true → define_ordinary CannotDefine o name change ≡ done (with_props o (o.props ++ (name, created change) ∷ []))
-ordinary_new o name change fresh extensible = ap (defined_over CannotDefine o name change) fresh ∙ taken o.extensible _ _ extensible
+ordinary_new o name change fresh extensible = ap (defined_over CannotDefine o name change) fresh ∙ cond-true o.extensible _ _ extensible
 
 pub define_new : (o : Object) (name : List ℕ) (change : Change) → is_closed_at o name ≡ false → is_list o.class ≡ false → own_property o.props name ≡ None → o.extensible ≡ true
     → object.define_own o name change ≡ done (with_props o (o.props ++ (name, created change) ∷ []))
 define_new o name change open_place ordinary fresh extensible =
-    left (is_closed_at o name) _ _ open_place ∙ left (is_list o.class) _ _ ordinary ∙ ordinary_new o name change fresh extensible
+    cond-false (is_closed_at o name) _ _ open_place ∙ cond-false (is_list o.class) _ _ ordinary ∙ ordinary_new o name change fresh extensible
 
 -- an element past an array's end makes it longer
 pub define_new_element : (o : Object) (name : List ℕ) (i : ℕ) (change : Change) → is_closed_at o name ≡ false → is_list o.class ≡ true → bytes_eq name length_name ≡ false → index_of name ≡ Some i
     → nat_lt i (array_length o) ≡ false → has_writable_length o ≡ true → own_property o.props name ≡ None → o.extensible ≡ true
     → object.define_own o name change ≡ done (with_length (with_props o (o.props ++ (name, created change) ∷ [])) (i + 1))
 define_new_element o name i change open_place array far index past writable fresh extensible =
-    left (is_closed_at o name) _ _ open_place ∙ taken (is_list o.class) _ _ array ∙ left (bytes_eq name length_name) _ _ far
-    ∙ ap (object.define_indexed CannotDefine o name change) index ∙ left (nat_lt i (array_length o)) _ _ past ∙ taken (has_writable_length o) _ _ writable
+    cond-false (is_closed_at o name) _ _ open_place ∙ cond-true (is_list o.class) _ _ array ∙ cond-false (bytes_eq name length_name) _ _ far
+    ∙ ap (object.define_indexed CannotDefine o name change) index ∙ cond-false (nat_lt i (array_length o)) _ _ past ∙ cond-true (has_writable_length o) _ _ writable
     ∙ ap (grown (i + 1)) (ordinary_new o name change fresh extensible)
 
 -- the same on a heap

@@ -1,6 +1,6 @@
 -- The standard's count leaves what the definition of a shrink says.
 use Rattle.std.proofs.Common.{◌≡◌, ◌⊎◌, inl, inr, refl, sym, ap, subst, ◌∙◌, ℕ, zero, suc, ◌+◌, ◌<◌, ◌≤◌, Bool, true, false, filter, List, [], ◌∷◌, Option, Some, None, max, bytes_eq, arith}
-use Rattle.std.proofs.lemmas.Bool.{cases_eq, le-ltb, lt-ltb, ltb-true}
+use Rattle.std.proofs.lemmas.Bool.{and_from, and_parts, cases_eq, le-ltb, lt-ltb, ltb-true}
 use Rattle.std.proofs.lemmas.Cmp.{nat_list_eq_equiv}
 use Rattle.std.proofs.lemmas.Map.{lookup-remove_entry}
 use Rattle.std.proofs.lemmas.Slice.Eq.{bytes_eq-Decides}
@@ -14,7 +14,7 @@ use Rattle.object_heap.specs.Index.{index_end, index_of}
 use Rattle.object_heap.specs.Property.{HasDistinctNames, Props, own_property, without_property}
 use Rattle.object_heap.proofs.Distinct.{distinct_removed}
 use Rattle.object_heap.proofs.Decimals.{indices_are_decimal}
-use Rattle.object_heap.proofs.Lists.{all_remove, both, left_of, right_of, same_key}
+use Rattle.object_heap.proofs.Lists.{all_remove, same_key}
 
 -- all elements are below n
 abbrev AllBelow : ℕ → Props → Type 0
@@ -22,7 +22,7 @@ AllBelow n props = list_all (λ e. is_below n (index_of e.0)) props ≡ true
 
 pub filter_whole : (p : List ℕ × Prop → Bool) (props : Props) → list_all p props ≡ true → filter p props ≡ props
 filter_whole p [] h = refl
-filter_whole p (e ∷ es) h = rw (left_of (p e) (list_all p es) h) (ap (λ r. e ∷ r) (filter_whole p es (right_of (p e) (list_all p es) h)))
+filter_whole p (e ∷ es) h = rw (and_parts (p e) (list_all p es) h).0 (ap (λ r. e ∷ r) (filter_whole p es (and_parts (p e) (list_all p es) h).1))
 
 end_with_within : (m end : ℕ) (index : Option ℕ) (c : Bool) → end ≤ m → is_below m index ≡ true → end_with end index c ≤ m
 end_with_within m end None c h below = h
@@ -33,8 +33,8 @@ end_with_within m end (Some i) false h below = omega (arith, h, ltb-true i m bel
 pub kept_within : (m end : ℕ) (props : Props) → end ≤ m → AllBelow m props → end_kept end props ≤ m
 kept_within m end [] h all = h
 kept_within m end (e ∷ es) h all =
-    let first = left_of (is_below m (index_of e.0)) (list_all (λ x. is_below m (index_of x.0)) es) all in
-    let rest = right_of (is_below m (index_of e.0)) (list_all (λ x. is_below m (index_of x.0)) es) all in
+    let first = (and_parts (is_below m (index_of e.0)) (list_all (λ x. is_below m (index_of x.0)) es) all).0 in
+    let rest = (and_parts (is_below m (index_of e.0)) (list_all (λ x. is_below m (index_of x.0)) es) all).1 in
     kept_within m (end_with end (index_of e.0) e.1.configurable) es (end_with_within m end (index_of e.0) e.1.configurable h first) rest
 
 end_with_from : (end : ℕ) (index : Option ℕ) (c : Bool) → end ≤ end_with end index c
@@ -103,13 +103,13 @@ lower i name (Some j) small e other below = by (cases_eq j i)
 -- where there is no element at i, all that are below i + 1 are below i
 pub all_lower : (i : ℕ) (props : Props) → i < index_end → lookup (bytes_eq (decimal i)) props ≡ None → AllBelow (i + 1) props → AllBelow i props
 all_lower i [] small none all = refl
-all_lower i (e ∷ es) small none all = by_case (bytes_eq (decimal i) e.0) refl (λ g. all_lower i es small g (right_of (is_below (i + 1) (index_of e.0)) (list_all (λ x. is_below (i + 1) (index_of x.0)) es) all))
+all_lower i (e ∷ es) small none all = by_case (bytes_eq (decimal i) e.0) refl (λ g. all_lower i es small g (and_parts (is_below (i + 1) (index_of e.0)) (list_all (λ x. is_below (i + 1) (index_of x.0)) es) all).1)
   where
     by_case : (b : Bool) → bytes_eq (decimal i) e.0 ≡ b → (lookup (bytes_eq (decimal i)) es ≡ None → AllBelow i es) → AllBelow i (e ∷ es)
     by_case true h more = cc (rw h at none)
     by_case false h more =
-        both (is_below i (index_of e.0)) (list_all (λ x. is_below i (index_of x.0)) es)
-        (lower i e.0 (index_of e.0) small refl h (left_of (is_below (i + 1) (index_of e.0)) (list_all (λ x. is_below (i + 1) (index_of x.0)) es) all))
+        and_from (is_below i (index_of e.0)) (list_all (λ x. is_below i (index_of x.0)) es)
+        (lower i e.0 (index_of e.0) small refl h (and_parts (is_below (i + 1) (index_of e.0)) (list_all (λ x. is_below (i + 1) (index_of x.0)) es) all).0)
         (more (rw h at none))
 
 same_name : (name x y : List ℕ) → bytes_eq name x ≡ true → bytes_eq name y ≡ bytes_eq x y

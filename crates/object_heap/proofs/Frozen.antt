@@ -1,6 +1,6 @@
 -- A frozen object never changes.
 use Rattle.std.proofs.Common.{◌≡◌, refl, sym, ap, ◌∙◌, ℕ, ℤ, Bool, true, false, ◌&&◌, ◌||◌, not, List, Option, Some, None, unwrap_or, nat_lt, nat_le, bytes_eq, if◌then◌else◌}
-use Rattle.std.proofs.lemmas.Bool.{eqb-true}
+use Rattle.std.proofs.lemmas.Bool.{and_parts, eqb-true, not-true}
 use Rattle.std.proofs.lemmas.Bool.Decides.{Decides-int_eq}
 use Rattle.std.proofs.lemmas.Map.Steps.{set_value_same}
 use Rattle.std.proofs.lemmas.Slice.Eq.{bytes_eq-Decides}
@@ -18,8 +18,7 @@ use Rattle.object_heap.specs.Define.{array_length, define, define_indexed, defin
 use Rattle.object_heap.specs.Index.{index_of}
 use Rattle.object_heap.specs.Laws.{IsFrozen}
 use Rattle.object_heap.specs.Property.{asks, keeps, keeps_value, may_update, own_property, same_value, updated, with_property}
-use Rattle.object_heap.proofs.Arrays.{keeps_same, not_true}
-use Rattle.object_heap.proofs.Lists.{left_of, right_of}
+use Rattle.object_heap.proofs.Arrays.{keeps_same}
 
 same_number : (a b : Option ℤ) → option_eq int_eq a b ≡ true → a ≡ b
 same_number None None h = refl
@@ -31,7 +30,7 @@ same_value_same : (v w : Value) → same_value v w ≡ true → v ≡ w
 same_value_same Undefined Undefined h = refl
 same_value_same Null Null h = refl
 same_value_same (Truth true) (Truth b) h = ap Truth (sym h)
-same_value_same (Truth false) (Truth b) h = ap Truth (sym (not_true b h))
+same_value_same (Truth false) (Truth b) h = ap Truth (sym (not-true b h))
 same_value_same (Num a) (Num b) h = ap Num (same_number a b h)
 same_value_same (Text a) (Text b) h = ap Text ((bytes_eq-Decides a b).0 h)
 same_value_same (At a) (At b) h = ap (λ n. At (record { 0 = n })) (eqb-true a.0 b.0 h)
@@ -45,15 +44,15 @@ keeps_value_same (Some v) old h = same_value_same v old h
 updated_same : (p : Prop) (change : Change) → p.configurable ≡ false → p.writable ≡ false → may_update p change ≡ true → updated p change ≡ p
 updated_same p change fixed locked may =
     let asked = rw (fixed, locked) at may in
-    let flags = left_of (not (asks change.configurable) && keeps change.enumerable p.enumerable) (not (asks change.writable) && keeps_value change.value p.value) asked in
-    let rest = right_of (not (asks change.configurable) && keeps change.enumerable p.enumerable) (not (asks change.writable) && keeps_value change.value p.value) asked in
-    let value = keeps_value_same change.value p.value (right_of (not (asks change.writable)) (keeps_value change.value p.value) rest) in
+    let flags = (and_parts (not (asks change.configurable) && keeps change.enumerable p.enumerable) (not (asks change.writable) && keeps_value change.value p.value) asked).0 in
+    let rest = (and_parts (not (asks change.configurable) && keeps change.enumerable p.enumerable) (not (asks change.writable) && keeps_value change.value p.value) asked).1 in
+    let value = keeps_value_same change.value p.value (and_parts (not (asks change.writable)) (keeps_value change.value p.value) rest).1 in
     let writable : unwrap_or change.writable p.writable ≡ p.writable =
-    ap (unwrap_or change.writable) locked ∙ not_true (asks change.writable) (left_of (not (asks change.writable)) (keeps_value change.value p.value) rest) ∙ sym locked
+    ap (unwrap_or change.writable) locked ∙ not-true (asks change.writable) (and_parts (not (asks change.writable)) (keeps_value change.value p.value) rest).0 ∙ sym locked
     in
-    let enumerable = keeps_same change.enumerable p.enumerable (right_of (not (asks change.configurable)) (keeps change.enumerable p.enumerable) flags) in
+    let enumerable = keeps_same change.enumerable p.enumerable (and_parts (not (asks change.configurable)) (keeps change.enumerable p.enumerable) flags).1 in
     let configurable : unwrap_or change.configurable p.configurable ≡ p.configurable =
-    ap (unwrap_or change.configurable) fixed ∙ not_true (asks change.configurable) (left_of (not (asks change.configurable)) (keeps change.enumerable p.enumerable) flags) ∙ sym fixed
+    ap (unwrap_or change.configurable) fixed ∙ not-true (asks change.configurable) (and_parts (not (asks change.configurable)) (keeps change.enumerable p.enumerable) flags).0 ∙ sym fixed
     in
     (λ j. record { value = value j; writable = writable j; enumerable = enumerable j; configurable = configurable j })
 

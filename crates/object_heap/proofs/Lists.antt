@@ -1,21 +1,9 @@
 -- Lists of keys with values, where one entry or some are changed.
-use Rattle.std.proofs.Common.{◌≡◌, refl, sym, ap, ◌∙◌, ℕ, Bool, true, false, cond, ◌&&◌, filter, List, [], ◌∷◌, ◌++◌, Some, None, bytes_eq}
+use Rattle.std.proofs.Common.{◌≡◌, refl, sym, ap, ◌∙◌, ℕ, Bool, true, false, cond, filter, List, [], ◌∷◌, ◌++◌, Some, None, bytes_eq}
 use Rattle.std.proofs.lemmas.Slice.Eq.{bytes_eq-Decides}
 use Rattle.std.specs.List.{list_all}
 use Rattle.std.specs.Map.{lookup, set_value, remove_entry}
-
-pub both : (a b : Bool) → a ≡ true → b ≡ true → a && b ≡ true
-both true true p q = refl
-both true false p q = q
-both false b p q = p
-
-pub left_of : (a b : Bool) → a && b ≡ true → a ≡ true
-left_of true b h = refl
-left_of false b h = h
-
-pub right_of : (a b : Bool) → a && b ≡ true → b ≡ true
-right_of true b h = h
-right_of false b h = cc
+use Rattle.std.proofs.lemmas.Bool.{and_from, and_parts}
 
 -- a key that is not this one is another
 pub apart : (q name : List ℕ) → bytes_eq q name ≡ false → (k : List ℕ) → bytes_eq name k ≡ true → bytes_eq q k ≡ false
@@ -72,24 +60,24 @@ module _ {K X : Type 0} where
 
   pub all_set : (f b : K → Bool) (es : List (K × X)) (w : X) → list_all (λ e. f e.0) es ≡ true → list_all (λ e. f e.0) (set_value b es w) ≡ true
   all_set f b [] w h = refl
-  all_set f b (e ∷ es) w h = by_case (b e.0) refl (all_set f b es w (right_of (f e.0) (list_all (λ x. f x.0) es) h))
+  all_set f b (e ∷ es) w h = by_case (b e.0) refl (all_set f b es w (and_parts (f e.0) (list_all (λ x. f x.0) es) h).1)
     where
       by_case : (c : Bool) → b e.0 ≡ c → list_all (λ x. f x.0) (set_value b es w) ≡ true → list_all (λ x. f x.0) (set_value b (e ∷ es) w) ≡ true
       by_case true p more = rw p h
-      by_case false p more = rw p (both (f e.0) _ (left_of (f e.0) (list_all (λ x. f x.0) es) h) more)
+      by_case false p more = rw p (and_from (f e.0) _ (and_parts (f e.0) (list_all (λ x. f x.0) es) h).0 more)
 
   pub all_remove : (f b : K → Bool) (es : List (K × X)) → list_all (λ e. f e.0) es ≡ true → list_all (λ e. f e.0) (remove_entry b es) ≡ true
   all_remove f b [] h = refl
-  all_remove f b (e ∷ es) h = by_case (b e.0) refl (all_remove f b es (right_of (f e.0) (list_all (λ x. f x.0) es) h))
+  all_remove f b (e ∷ es) h = by_case (b e.0) refl (all_remove f b es (and_parts (f e.0) (list_all (λ x. f x.0) es) h).1)
     where
       by_case : (c : Bool) → b e.0 ≡ c → list_all (λ x. f x.0) (remove_entry b es) ≡ true → list_all (λ x. f x.0) (remove_entry b (e ∷ es)) ≡ true
-      by_case true p more = rw p (right_of (f e.0) (list_all (λ x. f x.0) es) h)
-      by_case false p more = rw p (both (f e.0) _ (left_of (f e.0) (list_all (λ x. f x.0) es) h) more)
+      by_case true p more = rw p (and_parts (f e.0) (list_all (λ x. f x.0) es) h).1
+      by_case false p more = rw p (and_from (f e.0) _ (and_parts (f e.0) (list_all (λ x. f x.0) es) h).0 more)
 
 module _ {X : Type 0} where
   pub all_last : (p : X → Bool) (xs : List X) (x : X) → list_all p xs ≡ true → p x ≡ true → list_all p (xs ++ x ∷ []) ≡ true
-  all_last p [] x h g = both _ _ g refl
-  all_last p (y ∷ ys) x h g = both (p y) _ (left_of (p y) (list_all p ys) h) (all_last p ys x (right_of (p y) (list_all p ys) h) g)
+  all_last p [] x h g = and_from _ _ g refl
+  all_last p (y ∷ ys) x h g = and_from (p y) _ (and_parts (p y) (list_all p ys) h).0 (all_last p ys x (and_parts (p y) (list_all p ys) h).1 g)
 
   pub all_filter : (p : X → Bool) (xs : List X) → list_all p (filter p xs) ≡ true
   all_filter p [] = refl
@@ -101,4 +89,4 @@ module _ {X : Type 0} where
 
   pub all_weaker : (p q : X → Bool) (xs : List X) → ((x : X) → p x ≡ true → q x ≡ true) → list_all p xs ≡ true → list_all q xs ≡ true
   all_weaker p q [] f h = refl
-  all_weaker p q (x ∷ xs) f h = both (q x) _ (f x (left_of (p x) (list_all p xs) h)) (all_weaker p q xs f (right_of (p x) (list_all p xs) h))
+  all_weaker p q (x ∷ xs) f h = and_from (q x) _ (f x (and_parts (p x) (list_all p xs) h).0) (all_weaker p q xs f (and_parts (p x) (list_all p xs) h).1)

@@ -1,7 +1,7 @@
 -- What any steps keep.
 use Rattle.std.proofs.Common.{◌≡◌, ◌⊎◌, inl, inr, refl, sym, ap, subst, ◌∙◌, ℕ, ◌<◌, ◌≤◌, Bool, true, false, IsTrue, List, [], ◌∷◌, ◌++◌, Option, Some, None, length, length-append, length-set, slice_set, bytes_eq, arith}
 use Rattle.std.proofs.Math.ListN.{get_or-append}
-use Rattle.std.proofs.lemmas.Bool.{cases_eq, ltb-true}
+use Rattle.std.proofs.lemmas.Bool.{and_parts, cases_eq, ltb-true}
 use Rattle.std.proofs.lemmas.List.{get_or-set_other, get_or-set_same, set-get_or}
 use Rattle.std.proofs.lemmas.Slice.Eq.{bytes_eq-Decides}
 use Rattle.std.specs.List.{list_all}
@@ -23,7 +23,6 @@ use Rattle.object_heap.specs.Object.{changed_event, is_event, is_list, no_object
 use Rattle.object_heap.specs.Property.{own_property}
 use Rattle.object_heap.proofs.Frozen.{frozen_define_own, frozen_delete_own, frozen_prevented, frozen_put_own}
 use Rattle.object_heap.proofs.Kept.{Keeps, define_own_keeps, delete_own_keeps, prevented_keeps, put_own_keeps}
-use Rattle.object_heap.proofs.Lists.{left_of, right_of}
 use Rattle.object_heap.proofs.Sound.{added_stays, closed_stays, define_own_stays, delete_own_stays, event_right, prevented_stays, put_own_stays, right_at, sound_at, sound_made, sound_opened, sound_set, stays_right}
 
 sound_step : (h : Contents) (s : Step) → IsSound h → IsSound (after_step h s)
@@ -47,10 +46,10 @@ stays_sound h (s ∷ ss) sound = stays_sound (after_step h s) ss (sound_step h s
 -- what holds of all names holds of one that is there
 holds_at : (f : List ℕ → Bool) (es : List (List ℕ × Prop)) (name : List ℕ) → list_all (λ e. f e.0) es ≡ true → IsSome (lookup (bytes_eq name) es) → f name ≡ true
 holds_at f [] name all there = cc there
-holds_at f (e ∷ es) name all there = by_case (bytes_eq name e.0) refl (holds_at f es name (right_of (f e.0) (list_all (λ x. f x.0) es) all))
+holds_at f (e ∷ es) name all there = by_case (bytes_eq name e.0) refl (holds_at f es name (and_parts (f e.0) (list_all (λ x. f x.0) es) all).1)
   where
     by_case : (b : Bool) → bytes_eq name e.0 ≡ b → (IsSome (lookup (bytes_eq name) es) → f name ≡ true) → f name ≡ true
-    by_case true p more = ap f ((bytes_eq-Decides name e.0).0 p) ∙ left_of (f e.0) (list_all (λ x. f x.0) es) all
+    by_case true p more = ap f ((bytes_eq-Decides name e.0).0 p) ∙ (and_parts (f e.0) (list_all (λ x. f x.0) es) all).0
     by_case false p more = more (rw p at there)
 
 below_length : (o : Object) (name : List ℕ) (i : ℕ) → IsArray o.props → index_of name ≡ Some i → IsSome (own_property o.props name) → i < array_length o
@@ -217,6 +216,6 @@ frozen_step h (binds i name v) k there tried f = refl
 pub frozen_stays : FrozenStays
 frozen_stays h [] k there tried f = refl
 frozen_stays h (s ∷ ss) k there tried f =
-    let same = frozen_step h s k there (left_of (is_tried s) (list_all is_tried ss) tried) f in
-    frozen_stays (after_step h s) ss k (omega (arith, (grows_step h s).objects, there)) (right_of (is_tried s) (list_all is_tried ss) tried) (subst IsFrozen (sym same) f)
+    let same = frozen_step h s k there (and_parts (is_tried s) (list_all is_tried ss) tried).0 f in
+    frozen_stays (after_step h s) ss k (omega (arith, (grows_step h s).objects, there)) (and_parts (is_tried s) (list_all is_tried ss) tried).1 (subst IsFrozen (sym same) f)
     ∙ same
