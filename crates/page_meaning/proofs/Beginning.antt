@@ -3,6 +3,7 @@ use Rattle.std.specs.Prelude.{◌≡◌, refl, ℕ, Bool, true, false, not, ◌&
 use Rattle.std.specs.List.{AllByRecursion, IsDistinct}
 use Rattle.std.specs.Map.{keys_of}
 use Rattle.std.proofs.Common.{subst, arith}
+use Rattle.std.proofs.lemmas.Bool.{and_parts, not-true}
 use Rattle.js_values.specs.declared.built_in.BuiltIn.{BuiltIn}
 use Rattle.js_values.specs.declared.built_in.BuiltIn.TheVariants as built_in
 use Rattle.js_values.specs.declared.ids.ObjId.{ObjId}
@@ -29,26 +30,14 @@ abbrev do_differ : List (List ℕ) → Bool
 do_differ [] = true
 do_differ (x ∷ xs) = is_apart x xs && do_differ xs
 
-left_of : (a b : Bool) → (a && b) ≡ true → a ≡ true
-left_of true b h = refl
-left_of false b h = h
-
-right_of : (a b : Bool) → (a && b) ≡ true → b ≡ true
-right_of true b h = h
-right_of false b h = cc h
-
-is_false : (b : Bool) → not b ≡ true → b ≡ false
-is_false true h = cc h
-is_false false h = refl
-
 apart : (x : List ℕ) (ys : List (List ℕ)) → is_apart x ys ≡ true → AllByRecursion (λ y. bytes_eq x y ≡ false) ys
 apart x [] h = tt
-apart x (y ∷ ys) h = (is_false (bytes_eq x y) (left_of (not (bytes_eq x y)) (is_apart x ys) h), apart x ys (right_of (not (bytes_eq x y)) (is_apart x ys) h))
+apart x (y ∷ ys) h = (not-true (bytes_eq x y) (and_parts (not (bytes_eq x y)) (is_apart x ys) h).0, apart x ys (and_parts (not (bytes_eq x y)) (is_apart x ys) h).1)
 
 distinct : (xs : List (List ℕ)) → do_differ xs ≡ true → IsDistinct bytes_eq xs
 unfolding IsDistinct
 distinct [] h = tt
-distinct (x ∷ xs) h = (apart x xs (left_of (is_apart x xs) (do_differ xs) h), distinct xs (right_of (is_apart x xs) (do_differ xs) h))
+distinct (x ∷ xs) h = (apart x xs (and_parts (is_apart x xs) (do_differ xs) h).0, distinct xs (and_parts (is_apart x xs) (do_differ xs) h).1)
 
 -- an object that is no array, whose names differ
 ordinary : (class : Class) (proto : Option ObjId) (props : Props) → is_list class ≡ false → do_differ (keys_of props) ≡ true → IsFit (whole_object class proto props)
