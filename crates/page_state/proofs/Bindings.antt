@@ -4,6 +4,7 @@ use Rattle.std.proofs.lemmas.List.{take_more}
 use Rattle.std.proofs.lemmas.Slice.Eq.{bytes_eq-Decides}
 use Rattle.std.specs.List.{list_any}
 use Rattle.std.proofs.lemmas.List.Folds.{list_any-append}
+use Rattle.std.proofs.Math.Bool.{or-false}
 use Rattle.indexmap.specs.IndexSet.{insert_key}
 use Rattle.js_core.specs.Tree as tree
 use Rattle.js_values.specs.declared.value.Value.{Value}
@@ -32,17 +33,13 @@ same_name x = (bytes_eq-Decides x x).1 refl
 pub any_inserted : (ks : List (List ℕ)) (x y : List ℕ) → list_any (bytes_eq y) (insert_key bytes_eq ks x) ≡ (list_any (bytes_eq y) ks || bytes_eq y x)
 any_inserted ks x y = by_case (list_any (bytes_eq x) ks) refl
   where
-    or_false : (b : Bool) → b || false ≡ b
-    or_false true = refl
-    or_false false = refl
-
     stays : (b : Bool) → bytes_eq y x ≡ b → list_any (bytes_eq x) ks ≡ true → list_any (bytes_eq y) ks ≡ (list_any (bytes_eq y) ks || b)
     stays true e there = rw ((bytes_eq-Decides y x).0 e, there) refl
-    stays false e there = sym (or_false (list_any (bytes_eq y) ks))
+    stays false e there = sym (or-false (list_any (bytes_eq y) ks))
 
     by_case : (b : Bool) → list_any (bytes_eq x) ks ≡ b → list_any (bytes_eq y) (insert_key bytes_eq ks x) ≡ (list_any (bytes_eq y) ks || bytes_eq y x)
     by_case true p = rw p (stays (bytes_eq y x) refl p)
-    by_case false p = rw p (list_any-append (bytes_eq y) ks (x ∷ []) ∙ ap (λ b. list_any (bytes_eq y) ks || b) (or_false (bytes_eq y x)))
+    by_case false p = rw p (list_any-append (bytes_eq y) ks (x ∷ []) ∙ ap (λ b. list_any (bytes_eq y) ks || b) (or-false (bytes_eq y x)))
 
 -- a name that is bound last
 bound_last : (b : Bound) (x y : List ℕ) (v : Value) → is_some (value_of (b ++ (x, v) ∷ []) y) ≡ (is_some (value_of b y) || bytes_eq y x)

@@ -1,8 +1,9 @@
 -- Tables of functions, of which one row after another is used.
-use Rattle.std.proofs.Common.{◌≡◌, refl, sym, ap, subst, ◌∙◌, ℕ, suc, ◌+◌, ◌<◌, Bool, true, false, not, ◌&&◌, List, [], ◌∷◌, ◌++◌, length, drop, get_or, add-one, Option, Some, None, is_some, append_assoc, bytes_eq, if◌then◌else◌}
+use Rattle.std.proofs.Common.{◌≡◌, refl, sym, ap, subst, ◌∙◌, ℕ, suc, ◌+◌, ◌<◌, Bool, true, false, not, ◌&&◌, List, [], ◌∷◌, ◌++◌, length, drop, get_or, add-one, Option, Some, None, is_some, append_assoc, bytes_eq}
 use Rattle.std.proofs.Math.Seq.{drop-cons}
 use Rattle.std.proofs.lemmas.List.{get_or-map, length-map, length-set, set-get_or, set-set}
 use Rattle.std.specs.Borrow.{Bor}
+use Rattle.std.proofs.lemmas.Bool.{and_parts, cond-false, cond-true, not-true}
 use Rattle.js_values.specs.declared.built_in.BuiltIn.{BuiltIn}
 use Rattle.js_values.specs.declared.ids.ObjId.{ObjId}
 use Rattle.js_values.specs.declared.throw.Throw.TheVariants.{CannotDefine}
@@ -29,10 +30,6 @@ Row = Bor (List ℕ) × BuiltIn × ℕ
 rows_next : (ms : List Row) (i : ℕ) (d : Row) → i < length ms → rows (drop i ms) ≡ ((get_or ms i d).0.now, (get_or ms i d).1, (get_or ms i d).2) ∷ rows (drop (i + 1) ms)
 rows_next ms i d there = rw add-one (ap rows (drop-cons ms i d there))
 
-right_true : (a b : Bool) → (a && b) ≡ true → b ≡ true
-right_true true b h = h
-right_true false b h = cc h
-
 is_absent : {A : Type 0} (o : Option A) → not (is_some o) ≡ true → o ≡ None
 is_absent None h = refl
 is_absent (Some a) h = cc h
@@ -47,18 +44,6 @@ are_all true true true false e f h = cc h
 are_all true true true true false f h = cc h
 are_all true true true true true false h = cc h
 
-is_not : (b : Bool) → not b ≡ true → b ≡ false
-is_not true h = cc h
-is_not false h = refl
-
-first : {A : Type 0} (b : Bool) (x y : A) → b ≡ true → (if b then x else y) ≡ x
-first true x y e = refl
-first false x y e = cc e
-
-second : {A : Type 0} (b : Bool) (x y : A) → b ≡ false → (if b then x else y) ≡ y
-second true x y e = cc e
-second false x y e = refl
-
 -- an array is not the global object
 no_window : (o : Object) → is_list o.class ≡ true → is_window o.class ≡ false
 no_window o h = by_class o.class h
@@ -72,7 +57,7 @@ method_defined : (o : Object) (x : List ℕ) (which : BuiltIn) → takes o x ≡
 method_defined o x which h =
     let all = are_all (is_list o.class) o.extensible (not o.closed) (not (bytes_eq x length_name)) (not (is_some (index_of x))) (not (is_some (own_property o.props x))) h in
     let change = hidden_change (value.Object (function_at which)) in
-    second (is_closed_at o x) _ _ (open_at o x (is_not o.closed all.2) (no_window o all.0)) ∙ first (is_list o.class) _ _ all.0 ∙ second (bytes_eq x length_name) _ _ (is_not (bytes_eq x length_name) all.3)
+    cond-false (is_closed_at o x) _ _ (open_at o x (not-true o.closed all.2) (no_window o all.0)) ∙ cond-true (is_list o.class) _ _ all.0 ∙ cond-false (bytes_eq x length_name) _ _ (not-true (bytes_eq x length_name) all.3)
     ∙ ap (object.define_indexed CannotDefine o x change) (is_absent (index_of x) all.4) ∙ ordinary_new o x change (is_absent (own_property o.props x) all.5) all.1
 
 pub method_defined_at : (h : Contents) (at : ObjId) (x : List ℕ) (which : BuiltIn) → takes (object_at h.objects at.0) x ≡ true
@@ -99,7 +84,7 @@ giving_on h0 h h' at all ms i d there given g =
     let now : object_at h'.objects at.0 ≡ p = ap (λ (c : Contents). object_at c.objects at.0) given ∙ object_set_same h.objects at.0 p g.there in
     record {
       there = subst (λ (c : Contents). at.0 < length c.objects) (sym given) (subst (λ n. at.0 < n) (sym (length-set h.objects at.0 p)) g.there);
-      takes = ap (λ x. takes_all x rest) now ∙ right_true (takes o m.0.now) (takes_all p rest) (sym (ap (takes_all o) (rows_next ms i d there)) ∙ g.takes);
+      takes = ap (λ x. takes_all x rest) now ∙ (and_parts (takes o m.0.now) (takes_all p rest) (sym (ap (takes_all o) (rows_next ms i d there)) ∙ g.takes)).1;
       whole =
           ap (λ x. with_object h' at.0 (with_methods x rest)) now ∙ ap (λ c. with_object c at.0 (with_methods p rest)) given
           ∙ ap (with_objects h) (set-set h.objects at.0 p (with_methods p rest)) ∙ ap (methods_given h at) (sym (rows_next ms i d there)) ∙ g.whole;

@@ -7,6 +7,7 @@ use Rattle.std.specs.Fmt.{decimal}
 use Rattle.std.specs.List.{list_any}
 use Rattle.std.specs.Map.{keys_of}
 use Rattle.std.specs.Option.{ForSome}
+use Rattle.std.proofs.Math.Bool.{or_assoc}
 use Rattle.indexmap.specs.IndexSet.{insert_key}
 use Rattle.js_values.specs.declared.ids.ObjId.{ObjId}
 use Rattle.object_heap.specs.declared.property.Prop.{Prop}
@@ -52,10 +53,6 @@ own_next at seen props k keys x names names' all own there is pushed h =
     by_case true e f = rw (e, append_assoc, add-one) (ap (λ r. names ++ r) (sym f) ∙ h)
     by_case false e f = rw (e, add-one) (ap (λ r. names ++ r) (sym f) ∙ h)
 
-or_moved : (a b c : Bool) → ((a || b) || c) ≡ (a || (b || c))
-or_moved true b c = refl
-or_moved false b c = refl
-
 -- one more of these names was seen
 pub any_next : (x : List ℕ) (ks ks' first keys : List (List ℕ)) (i : ℕ) (k key : List ℕ) → list_any (bytes_eq x) ks ≡ (list_any (bytes_eq x) first || list_any (bytes_eq x) (take i keys))
     → i < length keys → key ≡ get_or keys i key → k ≡ key → ks' ≡ insert_key bytes_eq ks k
@@ -64,7 +61,7 @@ any_next x ks ks' first keys i k key before there is same put =
     let more : list_any (bytes_eq x) (take (i + 1) keys) ≡ (list_any (bytes_eq x) (take i keys) || bytes_eq x key) =
     list_any_more (bytes_eq x) keys i key there ∙ ap (λ q. list_any (bytes_eq x) (take i keys) || bytes_eq x q) (sym is) in
     ap (list_any (bytes_eq x)) put ∙ any_inserted ks k x ∙ ap (λ q. list_any (bytes_eq x) ks || bytes_eq x q) same ∙ ap (λ b. b || bytes_eq x key) before
-    ∙ or_moved (list_any (bytes_eq x) first) (list_any (bytes_eq x) (take i keys)) (bytes_eq x key) ∙ ap (λ b. list_any (bytes_eq x) first || b) (sym more)
+    ∙ or_assoc (list_any (bytes_eq x) first) (list_any (bytes_eq x) (take i keys)) (bytes_eq x key) ∙ ap (λ b. list_any (bytes_eq x) first || b) (sym more)
 
 -- the names of these were seen
 pub named : (names : Listed) (k : ℕ) (p : Option ObjId × List ℕ) → p ≡ get_or names k p → p.1 ≡ get_or (map (λ q. q.1) names) k p.1
