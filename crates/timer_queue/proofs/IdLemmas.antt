@@ -1,6 +1,7 @@
 -- The ids of live timers.
 use Rattle.std.proofs.Common.{◌≡◌, ◌≢◌, ℕ, zero, suc, ◌+◌, ◌<◌, ◌≤◌, ◌==◌, ◌||◌, Bool, true, false, nat_le, if◌then◌else◌, List, [], ◌∷◌, ◌++◌, length, Option, Some, None, refl, sym, ap, ◌∙◌, arith}
 use Rattle.std.proofs.lemmas.Bool.Decides.{nat_tests}
+use Rattle.std.proofs.lemmas.Bool.{or_parts}
 use Rattle.timer_queue.specs.Laws.{HasDistinctIds, IsLeastFree, KeepsDistinctIds}
 use Rattle.timer_queue.specs.Timers.{after_first, after_taking, again, cleared, due_timers, first, free_from, is_live, least_free}
 use Rattle.timer_queue.specs.declared.timer.Live.{Live}
@@ -19,11 +20,6 @@ is_other id k h = grind (arith, nat_tests)
 
 pub swapped : (id k : ℕ) → (id == k) ≡ false → (k == id) ≡ false
 swapped id k h = is_other k id (λ e. other_id id k h (sym e))
-
-pub neither : (a b : Bool) → (a || b) ≡ false → (a ≡ false) × (b ≡ false)
-neither false false e = (refl, refl)
-neither false true e = absurd (cc)
-neither true b e = absurd (cc)
 
 -- ---- the least free one
 
@@ -134,12 +130,12 @@ one_least ts i j a b =
 pub distinct_end : (ts : List Live) (u : Live) → HasDistinctIds ts → is_live ts u.id ≡ false → HasDistinctIds (ts ++ u ∷ [])
 distinct_end [] u d free = (refl, tt)
 distinct_end (t ∷ ts) u d free =
-    let parts = neither (t.id == u.id) (is_live ts u.id) free in
+    let parts = or_parts (t.id == u.id) (is_live ts u.id) free in
     (still_free ts t.id d.0 (swapped t.id u.id parts.0), distinct_end ts u d.1 parts.1)
   where
     still_free : (us : List Live) (id : ℕ) → is_live us id ≡ false → (u.id == id) ≡ false → is_live (us ++ u ∷ []) id ≡ false
     still_free [] id none apart = rw apart refl
-    still_free (v ∷ vs) id none apart = let parts = neither (v.id == id) (is_live vs id) none in rw (parts.0, still_free vs id parts.1 apart) refl
+    still_free (v ∷ vs) id none apart = let parts = or_parts (v.id == id) (is_live vs id) none in rw (parts.0, still_free vs id parts.1 apart) refl
 
 -- the timers without one
 kept : (t : Live) (ts : List Live) (id : ℕ) → (t.id == id) ≡ false → cleared (t ∷ ts) id ≡ t ∷ cleared ts id
@@ -158,7 +154,7 @@ cleared_frees (t ∷ ts) id = by_case (t.id == id) refl (cleared_frees ts id)
 
 pub cleared_stays_free : (ts : List Live) (k id : ℕ) → is_live ts id ≡ false → is_live (cleared ts k) id ≡ false
 cleared_stays_free [] k id free = refl
-cleared_stays_free (t ∷ ts) k id free = by_case (t.id == k) refl (neither (t.id == id) (is_live ts id) free) (cleared_stays_free ts k id)
+cleared_stays_free (t ∷ ts) k id free = by_case (t.id == k) refl (or_parts (t.id == id) (is_live ts id) free) (cleared_stays_free ts k id)
   where
     by_case : (b : Bool) → (t.id == k) ≡ b → ((t.id == id) ≡ false) × (is_live ts id ≡ false) → (is_live ts id ≡ false → is_live (cleared ts k) id ≡ false) → is_live (cleared (t ∷ ts) k) id ≡ false
     by_case true e parts later = ap (λ l. is_live l id) (dropped t ts k e) ∙ later parts.1

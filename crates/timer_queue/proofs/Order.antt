@@ -1,16 +1,12 @@
 -- The order of due timers.
-use Rattle.std.proofs.Common.{◌≡◌, ℕ, ◌<◌, ◌≤◌, ◌==◌, ◌&&◌, Bool, true, false, nat_le, if◌then◌else◌, List, [], ◌∷◌, filter, refl, sym, ap, ◌∙◌, arith}
+use Rattle.std.proofs.Common.{◌≡◌, ℕ, ◌<◌, ◌≤◌, ◌==◌, Bool, true, false, nat_le, if◌then◌else◌, List, [], ◌∷◌, filter, refl, sym, ap, ◌∙◌, arith}
 use Rattle.std.specs.List.{list_all}
+use Rattle.std.proofs.lemmas.Bool.{and_parts}
 use Rattle.timer_queue.proofs.Earliest.{is_high, is_low, low_test}
 use Rattle.timer_queue.proofs.IdLemmas.{is_other, same_id}
 use Rattle.timer_queue.specs.Laws.{AreInOrder, NeverFall, due_at}
 use Rattle.timer_queue.specs.Timers.{before_later, in_order, is_due}
 use Rattle.timer_queue.specs.declared.timer.Live.{Live}
-
-pub both_true : (a b : Bool) → (a && b) ≡ true → (a ≡ true) × (b ≡ true)
-both_true true true e = (refl, refl)
-both_true true false e = absurd (cc)
-both_true false b e = absurd (cc)
 
 -- each is due at n or later
 abbrev pub all_from : ℕ → List Live → Bool
@@ -19,13 +15,13 @@ all_from n ts = list_all (λ u. nat_le n u.due) ts
 lower : (m n : ℕ) (ts : List Live) → m ≤ n → all_from n ts ≡ true → all_from m ts ≡ true
 lower m n [] below all = refl
 lower m n (t ∷ ts) below all =
-    let parts = both_true (nat_le n t.due) (all_from n ts) all in
+    let parts = and_parts (nat_le n t.due) (all_from n ts) all in
     let low = is_low n t.due parts.0 in
     rw (low_test m t.due (omega arith), lower m n ts below parts.1) refl
 
 all_before : (n : ℕ) (t : Live) (us : List Live) → n ≤ t.due → all_from n us ≡ true → all_from n (before_later t us) ≡ true
 all_before n t [] low all = rw (low_test n t.due low) refl
-all_before n t (u ∷ us) low all = by_case (nat_le t.due u.due) (both_true (nat_le n u.due) (all_from n us) all) (all_before n t us low)
+all_before n t (u ∷ us) low all = by_case (nat_le t.due u.due) (and_parts (nat_le n u.due) (all_from n us) all) (all_before n t us low)
   where
     by_case : (b : Bool) → (nat_le n u.due ≡ true) × (all_from n us ≡ true) → (all_from n us ≡ true → all_from n (before_later t us) ≡ true) → all_from n (if b then t ∷ u ∷ us else u ∷ before_later t us) ≡ true
     by_case true parts later = rw (low_test n t.due low, parts.0, parts.1) refl

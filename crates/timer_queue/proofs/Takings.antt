@@ -1,8 +1,9 @@
 -- The takings up to a moment, timer by timer.
 use Rattle.std.proofs.Common.{◌≡◌, ◌⊎◌, inl, inr, ℕ, zero, suc, ◌+◌, ◌<◌, ◌≤◌, ◌==◌, ◌||◌, not, Bool, true, false, if◌then◌else◌, List, [], ◌∷◌, ◌++◌, length, Option, Some, None, filter, find, refl, sym, ap, subst, ◌∙◌, arith}
 use Rattle.std.specs.List.{list_all}
+use Rattle.std.proofs.lemmas.Bool.{or_parts}
 use Rattle.timer_queue.proofs.Earliest.{IsIn, IsTaken, is_taken, low_test, none_due}
-use Rattle.timer_queue.proofs.IdLemmas.{cleared_frees, cleared_stays_free, distinct_taken, is_same, neither, no_more, same_id}
+use Rattle.timer_queue.proofs.IdLemmas.{cleared_frees, cleared_stays_free, distinct_taken, is_same, no_more, same_id}
 use Rattle.timer_queue.proofs.Order.{all_from}
 use Rattle.timer_queue.specs.Laws.{HasDistinctIds, NeverFall, TakesTheFirings, fires_then, firings, taken_then, takings}
 use Rattle.timer_queue.specs.Timers.{after_taking, again, cleared, due_timers, first, has_id, is_due, is_live}
@@ -96,7 +97,7 @@ free_after ts t id free apart = by_period t.period
   where
     at_end : (us : List Live) (v : Live) → is_live us id ≡ false → (v.id == id) ≡ false → is_live (us ++ v ∷ []) id ≡ false
     at_end [] v none other = rw other refl
-    at_end (u ∷ us) v none other = let parts = neither (u.id == id) (is_live us id) none in rw (parts.0, at_end us v parts.1 other) refl
+    at_end (u ∷ us) v none other = let parts = or_parts (u.id == id) (is_live us id) none in rw (parts.0, at_end us v parts.1 other) refl
 
     by_period : (p : Option ℕ) → is_live (cleared ts t.id ++ again t p) id ≡ false
     by_period None = rw (no_more (cleared ts t.id)) (cleared_stays_free ts t.id id free)
@@ -142,7 +143,7 @@ in_is_found (u ∷ ts) t d (inr there) = by_case (u.id == t.id) refl (in_is_foun
 
 free_not_found : (ts : List Live) (id : ℕ) → is_live ts id ≡ false → find (has_id id) ts ≡ None
 free_not_found [] id free = refl
-free_not_found (t ∷ ts) id free = let parts = neither (t.id == id) (is_live ts id) free in rw (parts.0, free_not_found ts id parts.1) refl
+free_not_found (t ∷ ts) id free = let parts = or_parts (t.id == id) (is_live ts id) free in rw (parts.0, free_not_found ts id parts.1) refl
 
 found_in_cleared : (ts : List Live) (k id : ℕ) → (k == id) ≡ false → find (has_id id) (cleared ts k) ≡ find (has_id id) ts
 found_in_cleared [] k id apart = refl
