@@ -1,12 +1,13 @@
 -- Chains of links, where a node is put in or taken out.
 use Rattle.std.proofs.Common.{◌≡◌, ◌⊎◌, inl, inr, refl, sym, ap, subst, ◌∙◌, ℕ, zero, suc, ◌≤◌, Bool, true, false, cond, ◌||◌, not, nat_eq, List, [], ◌∷◌, Option, Some, None, length, arith}
-use Rattle.std.proofs.lemmas.Bool.{eqb-true, eqb-false, or_parts}
+use Rattle.std.proofs.lemmas.Bool.{eqb-true, eqb-false, or_parts, both_ways}
+use Rattle.std.proofs.Math.Bool.{or-true}
 use Rattle.js_values.specs.declared.ids.NodeId.{NodeId}
 use Rattle.dom_tree.specs.Change.{put_before, without}
 use Rattle.dom_tree.specs.Fits.{in_or_end}
 use Rattle.dom_tree.specs.Links.{Chain, followed}
 use Rattle.dom_tree.specs.Node.{has, is_distinct, is_this, first_of, last_from, one_before, rest_after}
-use Rattle.dom_tree.proofs.Lists.{eq_refl, eq_sym, has_head, has_tail, head_fresh, not_both, or_true, same_id, tail_distinct}
+use Rattle.dom_tree.proofs.Lists.{eq_refl, eq_sym, has_head, has_tail, head_fresh, same_id, tail_distinct}
 
 abbrev pub Link : Type 0
 Link = Option NodeId → Option NodeId
@@ -33,12 +34,12 @@ back_is F B u None (c ∷ l) h e = by (back_is F B (Some c) None l h.2 refl)
   where
     by : (B None ≡ Some c) ⊎ ((d : NodeId) × (B None ≡ Some d) × (has d.0 l ≡ true)) → (B None ≡ u) ⊎ ((d : NodeId) × (B None ≡ Some d) × (has d.0 (c ∷ l) ≡ true))
     by (inl e) = inr (c, e, rw (eq_refl c.0) refl)
-    by (inr (d, e, i)) = inr (d, e, rw i (or_true (nat_eq d.0 c.0)))
+    by (inr (d, e, i)) = inr (d, e, rw i (or-true (nat_eq d.0 c.0)))
 back_is F B u (Some r) (c ∷ l) h e = at (nat_eq r.0 c.0) refl e (λ g. back_is F B (Some c) (Some r) l h.2 g)
   where
     by : (B (Some r) ≡ Some c) ⊎ ((d : NodeId) × (B (Some r) ≡ Some d) × (has d.0 l ≡ true)) → (B (Some r) ≡ u) ⊎ ((d : NodeId) × (B (Some r) ≡ Some d) × (has d.0 (c ∷ l) ≡ true))
     by (inl f) = inr (c, f, rw (eq_refl c.0) refl)
-    by (inr (d, f, i)) = inr (d, f, rw i (or_true (nat_eq d.0 c.0)))
+    by (inr (d, f, i)) = inr (d, f, rw i (or-true (nat_eq d.0 c.0)))
 
     at : (b : Bool) → nat_eq r.0 c.0 ≡ b → b || has r.0 l ≡ true → (has r.0 l ≡ true → (B (Some r) ≡ Some c) ⊎ ((d : NodeId) × (B (Some r) ≡ Some d) × (has d.0 l ≡ true)))
         → (B (Some r) ≡ u) ⊎ ((d : NodeId) × (B (Some r) ≡ Some d) × (has d.0 (c ∷ l) ≡ true))
@@ -53,11 +54,11 @@ forth_is F B u x (c ∷ l) h e = at (nat_eq x.0 c.0) refl e (λ g. forth_is F B 
   where
     ahead : (m : List NodeId) → Chain F B (Some c) m → (F (Some c) ≡ None) ⊎ ((d : NodeId) × (F (Some c) ≡ Some d) × (has d.0 (c ∷ m) ≡ true))
     ahead [] g = inl g.0
-    ahead (d ∷ m) g = inr (d, g.0, rw (eq_refl d.0) (or_true (nat_eq d.0 c.0)))
+    ahead (d ∷ m) g = inr (d, g.0, rw (eq_refl d.0) (or-true (nat_eq d.0 c.0)))
 
     by : (F (Some x) ≡ None) ⊎ ((d : NodeId) × (F (Some x) ≡ Some d) × (has d.0 l ≡ true)) → (F (Some x) ≡ None) ⊎ ((d : NodeId) × (F (Some x) ≡ Some d) × (has d.0 (c ∷ l) ≡ true))
     by (inl f) = inl f
-    by (inr (d, f, i)) = inr (d, f, rw i (or_true (nat_eq d.0 c.0)))
+    by (inr (d, f, i)) = inr (d, f, rw i (or-true (nat_eq d.0 c.0)))
 
     at : (b : Bool) → nat_eq x.0 c.0 ≡ b → b || has x.0 l ≡ true → (has x.0 l ≡ true → (F (Some x) ≡ None) ⊎ ((d : NodeId) × (F (Some x) ≡ Some d) × (has d.0 l ≡ true)))
         → (F (Some x) ≡ None) ⊎ ((d : NodeId) × (F (Some x) ≡ Some d) × (has d.0 (c ∷ l) ≡ true))
@@ -70,7 +71,7 @@ pub frame : (F B F' B' : Link) (u : Option NodeId) (l : List NodeId) → Chain F
 frame F B F' B' u [] h f b each = (f ∙ h.0, b ∙ h.1)
 frame F B F' B' u (c ∷ l) h f b each =
     let here = each c (rw (eq_refl c.0) refl) in
-    (f ∙ h.0, here.1 ∙ h.1, frame F B F' B' (Some c) l h.2 here.0 b (λ d i. each d (rw i (or_true (nat_eq d.0 c.0)))))
+    (f ∙ h.0, here.1 ∙ h.1, frame F B F' B' (Some c) l h.2 here.0 b (λ d i. each d (rw i (or-true (nat_eq d.0 c.0)))))
 
 -- two places are apart
 pub apart_some : (c d : NodeId) → nat_eq c.0 d.0 ≡ false → Some c ≡ Some d → ⊥
@@ -82,7 +83,7 @@ pub in_apart : (c d : NodeId) (l : List NodeId) → has c.0 l ≡ false → has 
 in_apart c d l out in_ = by (nat_eq c.0 d.0) refl
   where
     by : (b : Bool) → nat_eq c.0 d.0 ≡ b → b ≡ false
-    by true e = not_both (has d.0 l) in_ (ap (λ z. has z l) (sym (eqb-true c.0 d.0 e)) ∙ out)
+    by true e = absurd (both_ways (has d.0 l) (ap (λ z. has z l) (sym (eqb-true c.0 d.0 e)) ∙ out) in_)
     by false e = refl
 
 pub out_not : (u : Option NodeId) (c : NodeId) (l : List NodeId) → out_of u l ≡ true → has c.0 l ≡ true → u ≡ Some c → ⊥

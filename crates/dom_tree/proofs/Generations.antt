@@ -1,6 +1,6 @@
 -- Trees and walks of them, one generation at a time.
 use Rattle.std.proofs.Common.{◌≡◌, ◌⊎◌, inl, inr, refl, sym, ap, subst, ◌∙◌, ℕ, zero, suc, ◌+◌, ◌<◌, ◌≤◌, Bool, true, false, cond, nat_eq, List, [], ◌∷◌, ◌++◌, Option, Some, None, length, append_assoc, arith}
-use Rattle.std.proofs.lemmas.Bool.{eq-eqb, ne_eqb}
+use Rattle.std.proofs.lemmas.Bool.{both_ways, eq-eqb, ne_eqb}
 use Rattle.js_values.specs.declared.ids.NodeId.{NodeId}
 use Rattle.dom_tree.specs.declared.walk.Visit.{Visit}
 use Rattle.dom_tree.specs.declared.walk.Visit.TheVariants.{Enter, Leave}
@@ -8,7 +8,7 @@ use Rattle.dom_tree.specs.Node.{Nodes, children_at, first_of, has, is_distinct, 
 use Rattle.dom_tree.specs.Sound.{AreTrees, Rooted, under}
 use Rattle.dom_tree.specs.Trees.{Trees, tree, trees_of, trees_over, trees_within}
 use Rattle.dom_tree.specs.Visits.{IsIn, Under, below, itself, visits, visits_after, visits_after_within, visits_from, visits_on}
-use Rattle.dom_tree.proofs.Lists.{eq_refl, has_head, has_tail, head_fresh, id_of, not_both, tail_distinct}
+use Rattle.dom_tree.proofs.Lists.{eq_refl, has_head, has_tail, head_fresh, id_of, tail_distinct}
 use Rattle.dom_tree.proofs.Trees.{child_in, child_of_parent, depth, depth_below, parent_in, parent_of_child, same_depth}
 
 trees_same : (t : Nodes) (f g : NodeId → Trees) (l : List NodeId) → ((c : NodeId) → has c.0 l ≡ true → f c ≡ g c) → trees_over t f l ≡ trees_over t g l
@@ -132,7 +132,7 @@ rest_rest k (c ∷ l) s m d e = by (nat_eq k c.0) e (rest_rest k l s m (tail_dis
   where
     skip : has s.0 l ≡ true → cond (nat_eq s.0 c.0) l (rest_after s.0 l) ≡ rest_after s.0 l
     skip i =
-        let ne : nat_eq s.0 c.0 ≡ false = ne_eqb s.0 c.0 (λ f. not_both (has c.0 l) (ap (λ z. has z l) (sym f) ∙ i) (head_fresh c l d)) in
+        let ne : nat_eq s.0 c.0 ≡ false = ne_eqb s.0 c.0 (λ f. absurd (both_ways (has c.0 l) (head_fresh c l d) (ap (λ z. has z l) (sym f) ∙ i))) in
         ap (λ b. cond b l (rest_after s.0 l)) ne
 
     by : (b : Bool) → cond b l (rest_after k l) ≡ s ∷ m → (rest_after k l ≡ s ∷ m → rest_after s.0 l ≡ m) → cond (nat_eq s.0 c.0) l (rest_after s.0 l) ≡ m

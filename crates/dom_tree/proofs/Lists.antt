@@ -1,7 +1,8 @@
 -- Lists of nodes, where one is put in or taken out.
 use Rattle.std.proofs.Common.{◌≡◌, refl, sym, ap, ◌∙◌, ℕ, zero, suc, ◌<◌, ◌≤◌, Bool, true, false, cond, ◌&&◌, ◌||◌, not, nat_eq, List, [], ◌∷◌, Option, filter, length, arith}
-use Rattle.std.proofs.lemmas.Bool.{eqb-true, eqb-false, eq-eqb, and_parts, or_parts}
+use Rattle.std.proofs.lemmas.Bool.{eqb-true, eqb-false, eq-eqb, and_parts, or_parts, not-true, both_ways}
 use Rattle.std.specs.List.{list_all, list_any}
+use Rattle.std.proofs.Math.Bool.{or-true}
 use Rattle.js_values.specs.declared.ids.NodeId.{NodeId}
 use Rattle.dom_tree.specs.Change.{put_before, without}
 use Rattle.dom_tree.specs.Node.{has, is_distinct, is_this}
@@ -24,24 +25,9 @@ eq_sym a b = go (nat_eq a b) refl (nat_eq b a) refl
 pub same_id : (c d : NodeId) → nat_eq c.0 d.0 ≡ true → c ≡ d
 same_id c d e = ap id_of (eqb-true c.0 d.0 e)
 
-pub or_true : (b : Bool) → b || true ≡ true
-or_true true = refl
-or_true false = refl
-
-pub or_false : (b : Bool) → b || false ≡ b
-or_false true = refl
-or_false false = refl
-
-pub not_both : {X : Type 0} (b : Bool) → b ≡ true → b ≡ false → X
-not_both b e f = absurd (let g : true ≡ false = sym e ∙ f in cc)
-
-pub off : (b : Bool) → not b ≡ true → b ≡ false
-off true h = sym h
-off false h = refl
-
 -- the first of distinct nodes is not among the others, which are distinct
 pub head_fresh : (c : NodeId) (l : List NodeId) → is_distinct (c ∷ l) ≡ true → has c.0 l ≡ false
-head_fresh c l d = off (has c.0 l) (and_parts (not (has c.0 l)) (is_distinct l) d).0
+head_fresh c l d = not-true (has c.0 l) (and_parts (not (has c.0 l)) (is_distinct l) d).0
 
 pub tail_distinct : (c : NodeId) (l : List NodeId) → is_distinct (c ∷ l) ≡ true → is_distinct l ≡ true
 tail_distinct c l d = (and_parts (not (has c.0 l)) (is_distinct l) d).1
@@ -129,7 +115,7 @@ few (suc n) l d h =
     omega (arith, rest, shorter_by_one n l)
   where
     at : (k : ℕ) → has k (without n l) ≡ true → (b : Bool) → nat_eq k n ≡ b → k < n
-    at k g true e = not_both (has k (without n l)) g (ap (λ j. has j (without n l)) (eqb-true k n e) ∙ has_without_same n l d)
+    at k g true e = absurd (both_ways (has k (without n l)) (ap (λ j. has j (without n l)) (eqb-true k n e) ∙ has_without_same n l d) g)
     at k g false e =
         let low : k < suc n = h k (sym (has_without_other k n l e) ∙ g) in
         let apart : k ≡ n → ⊥ = eqb-false k n e in
@@ -230,4 +216,4 @@ pub has_head : (c : NodeId) (l : List NodeId) → has c.0 (c ∷ l) ≡ true
 has_head c l = rw (eq_refl c.0) refl
 
 pub has_tail : (c d : NodeId) (l : List NodeId) → has c.0 l ≡ true → has c.0 (d ∷ l) ≡ true
-has_tail c d l h = rw h (or_true (nat_eq c.0 d.0))
+has_tail c d l h = rw h (or-true (nat_eq c.0 d.0))

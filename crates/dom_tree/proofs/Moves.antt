@@ -1,8 +1,9 @@
 -- What holds of the nodes stays so where a node is put in or taken out.
 use Rattle.std.proofs.Common.{◌≡◌, refl, sym, ap, subst, ◌∙◌, ℕ, zero, suc, ◌+◌, ◌-◌, ◌<◌, ◌≤◌, Bool, true, false, cond, ◌&&◌, ◌||◌, not, nat_eq, List, [], ◌∷◌, Option, Some, None, filter, length, arith}
-use Rattle.std.proofs.lemmas.Bool.{and_right, eqb-true, or_parts}
+use Rattle.std.proofs.lemmas.Bool.{and_right, both_ways, eqb-true, not-false, or_parts}
 use Rattle.std.specs.List.{list_all, list_any}
 use Rattle.std.specs.Option.{is_none, option_to_list}
+use Rattle.std.proofs.Math.Bool.{or-false}
 use Rattle.js_values.specs.declared.ids.NodeId.{NodeId}
 use Rattle.dom_tree.specs.declared.content.Content.{Content}
 use Rattle.dom_tree.specs.declared.content.Kind.{Kind}
@@ -15,7 +16,7 @@ use Rattle.dom_tree.specs.Fits.{Fits, IsReady, in_or_end, top_with, top_without}
 use Rattle.dom_tree.proofs.Chains.{not_self_back, not_self_forth}
 use Rattle.dom_tree.proofs.Kept.{filter_same, linked, all_same, one_at_most}
 use Rattle.dom_tree.proofs.Linking.{is_linked_in, is_linked_out}
-use Rattle.dom_tree.proofs.Lists.{all_put, all_without, any_without, eq_refl, eq_sym, has_without_other, id_of, id_of, filter_put_alone, filter_put_skip, filter_without, gone, none_left, not_both, not_in_filter, or_false}
+use Rattle.dom_tree.proofs.Lists.{all_put, all_without, any_without, eq_refl, eq_sym, has_without_other, id_of, id_of, filter_put_alone, filter_put_skip, filter_without, gone, none_left, not_in_filter}
 use Rattle.dom_tree.proofs.Shown.{back_in, forth_in, not_beside, put_shows, place_one, range_of, take_shows}
 use Rattle.dom_tree.proofs.Trees.{Moved, child_in, child_of_parent, moved, parent_in, put_trees, take_trees}
 
@@ -73,10 +74,6 @@ has_parent_not_first t s k p e = by (nat_eq k 0) refl
     by true f = let bad : None ≡ Some p = sym s.root ∙ ap (parent_at t) (sym (eqb-true k 0 f)) ∙ e in cc
     by false f = refl
 
-on : (b : Bool) → not b ≡ false → b ≡ true
-on true h = refl
-on false h = sym h
-
 second : (a b : Bool) → a ≡ true → a && b ≡ false → b ≡ false
 second true b e h = h
 second false b e h = absurd (let bad : false ≡ true = e in cc)
@@ -95,7 +92,7 @@ module _ (t : Nodes) (p x : NodeId) where
       let front = or_parts (not (may_have_children (kind_at t p.0)) || is_document (kind_at t x.0)) (is_above t x.0 p.0) whole.0 in
       let kinds = or_parts (not (may_have_children (kind_at t p.0))) (is_document (kind_at t x.0)) front.0 in
       record {
-        holds = on (may_have_children (kind_at t p.0)) kinds.0;
+        holds = not-false (may_have_children (kind_at t p.0)) kinds.0;
         no_document = kinds.1;
         not_above = front.1;
         no_text = λ d. (misplaced_parts whole.1 d).0;
@@ -105,7 +102,7 @@ module _ (t : Nodes) (p x : NodeId) where
     where
       there : (z : Option NodeId) → is_missing t p.0 z ≡ false → in_or_end z (children_at t p.0) ≡ true
       there None f = refl
-      there (Some c) f = on (has c.0 (children_at t p.0)) f
+      there (Some c) f = not-false (has c.0 (children_at t p.0)) f
 
 module _ (ns : List Linked) (t : Nodes) (top : Option NodeId) (p x : NodeId) (s : Shows ns t) (sound : IsSound t) (e : elements_of t ≡ option_to_list top) where
   abbrev less : List NodeId
@@ -173,7 +170,7 @@ module _ (ns : List Linked) (t : Nodes) (top : Option NodeId) (p x : NodeId) (s 
       let trees : AreTrees u = put_trees t u p x r m alone p_in f.not_above a in
       linked (linked_in ns p.0 (backward ns (place_of p.0 r)) x r) u get_top (put_shows ns (linked_in ns p.0 (backward ns (place_of p.0 r)) x r) t u p x r (backward ns (place_of p.0 r)) s a m w refl f.there alone)
       (moved_sound t u p x (more r) (Some p) m get_top sound trees (not_first t sound x.0 f.no_document)
-      (λ h. not_both (may_have_children (kind_at t p.0)) f.holds h)
+      (λ h. absurd (both_ways (may_have_children (kind_at t p.0)) h f.holds))
       (λ z. all_put (λ c. not (is_text (kind_at t c.0))) r x (children_at t p.0) (ap not (f.no_text (sound.document p.0 ∙ z)))
       (ap (λ k. list_all (λ c. not (is_text (kind_at t c.0))) (children_at t k)) (eqb-true p.0 0 z) ∙ sound.no_text)) elements)
       elements
@@ -287,12 +284,12 @@ above_childless t a x none zero k = by (parent_at t k) (nat_eq x k)
 above_childless t a x none (suc n) k = by (parent_at t k) refl (λ q. above_childless t a x none n q)
   where
     apart : (q : NodeId) → parent_at t k ≡ Some q → (b : Bool) → nat_eq x q.0 ≡ b → b ≡ false
-    apart q up true e = not_both (has k (children_at t q.0)) (child_of_parent t a k q up) (ap (λ z. has k (children_at t z)) (sym (eqb-true x q.0 e)) ∙ ap (has k) none)
+    apart q up true e = absurd (both_ways (has k (children_at t q.0)) (ap (λ z. has k (children_at t z)) (sym (eqb-true x q.0 e)) ∙ ap (has k) none) (child_of_parent t a k q up))
     apart q up false e = refl
 
     by : (o : Option NodeId) → parent_at t k ≡ o → ((q : ℕ) → is_above_within t (suc n) x q ≡ nat_eq x q) → nat_eq x k || of_parent o (λ z. is_above_within t (suc n) x z) ≡ nat_eq x k
-    by None up more = or_false (nat_eq x k)
-    by (Some q) up more = ap (λ b. nat_eq x k || b) (more q.0 ∙ apart q up (nat_eq x q.0) refl) ∙ or_false (nat_eq x k)
+    by None up more = or-false (nat_eq x k)
+    by (Some q) up more = ap (λ b. nat_eq x k || b) (more q.0 ∙ apart q up (nat_eq x q.0) refl) ∙ or-false (nat_eq x k)
 
 -- whether an element but this one is under the document
 any_filter : (f g : NodeId → Bool) (l : List NodeId) → list_any (λ c. f c && g c) l ≡ list_any g (filter f l)

@@ -1,6 +1,6 @@
 -- The links tell the nodes, also after a node is put in or taken out.
 use Rattle.std.proofs.Common.{◌≡◌, ◌⊎◌, inl, inr, refl, sym, ap, subst, ◌∙◌, ℕ, ◌<◌, ◌≤◌, Bool, true, false, nat_eq, List, Option, Some, None, length, slice_index_or, arith}
-use Rattle.std.proofs.lemmas.Bool.{eqb-true}
+use Rattle.std.proofs.lemmas.Bool.{both_ways, eqb-true}
 use Rattle.std.proofs.lemmas.List.{length-map, get_or-map, same_lists, get_or_default}
 use Rattle.std.specs.Option.{ForSome}
 use Rattle.js_values.specs.declared.ids.NodeId.{NodeId}
@@ -13,7 +13,7 @@ use Rattle.dom_tree.specs.Node.{Node, Nodes, children_at, has, is_this, no_node,
 use Rattle.dom_tree.specs.Sound.{AreTrees}
 use Rattle.dom_tree.proofs.Chains.{back_is, forth_is, followed_chain, frame, in_apart, put_in, take_out}
 use Rattle.dom_tree.proofs.Linking.{IsLinkedIn, IsLinkedOut, Rewired, is_in}
-use Rattle.dom_tree.proofs.Lists.{eq_refl, eq_sym, id_of, not_both, same_id}
+use Rattle.dom_tree.proofs.Lists.{eq_refl, eq_sym, id_of, same_id}
 use Rattle.dom_tree.proofs.Trees.{Moved, child_in, few_children, parent_of_child}
 
 same_node : (c d : Content) (p q : Option NodeId) (l m : List NodeId) → c ≡ d → p ≡ q → l ≡ m
@@ -54,12 +54,12 @@ pub not_beside : (p : ℕ) (z : Option NodeId) (l : List NodeId) (d : NodeId) �
 not_beside p None l d i out e = cc
 not_beside p (Some c) l d i out e =
     let same : c ≡ d = cc in
-    not_both (has d.0 l) (ap (λ z. has z.0 l) (sym same) ∙ i) out
+    absurd (both_ways (has d.0 l) out (ap (λ z. has z.0 l) (sym same) ∙ i))
 
 not_ends : (p q : ℕ) (z : Option NodeId) → nat_eq p q ≡ false → place_of p z ≡ ends q → ⊥
 not_ends p q None ne e =
     let same : p ≡ q = cc in
-    not_both (nat_eq p q) (ap (nat_eq p) (sym same) ∙ eq_refl p) ne
+    absurd (both_ways (nat_eq p q) ne (ap (nat_eq p) (sym same) ∙ eq_refl p))
 not_ends p q (Some c) ne e = cc
 
 pub place_one : (p : ℕ) (u v : Option NodeId) → place_of p u ≡ place_of p v → u ≡ v
@@ -88,7 +88,7 @@ elsewhere t a p q d ne i = by (has d (children_at t p)) refl
         let both : Some (id_of p) ≡ Some (id_of q) = sym (parent_of_child t a p d h) ∙ parent_of_child t a q d i in
         let one : id_of p ≡ id_of q = cc in
         let same : p ≡ q = ap (λ z. z.0) one in
-        not_both (nat_eq p q) (ap (nat_eq p) (sym same) ∙ eq_refl p) ne
+        absurd (both_ways (nat_eq p q) ne (ap (nat_eq p) (sym same) ∙ eq_refl p))
     by false h = refl
 
 module _ (ns ms : List Linked) (t u : Nodes) (p x : NodeId) (l : List NodeId) (o q r : Option NodeId)
@@ -98,12 +98,12 @@ module _ (ns ms : List Linked) (t u : Nodes) (p x : NodeId) (l : List NodeId) (o
   far_forward : (d : NodeId) → has d.0 (children_at t p.0) ≡ false → nat_eq d.0 x.0 ≡ false → forward ms (beside d) ≡ forward ns (beside d)
   far_forward d out ne =
       w.forward_other (beside d) (λ e. not_beside p.0 q (children_at t p.0) d q_in out (sym e))
-      (λ e. let same : d ≡ x = cc in not_both (nat_eq d.0 x.0) (ap (λ z. nat_eq d.0 z.0) (sym same) ∙ eq_refl d.0) ne)
+      (λ e. let same : d ≡ x = cc in absurd (both_ways (nat_eq d.0 x.0) ne (ap (λ z. nat_eq d.0 z.0) (sym same) ∙ eq_refl d.0)))
 
   far_backward : (d : NodeId) → has d.0 (children_at t p.0) ≡ false → nat_eq d.0 x.0 ≡ false → backward ms (beside d) ≡ backward ns (beside d)
   far_backward d out ne =
       w.backward_other (beside d) (λ e. not_beside p.0 r (children_at t p.0) d r_in out (sym e))
-      (λ e. let same : d ≡ x = cc in not_both (nat_eq d.0 x.0) (ap (λ z. nat_eq d.0 z.0) (sym same) ∙ eq_refl d.0) ne)
+      (λ e. let same : d ≡ x = cc in absurd (both_ways (nat_eq d.0 x.0) ne (ap (λ z. nat_eq d.0 z.0) (sym same) ∙ eq_refl d.0)))
 
   -- and so do the children of other nodes
   other_row : (k : ℕ) → nat_eq p.0 k ≡ false → ((d : NodeId) → has d.0 (children_at t k) ≡ true → nat_eq d.0 x.0 ≡ false) → Row ms k (children_at u k)

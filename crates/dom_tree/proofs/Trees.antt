@@ -1,12 +1,12 @@
 -- Trees stay trees where a node is put in or taken out, and no line up is longer than there are nodes.
 use Rattle.std.proofs.Common.{◌≡◌, ◌⊎◌, inl, inr, refl, sym, ap, subst, ◌∙◌, ℕ, zero, suc, ◌<◌, ◌≤◌, Bool, true, false, cond, ◌||◌, nat_eq, List, [], ◌∷◌, Option, Some, None, length, length-set, slice_set, arith}
-use Rattle.std.proofs.lemmas.Bool.{cases_lt, eqb-true, eqb-false, or_parts}
+use Rattle.std.proofs.lemmas.Bool.{cases_lt, eqb-true, eqb-false, or_parts, both_ways}
 use Rattle.std.proofs.lemmas.List.{get_or-set_same, get_or-set_other, get_or_past}
 use Rattle.js_values.specs.declared.ids.NodeId.{NodeId}
 use Rattle.dom_tree.specs.Change.{is_above_within, of_parent, put_before, without}
 use Rattle.dom_tree.specs.Node.{Node, Nodes, children_at, has, is_distinct, is_this, no_node, node_at, parent_at, with_children, with_parent}
 use Rattle.dom_tree.specs.Sound.{AreTrees, Rooted, root, under}
-use Rattle.dom_tree.proofs.Lists.{distinct_put, distinct_without, eq_refl, eq_sym, few, has_put, has_without_other, has_without_same, id_of, not_both, same_id}
+use Rattle.dom_tree.proofs.Lists.{distinct_put, distinct_without, eq_refl, eq_sym, few, has_put, has_without_other, has_without_same, id_of, same_id}
 
 pub at_set : (t : Nodes) (i k : ℕ) (n : Node) → i < length t → node_at (slice_set t i n) k ≡ cond (nat_eq i k) n (node_at t k)
 at_set t i k n h = go (nat_eq i k) refl
@@ -117,7 +117,7 @@ parent_in t a c p e = by (cases_lt p.0 (length t))
   where
     by : (p.0 < length t) ⊎ (length t ≤ p.0) → p.0 < length t
     by (inl h) = h
-    by (inr h) = not_both (has c (children_at t p.0)) (child_of_parent t a c p e) (ap (has c) (children_past t p.0 h))
+    by (inr h) = absurd (both_ways (has c (children_at t p.0)) (ap (has c) (children_past t p.0 h)) (child_of_parent t a c p e))
 
 pub child_in : (t : Nodes) → AreTrees t → (p c : ℕ) → has c (children_at t p) ≡ true → c < length t
 child_in t a p c i = by (cases_lt c (length t))
