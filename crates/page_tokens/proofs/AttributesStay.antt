@@ -10,16 +10,12 @@ use Rattle.page_tokens.proofs.Runs.{IsSplit, behind_other, begins_same, has_othe
 
 -- Classes
 
-or_cases : (a b : Bool) → (a || b) ≡ true → (a ≡ false → b ≡ true)
-or_cases true b e f = absurd (cc)
-or_cases false b e f = e
-
 pub quote_no_space : (q : ℕ) → is_quote q ≡ true → is_space q ≡ false
 quote_no_space q e = by_case (q == 34) refl
   where
     by_case : (b : Bool) → (q == 34) ≡ b → is_space q ≡ false
     by_case true f = let is = same_unit q 34 f in rw is refl
-    by_case false f = let is = same_unit q 39 (or_cases (q == 34) (q == 39) e f) in rw is refl
+    by_case false f = let is = same_unit q 39 (ap (λ b. b || (q == 39)) (sym f) ∙ e) in rw is refl
 
 pub part_no_space : (u : ℕ) → is_value_part u ≡ true → is_space u ≡ false
 part_no_space u e = by_case (is_space u) (is_quote u || (u == 60) || (u == 61) || (u == 62) || (u == 96)) (is_quote u) (u == 60) (u == 61) (u == 62) (u == 96) e

@@ -1,7 +1,8 @@
 -- What the crates above use of the proofs here.
-use Rattle.std.proofs.Common.{◌≡◌, ◌∙◌, ℕ, ◌+◌, ◌-◌, ◌≤◌, ◌==◌, ◌&&◌, ◌||◌, ◌⊎◌, inl, inr, Bool, true, false, not, List, [], ◌∷◌, ◌++◌, drop, length, refl, sym, ap, subst, Some, append_assoc, arith, codes}
+use Rattle.std.proofs.Common.{◌≡◌, ◌∙◌, ℕ, ◌+◌, ◌-◌, ◌≤◌, ◌==◌, ◌&&◌, ◌||◌, ◌⊎◌, inl, inr, Bool, true, false, List, [], ◌∷◌, ◌++◌, drop, length, refl, sym, ap, subst, Some, append_assoc, arith, codes}
 use Rattle.std.specs.Char.{to_ascii_lowercase}
 use Rattle.std.specs.List.{list_all}
+use Rattle.std.proofs.lemmas.Bool.{and_parts, not-true, or_parts}
 use Rattle.page_tokens.specs.declared.opening.Opening.TheVariants.{Characters}
 use Rattle.page_tokens.specs.declared.token.PageToken.{PageToken}
 use Rattle.page_tokens.specs.declared.token.PageToken.TheVariants.{Raw, Space}
@@ -17,7 +18,7 @@ use Rattle.page_tokens.proofs.AllTokens.{behind_token}
 use Rattle.page_tokens.proofs.Decoding.{append_none}
 use Rattle.page_tokens.proofs.OneToken.{nothing_at_end}
 use Rattle.page_tokens.proofs.RawStay.{Nowhere, first_again, raw_is}
-use Rattle.page_tokens.proofs.Runs.{IsSplit, all_append, and_parts, run_again, run_split, same_unit}
+use Rattle.page_tokens.proofs.Runs.{IsSplit, all_append, run_again, run_split, same_unit}
 use Rattle.page_tokens.proofs.Shapes.{characters_shape, opens_characters}
 use Rattle.page_tokens.proofs.Staying.{RawStays, opens_again, raw_stays, token_stays}
 
@@ -71,10 +72,6 @@ run_more class run us all =
     let is : run ++ us ≡ (run ++ run_of class us) ++ behind class us = ap (λ x. run ++ x) s.whole ∙ sym (append_assoc run (run_of class us) (behind class us)) in
     (ap (run_of class) is ∙ r.0, ap (behind class) is ∙ r.1)
 
-not_true : (b : Bool) → not b ≡ true → b ≡ false
-not_true true e = absurd (cc)
-not_true false e = refl
-
 some_text : (us : List ℕ) → opening_of us ≡ Characters → us ≡ [] → ⊥
 some_text us o e = let s = characters_shape us o in let i = s.is in absurd (cc)
 
@@ -99,7 +96,7 @@ space_behind size after others b h = by_run (run_of (is_other 60) after) refl (r
     opens : (u : ℕ) (r : List ℕ) → IsSplit (is_other 60) after (u ∷ r) (behind (is_other 60) after) → opening_of after ≡ Characters
     opens u r s =
         let p = and_parts (is_other 60 u) (list_all (is_other 60) r) s.all in
-        ap opening_of s.whole ∙ opens_characters u (r ++ behind (is_other 60) after) (not_true (u == 60) p.0)
+        ap opening_of s.whole ∙ opens_characters u (r ++ behind (is_other 60) after) (not-true (u == 60) p.0)
 
     by_run : (r : List ℕ) → run_of (is_other 60) after ≡ r → IsSplit (is_other 60) after (run_of (is_other 60) after) (behind (is_other 60) after) → TokensOf size after others ⊎ ((r : List ℕ) × TokensOf size after (Space r ∷ others))
     by_run [] e s = inl (subst (λ x. TokensOf size x others) (sym (s.whole ∙ ap (λ x. x ++ behind (is_other 60) after) e)) h)
@@ -200,10 +197,6 @@ any_front [] us after e = refl
 any_front (c ∷ cs) [] after e = let p = and_parts (is_other 60 c) (list_all (is_other 60) cs) e in not_sixty c cs after p.0
 any_front (c ∷ cs) (u ∷ us) after e =
     let p = and_parts (is_other 60 c) (list_all (is_other 60) cs) e in ap (λ b. (to_ascii_lowercase u == c) && b) (any_front cs us after p.1)
-
-or_parts : (a b : Bool) → (a || b) ≡ false → (a ≡ false) × (b ≡ false)
-or_parts true b e = absurd (cc)
-or_parts false b e = (refl, e)
 
 pub no_end : (name value mark after : List ℕ) → list_all (is_other 60) name ≡ true → has_end_tag name value ≡ false → NoEnd name value ((60 ∷ mark) ++ after)
 no_end name [] mark after n e = tt

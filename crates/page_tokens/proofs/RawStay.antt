@@ -4,10 +4,11 @@ use Rattle.std.proofs.lemmas.List.{drop-append-le, length-take-le, take-append-d
 use Rattle.std.proofs.Math.ListN.{drop_of_length-le}
 use Rattle.std.proofs.Math.Seq.{drop-append_seam}
 use Rattle.std.specs.Char.{to_ascii_lowercase}
+use Rattle.std.proofs.lemmas.Bool.{and_parts}
 use Rattle.page_tokens.specs.Characters.{before, begins_with, from, is_front, is_front_in_any_case, is_space, place_of}
 use Rattle.page_tokens.specs.Tags.{behind_close, behind_comment, closes_comment, comment_of, ends_name, ends_raw_text, paired, raw_text_of}
 use Rattle.page_tokens.proofs.Pairs.{some_pair}
-use Rattle.page_tokens.proofs.Runs.{and_parts, same_unit, solid_len}
+use Rattle.page_tokens.proofs.Runs.{same_unit, solid_len}
 use Rattle.page_tokens.proofs.TagsStay.{EndsClose, ends_close}
 
 -- The first place where a test holds

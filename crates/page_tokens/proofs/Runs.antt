@@ -2,6 +2,7 @@
 use Rattle.std.proofs.Common.{◌≡◌, ◌∙◌, ℕ, suc, ◌+◌, ◌≤◌, ◌&&◌, ◌==◌, Bool, true, false, List, [], ◌∷◌, ◌++◌, take, drop, length, refl, ap, append_assoc, arith}
 use Rattle.std.proofs.lemmas.Bool.Decides.{nat_tests}
 use Rattle.std.specs.List.{list_all, prefix_len}
+use Rattle.std.proofs.lemmas.Bool.{and_parts}
 use Rattle.page_tokens.specs.Characters.{begins_with, behind, run_of}
 
 take_one : (n : ℕ) (u : ℕ) (us : List ℕ) → take (1 + n) (u ∷ us) ≡ u ∷ take n us
@@ -31,10 +32,6 @@ run_split class (u ∷ us) = by_case (class u) refl (run_split class us)
         let r = run_in class u us e in
         rw (r.0, r.1) (record { whole = ap (λ x. u ∷ x) s.whole; all = rw e s.all; ends = s.ends })
     by_case false e s = let r = run_out class u us e in rw (r.0, r.1) (record { whole = refl; all = refl; ends = e })
-
-pub and_parts : (a b : Bool) → (a && b) ≡ true → (a ≡ true) × (b ≡ true)
-and_parts true b e = (refl, e)
-and_parts false b e = absurd (cc)
 
 pub run_again : (class : ℕ → Bool) (run tail : List ℕ) → list_all class run ≡ true → begins_with class tail ≡ false → (run_of class (run ++ tail) ≡ run) × (behind class (run ++ tail) ≡ tail)
 run_again class [] [] a e = (refl, refl)

@@ -3,12 +3,13 @@ use Rattle.std.proofs.Common.{◌≡◌, ◌∙◌, ℕ, ◌≤◌, ◌==◌, Bo
 use Rattle.std.proofs.lemmas.List.{length-take-le, take-append-drop}
 use Rattle.std.proofs.Math.Seq.{drop-append_seam}
 use Rattle.std.specs.Char.{to_ascii_lowercase}
+use Rattle.std.proofs.lemmas.Bool.{and_parts}
 use Rattle.page_tokens.specs.declared.opening.Opening.{Opening}
 use Rattle.page_tokens.specs.declared.opening.Opening.TheVariants.{Characters, Comment, Doctype, EndTag, Nothing, StartTag}
 use Rattle.page_tokens.specs.Characters.{is_front, is_front_in_any_case, is_letter}
 use Rattle.page_tokens.specs.Tags.{declaration, markup, opening_of}
 use Rattle.page_tokens.proofs.RawStay.{any_case_local, front_is, front_local}
-use Rattle.page_tokens.proofs.Runs.{and_parts, same_unit}
+use Rattle.page_tokens.proofs.Runs.{same_unit}
 
 pub data Shape (us : List ℕ) : Opening → Type 0 where
   starts : (u : ℕ) (t : List ℕ) → us ≡ 60 ∷ u ∷ t → is_letter u ≡ true → Shape us StartTag
