@@ -7,6 +7,8 @@ use Rattle.std.specs.Char.Escape.{encode_utf16}
 use Rattle.std.specs.List.{flat_map}
 use Rattle.std.specs.Str.{IsUtf8, chars}
 use Rattle.std.proofs.Math.Utf8.{encode, encodes, scalar, scalars}
+use Rattle.std.proofs.lemmas.Bool.{and_parts}
+use Rattle.std.proofs.Math.Bool.{and-false}
 use Rattle.js_core.specs.Text.{Text, utf16_of}
 use Rattle.page_reader.specs.Text.{begins_with_line_feed, bytes_before, is_half, less_unit, line_feed, size_of, unit_size, units_behind, with_line_feeds}
 use Rattle.page_reader.proofs.Passing.{behind_none, bytes_none, not_zero}
@@ -31,11 +33,7 @@ half_front u [] rest x a e h = absurd (cc)
 half_front u (v ∷ front) rest x a e h = h
 
 pub no_half : (u : ℕ) → is_half u [] ≡ false
-no_half u = by_case (u == 13)
-  where
-    by_case : (b : Bool) → (b && false) ≡ false
-    by_case true = refl
-    by_case false = refl
+no_half u = and-false (u == 13)
 
 whole_front : (u : ℕ) (front rest : Text) → is_half u (front ++ rest) ≡ false → is_half u front ≡ false
 whole_front u [] rest h = no_half u
@@ -114,13 +112,9 @@ first_unit (u ∷ us) t x n e = by_half (is_half u us) refl (u == 13) refl
         let no : is_half v vs ≡ false = ap (λ z. (z == 13) && begins_with_line_feed vs) is in
         (with_line_feeds vs, feeds_whole v vs no ∙ ap (λ z. line_feed z ∷ with_line_feeds vs) is)
 
-    and_right : (a b : Bool) → (a && b) ≡ true → b ≡ true
-    and_right true b g = g
-    and_right false b g = absurd (cc)
-
     by_half : (h : Bool) → is_half u us ≡ h → (c : Bool) → (u == 13) ≡ c → (more : Text) × (u ∷ us ≡ x ∷ more) × (with_line_feeds more ≡ t)
     by_half true h c k =
-        let r = feeds_ten us (and_right (u == 13) (begins_with_line_feed us) h) in
+        let r = feeds_ten us (and_parts (u == 13) (begins_with_line_feed us) h).1 in
         let z : 10 ∷ r.0 ≡ x ∷ t = sym r.1 ∙ sym (feeds_half u us h) ∙ e in
         let y : 10 ≡ x = cc in
         absurd (n (sym y))
@@ -155,10 +149,6 @@ large c e = grind (arith, nat_tests)
 
 scalar_high : (c : ℕ) → scalar c ≡ true → c < 1114112
 scalar_high c e = grind (arith, nat_tests)
-
-pub and_parts : (a b : Bool) → (a && b) ≡ true → (a ≡ true) × (b ≡ true)
-and_parts true b e = (refl, e)
-and_parts false b e = absurd (cc)
 
 -- the characters of units that begin with a plain one
 pub first_char : (cs : List ℕ) (x : ℕ) (t : Text) → scalars cs ≡ true → IsPlain x → flat_map encode_utf16 cs ≡ x ∷ t → (more : List ℕ) × (cs ≡ x ∷ more) × (flat_map encode_utf16 more ≡ t)

@@ -1,6 +1,7 @@
 -- Where a page goes on as another page.
-use Rattle.std.proofs.Common.{◌≡◌, ◌∙◌, ℕ, ◌+◌, ◌||◌, ◌&&◌, ◌⊎◌, inl, inr, Bool, true, false, List, [], ◌∷◌, ◌++◌, length, refl, sym, ap, subst, append_assoc, length-append, arith}
+use Rattle.std.proofs.Common.{◌≡◌, ◌∙◌, ℕ, ◌+◌, ◌||◌, ◌⊎◌, inl, inr, Bool, true, false, List, [], ◌∷◌, ◌++◌, length, refl, sym, ap, subst, append_assoc, length-append, arith}
 use Rattle.std.specs.List.{list_all}
+use Rattle.std.proofs.lemmas.Bool.{and_parts}
 use Rattle.dom_tree.specs.Node.{Nodes}
 use Rattle.page_tokens.specs.declared.token.PageToken.{PageToken}
 use Rattle.page_tokens.specs.declared.token.PageToken.TheVariants.{Comment, Doctype, EndTag, Raw, Space, StartTag}
@@ -58,10 +59,6 @@ extends size other us after ts all e (more text rest t os a tail) h =
     by_rest s false l r f step = by_text s l r f step
 
 -- Tokens outside stand in a text of any size
-
-and_parts : (a b : Bool) → (a && b) ≡ true → (a ≡ true) × (b ≡ true)
-and_parts true b e = (refl, e)
-and_parts false b e = absurd (cc)
 
 outside_at : (size other : ℕ) (us rest : List ℕ) (t : PageToken) → is_outside t ≡ true → TokenAt size us rest t → TokenAt other us rest t
 outside_at size other us rest t e (at_space u o b) = at_space u o b

@@ -5,6 +5,7 @@ use Rattle.std.proofs.Math.ListN.{get_or-append}
 use Rattle.std.specs.Option.{option_copied}
 use Rattle.std.proofs.Math.Seq.{take-length, get_or-append_seam, set-append_seam}
 use Rattle.std.proofs.lemmas.Bool.Decides.{nat_tests}
+use Rattle.std.proofs.lemmas.Bool.{or_right}
 use Rattle.js_core.specs.Text.{Text}
 use Rattle.js_values.specs.declared.ids.NodeId.{NodeId}
 use Rattle.dom_tree.specs.declared.content.Content.{Content}
@@ -62,10 +63,6 @@ no_fault w p child sound none kind may apart placed =
     let free : breaks_hierarchy w p.0 child.0 ≡ false = all_false (may_have_children (kind_at w p.0)) (is_document (kind_at w child.0)) (is_above w child.0 p.0) (is_document (kind_at w p.0) && is_misplaced w child.0) may kind above placed in
     ap (λ b. cond b (Some Hierarchy) None) free
 
-or_true : (a b : Bool) → b ≡ true → (a || b) ≡ true
-or_true true b e = refl
-or_true false b e = e
-
 pub no_document : (x : Kind) → is_element x ≡ true → is_document x ≡ false
 no_document Document e = absurd (cc)
 no_document (Element name) e = refl
@@ -79,7 +76,7 @@ free_under_element w t c p child sound e i kind element =
     let node = ap (λ k. node_at w k) i ∙ ap (λ x. node_at x (length t)) e ∙ new_node t c in
     let open_ : is_element (kind_at w p.0) ≡ true = ap is_element same ∙ element in
     let document : is_document (kind_at w p.0) ≡ false = no_document (kind_at w p.0) open_ in
-    no_fault w p child sound (ap (λ n. n.children) node) (ap (λ n. is_document n.content.kind) node ∙ kind) (or_true (is_document (kind_at w p.0)) (is_element (kind_at w p.0)) open_) (apart there) (rw document refl)
+    no_fault w p child sound (ap (λ n. n.children) node) (ap (λ n. is_document n.content.kind) node ∙ kind) (or_right (is_document (kind_at w p.0)) (is_element (kind_at w p.0)) open_) (apart there) (rw document refl)
   where
     apart : p.0 < length t → nat_eq child.0 p.0 ≡ false
     apart h = grind (arith, nat_tests)

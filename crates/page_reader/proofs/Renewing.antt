@@ -1,6 +1,7 @@
 -- Tokens with other texts of scripts are the same page with these scripts.
 use Rattle.std.proofs.Common.{◌≡◌, ◌∙◌, ℕ, Bool, true, false, ◌&&◌, cond, List, [], ◌∷◌, ◌++◌, refl, sym, ap, subst, append_assoc}
 use Rattle.std.specs.List.{list_all}
+use Rattle.std.proofs.lemmas.Bool.{and_parts}
 use Rattle.js_core.specs.Text.{Text}
 use Rattle.dom_tree.specs.DomText.{is_void}
 use Rattle.dom_tree.specs.Node.{Nodes}
@@ -184,14 +185,10 @@ prolog seen ts xs ts' rs tag content e (same (StartTag v) us us' ys qs r h) =
 prolog seen ts xs ts' rs tag content e (style v raw raw' us us' ys qs s f h) = absurd (cc)
 prolog seen ts xs ts' rs tag content e (script v raw raw' us us' y ys qs s f h) = absurd (cc)
 
-and_right : (a b : Bool) → (a && b) ≡ true → b ≡ true
-and_right true b e = e
-and_right false b e = absurd (cc)
-
 outside : (ts : List PageToken) (xs : List (List ℕ)) (ts' : List PageToken) (rs : List RawText) → list_all is_outside ts ≡ true → Renewal ts xs ts' rs → (list_all is_outside ts' ≡ true) × (rs ≡ [])
 outside ts xs ts' rs e done = (refl, refl)
 outside ts xs ts' rs e (same t us us' ys qs r h) =
-    let p = outside us ys us' qs (and_right (is_outside t) (list_all is_outside us) e) h in
+    let p = outside us ys us' qs (and_parts (is_outside t) (list_all is_outside us) e).1 h in
     by_token (is_outside t) e p
   where
     by_token : (b : Bool) → (b && list_all is_outside us) ≡ true → (list_all is_outside us' ≡ true) × (qs ≡ []) → ((b && list_all is_outside us') ≡ true) × (qs ≡ [])

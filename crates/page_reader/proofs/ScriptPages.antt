@@ -1,6 +1,7 @@
 -- A page round one script, token by token.
 use Rattle.std.proofs.Common.{◌≡◌, ◌∙◌, ℕ, ◌==◌, ◌||◌, Bool, true, false, cond, List, [], ◌∷◌, ◌++◌, length, refl, sym, ap, subst, arith, codes}
 use Rattle.std.specs.Str.{IsUtf8}
+use Rattle.std.proofs.lemmas.Bool.{and_parts}
 use Rattle.js_core.specs.Text.{Text, utf16_of}
 use Rattle.page_tokens.specs.declared.token.PageToken.{PageToken}
 use Rattle.page_tokens.specs.declared.token.PageToken.TheVariants.{Comment, EndTag, Raw, StartTag}
@@ -25,7 +26,7 @@ use Rattle.page_reader.specs.Pages.PageOf.{page}
 use Rattle.page_reader.specs.Pages.Part.{whole, opens}
 use Rattle.page_reader.specs.Replacing.{IsReadAs, form_mark}
 use Rattle.page_reader.specs.Text.{begins_with_line_feed, has_zero, is_half, line_feed, mark_size, page_text, with_line_feeds, without_mark}
-use Rattle.page_reader.proofs.Cutting.{and_parts, feeds_half, feeds_whole, first_unit, same_unit}
+use Rattle.page_reader.proofs.Cutting.{feeds_half, feeds_whole, first_unit, same_unit}
 use Rattle.page_reader.proofs.Swapped.{commented, form_token}
 
 -- Tags

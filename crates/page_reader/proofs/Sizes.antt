@@ -1,5 +1,5 @@
 -- The bytes of units are those of their characters.
-use Rattle.std.proofs.Common.{◌≡◌, ◌∙◌, ℕ, ◌+◌, ◌-◌, ◌/◌, ◌%◌, ◌<◌, ◌≤◌, ◌&&◌, ◌⊎◌, inl, inr, Bool, true, false, List, [], ◌∷◌, ◌++◌, length, refl, sym, ap, nat_lt, arith, length-append}
+use Rattle.std.proofs.Common.{◌≡◌, ◌∙◌, ℕ, ◌+◌, ◌-◌, ◌/◌, ◌%◌, ◌<◌, ◌≤◌, ◌⊎◌, inl, inr, Bool, true, false, List, [], ◌∷◌, ◌++◌, length, refl, sym, ap, nat_lt, arith, length-append}
 use Rattle.std.proofs.lemmas.Bool.Decides.{nat_tests}
 use Rattle.std.proofs.lemmas.Str.{encodes-chars, length-encode, scalars-chars}
 use Rattle.std.specs.Char.{len_utf8}
@@ -7,6 +7,7 @@ use Rattle.std.specs.Char.Escape.{encode_utf16}
 use Rattle.std.specs.List.{flat_map}
 use Rattle.std.specs.Str.{IsUtf8, chars}
 use Rattle.std.proofs.Math.Utf8.{encode, encodes, scalar, scalars}
+use Rattle.std.proofs.lemmas.Bool.{and_parts}
 use lib.Utf8.{scalar_cases}
 use Rattle.js_core.specs.Text.{utf16_of}
 use Rattle.page_reader.specs.Text.{size_of, unit_size}
@@ -74,10 +75,6 @@ char_size c e = by_range (scalar_cases c e)
     by_range : (c < 55296) ⊎ ((57344 ≤ c) × (c < 1114112)) → size_of (encode_utf16 c) ≡ len_utf8 c
     by_range (inl h) = below h (order c 128) (order c 2048)
     by_range (inr h) = above h.0 h.1 (order c 65536)
-
-and_parts : (a b : Bool) → (a && b) ≡ true → (a ≡ true) × (b ≡ true)
-and_parts true b e = (refl, e)
-and_parts false b e = absurd (cc)
 
 chars_size : (cs : List ℕ) → scalars cs ≡ true → size_of (flat_map encode_utf16 cs) ≡ length (encodes cs)
 chars_size [] e = refl

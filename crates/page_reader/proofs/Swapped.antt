@@ -8,6 +8,7 @@ use Rattle.std.specs.Char.Escape.{encode_utf16}
 use Rattle.std.specs.List.{flat_map, list_all, list_any}
 use Rattle.std.proofs.lemmas.Bool.Decides.{nat_tests}
 use Rattle.std.specs.Str.{IsUtf8}
+use Rattle.std.proofs.lemmas.Bool.{and_parts, or_parts}
 use Rattle.js_core.specs.Text.{Text, utf16_of}
 use Rattle.dom_tree.specs.Node.{Nodes}
 use Rattle.page_tokens.specs.declared.token.PageToken.{PageToken}
@@ -23,7 +24,7 @@ use Rattle.page_reader.specs.Pages.{IsPage, PageOf}
 use Rattle.page_reader.specs.Pages.PageOf.{page}
 use Rattle.page_reader.specs.Replacing.{AreScriptBytes, IsReadAs, IsScriptBytes, form_mark, part, replaced, replaced_from}
 use Rattle.page_reader.specs.Text.{begins_with_line_feed, bytes_before, has_mark, has_zero, is_half, line_feed, mark_size, page_text, unit_size, units_behind, with_line_feeds, without_mark}
-use Rattle.page_reader.proofs.Cutting.{IsPlain, and_parts, cut_bytes, cut_units, feeds_half, feeds_whole, first_bytes, first_unit, same_unit, step_whole, units_append, units_of}
+use Rattle.page_reader.proofs.Cutting.{IsPlain, cut_bytes, cut_units, feeds_half, feeds_whole, first_bytes, first_unit, same_unit, step_whole, units_append, units_of}
 use Rattle.page_reader.proofs.Passing.{behind_more, behind_none, bytes_more, bytes_none}
 use Rattle.page_reader.proofs.Renewing.{Renewal, page_scripts, renewed_page, scripts_in}
 use Rattle.page_reader.proofs.Renewing.Renewal.{done, same, style, script}
@@ -43,10 +44,6 @@ feeds_seam (u ∷ a) rest = by_half (is_half u a) refl (feeds_seam a rest)
     by_half : (h : Bool) → is_half u a ≡ h → with_line_feeds ((a ++ 62 ∷ []) ++ rest) ≡ (with_line_feeds a ++ 62 ∷ []) ++ with_line_feeds rest → with_line_feeds (u ∷ ((a ++ 62 ∷ []) ++ rest)) ≡ (with_line_feeds (u ∷ a) ++ 62 ∷ []) ++ with_line_feeds rest
     by_half true h step = feeds_half u ((a ++ 62 ∷ []) ++ rest) (seam_half u a rest ∙ h) ∙ step ∙ ap (λ z. (z ++ 62 ∷ []) ++ with_line_feeds rest) (sym (feeds_half u a h))
     by_half false h step = feeds_whole u ((a ++ 62 ∷ []) ++ rest) (seam_half u a rest ∙ h) ∙ ap (λ z. line_feed u ∷ z) step ∙ ap (λ z. (z ++ 62 ∷ []) ++ with_line_feeds rest) (sym (feeds_whole u a h))
-
-or_parts : (a b : Bool) → (a || b) ≡ false → (a ≡ false) × (b ≡ false)
-or_parts true b e = absurd (cc)
-or_parts false b e = (refl, e)
 
 feeds_plain : (x rest : Text) → list_any (λ u. u == 13) x ≡ false → with_line_feeds (x ++ rest) ≡ x ++ with_line_feeds rest
 feeds_plain [] rest e = refl
