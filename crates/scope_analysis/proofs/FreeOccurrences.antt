@@ -4,6 +4,7 @@ use Rattle.std.specs.List.{list_any}
 use Rattle.std.proofs.lemmas.List.{append-nil}
 use Rattle.std.proofs.lemmas.List.Folds.{list_any-append}
 use Rattle.std.proofs.lemmas.Slice.Eq.{bytes_eq-Decides}
+use Rattle.std.proofs.Math.Bool.{or-false, or-true, or_assoc}
 use Rattle.indexmap.specs.IndexSet.{insert_all, insert_key}
 use Rattle.js_core.specs.Tree as tree
 use Rattle.js_core.specs.Tree.{name, num, text, bool, null, this, list, literal, func, member, index, call, construct, unary, update, binary, logical_and, logical_or, conditional, assign, comma, no_exprs, then_expr, no_expr, one_expr, no_holes, then_hole, no_fields, then_field, code, var, function, expr, empty, block, if_else, do_while, while, for, for_in, continue, break, return, throw, try, switch, no_stmts, then_stmt, no_body, one_body, no_declarators, then_declarator, no_init, init_var, init_expr, no_catch, one_catch, no_cases, then_case}
@@ -95,23 +96,14 @@ through_append : (c : List Shape) (us vs : List Use) → through c (us ++ vs) �
 through_append c [] vs = refl
 through_append c (u ∷ us) vs = ap (λ (ws : List Use). seen c u.name u.assigns u.crosses ws) (through_append c us vs) ∙ seen_append c u.name u.assigns u.crosses (through c us) (through c vs)
 
-or_false : (b : Bool) → (b || false) ≡ b
-or_false true = refl
-or_false false = refl
-
 through_nothing : (us : List Use) → through [] us ≡ us
 through_nothing [] = refl
-through_nothing (u ∷ us) = rw (or_false u.crosses, through_nothing us) refl
-
-or_moved : (a b c : Bool) → ((a || (b || false)) || c) ≡ (a || (b || c))
-or_moved true b c = refl
-or_moved false true c = refl
-or_moved false false c = refl
+through_nothing (u ∷ us) = rw (or-false u.crosses, through_nothing us) refl
 
 -- a name stands once in a list where it stands in what the list was made from
 among_once : (ks xs : List (List ℕ)) (x : List ℕ) → is_among x (insert_all bytes_eq ks xs) ≡ (is_among x ks || is_among x xs)
-among_once ks [] x = sym (or_false (is_among x ks))
-among_once ks (y ∷ ys) x = among_once (insert_key bytes_eq ks y) ys x ∙ rw (among_inserted ks y x) (or_moved (is_among x ks) (bytes_eq x y) (is_among x ys))
+among_once ks [] x = sym (or-false (is_among x ks))
+among_once ks (y ∷ ys) x = among_once (insert_key bytes_eq ks y) ys x ∙ rw (among_inserted ks y x, or-false (bytes_eq x y)) (or_assoc (is_among x ks) (bytes_eq x y) (is_among x ys))
 
 among_append : (x : List ℕ) (xs ys : List (List ℕ)) → is_among x (xs ++ ys) ≡ (is_among x xs || is_among x ys)
 among_append x xs ys = list_any-append (bytes_eq x) xs ys
@@ -149,13 +141,9 @@ among_expression (Some y) fs body x = among_own x y fs (declared_names body) ∙
 among_declaration : (n : Option (List ℕ)) (fs : List (List ℕ)) (body : tree.Stmts) (x : List ℕ) → is_among x (scope_names None fs (declared_names body)) ≡ is_among x (bound_names (code n fs body))
 among_declaration n fs body x = among_names x None fs (declared_names body) ∙ sym (among_append x fs (declared_names body))
 
-or_true : (b : Bool) → (b || true) ≡ true
-or_true true = refl
-or_true false = refl
-
 through_function : (c : List Shape) (names bound : List (List ℕ)) (us : List Use) → ((x : List ℕ) → is_among x names ≡ is_among x bound) → through (record { is_function = true; names = names } ∷ c) us ≡ through c (leaving_function bound us)
 through_function c names bound [] same = refl
-through_function c names bound (u ∷ us) same = rw (same u.name, or_true u.crosses, through_function c names bound us same) (by_case (is_among u.name bound) (is_declared c u.name) refl)
+through_function c names bound (u ∷ us) same = rw (same u.name, or-true u.crosses, through_function c names bound us same) (by_case (is_among u.name bound) (is_declared c u.name) refl)
   where
     by_case : (b d : Bool) → is_declared c u.name ≡ d → (if (b || is_declared c u.name) then through c (leaving_function bound us) else (record { name = u.name; assigns = u.assigns; crosses = true } ∷ through c (leaving_function bound us))) ≡ through c (if b then leaving_function bound us else (crossing u ∷ leaving_function bound us))
     by_case true d e = refl
@@ -163,7 +151,7 @@ through_function c names bound (u ∷ us) same = rw (same u.name, or_true u.cros
 
 through_clause : (c : List Shape) (x : List ℕ) (us : List Use) → through (record { is_function = false; names = x ∷ [] } ∷ c) us ≡ through c (leaving_clause x us)
 through_clause c x [] = refl
-through_clause c x (u ∷ us) = rw (or_false (bytes_eq u.name x), through_clause c x us) (by_case (bytes_eq u.name x))
+through_clause c x (u ∷ us) = rw (or-false (bytes_eq u.name x), through_clause c x us) (by_case (bytes_eq u.name x))
   where
     by_case : (b : Bool) → (if (b || is_declared c u.name) then through c (leaving_clause x us) else (record { name = u.name; assigns = u.assigns; crosses = u.crosses || crosses_any c } ∷ through c (leaving_clause x us))) ≡ through c (if b then leaving_clause x us else (u ∷ leaving_clause x us))
     by_case true = refl

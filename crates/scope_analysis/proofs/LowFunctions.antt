@@ -1,5 +1,5 @@
 -- No function in a low tree is higher than a form page may have it.
-use Rattle.std.proofs.Common.{◌≡◌, refl, ℕ, ◌+◌, ◌≤◌, Bool, true, false, not, ◌&&◌, ◌||◌, nat_lt, arith}
+use Rattle.std.proofs.Common.{◌≡◌, refl, ℕ, ◌+◌, ◌≤◌, Bool, true, false, not, ◌&&◌, nat_lt, arith}
 use Rattle.std.proofs.lemmas.Bool.{and_right, le-ltb, or_from}
 use Rattle.js_core.specs.Height.{cases_height, code_height, declarators_height, expr_height, exprs_height, fields_height, for_init_height, holes_height, maybe_catch_height, maybe_expr_height, maybe_stmts_height, stmt_height, stmts_height}
 use Rattle.js_core.specs.Tree as tree
@@ -7,9 +7,6 @@ use Rattle.js_core.specs.Tree.{name, num, text, bool, null, this, list, literal,
 use Rattle.scope_analysis.specs.Form.{has_high_function, is_factory, is_high_function}
 use Rattle.scope_analysis.specs.Limits.{function_height_limit}
 use Rattle.scope_analysis.specs.Nodes.{cases_any, catch_any, code_any, declarators_any, expr_any, exprs_any, fields_any, holes_any, init_any, maybe_expr_any, maybe_stmts_any, stmt_any, stmts_any}
-
-or_none : {a b : Bool} → a ≡ false → b ≡ false → (a || b) ≡ false
-or_none {a = a} {b = b} e f = or_from a b e f
 
 is_low : (n : ℕ) → n + 1 ≤ function_height_limit → nat_lt function_height_limit (n + 1) ≡ false
 is_low n h = le-ltb function_height_limit (n + 1) h
@@ -25,24 +22,24 @@ mutual
   expr_low b (list es) h = holes_low es (omega (arith, h))
   expr_low b (literal fs) h = fields_low fs (omega (arith, h))
   expr_low b (func c) h =
-      or_none (and_right (not (b && is_factory c)) (nat_lt function_height_limit (code_height c + 1)) (is_low (code_height c) h)) (code_low c (omega (arith, h)))
+      or_from _ _ (and_right (not (b && is_factory c)) (nat_lt function_height_limit (code_height c + 1)) (is_low (code_height c) h)) (code_low c (omega (arith, h)))
   expr_low b (member e x) h = expr_low false e (omega (arith, h))
-  expr_low b (index a c) h = or_none (expr_low false a (omega (arith, h))) (expr_low false c (omega (arith, h)))
-  expr_low b (call f es) h = or_none (expr_low true f (omega (arith, h))) (exprs_low es (omega (arith, h)))
-  expr_low b (construct f es) h = or_none (expr_low false f (omega (arith, h))) (exprs_low es (omega (arith, h)))
+  expr_low b (index a c) h = or_from _ _ (expr_low false a (omega (arith, h))) (expr_low false c (omega (arith, h)))
+  expr_low b (call f es) h = or_from _ _ (expr_low true f (omega (arith, h))) (exprs_low es (omega (arith, h)))
+  expr_low b (construct f es) h = or_from _ _ (expr_low false f (omega (arith, h))) (exprs_low es (omega (arith, h)))
   expr_low b (unary op a) h = expr_low false a (omega (arith, h))
   expr_low b (update up prefix a) h = expr_low false a (omega (arith, h))
-  expr_low b (binary op a c) h = or_none (expr_low false a (omega (arith, h))) (expr_low false c (omega (arith, h)))
-  expr_low b (logical_and a c) h = or_none (expr_low false a (omega (arith, h))) (expr_low false c (omega (arith, h)))
-  expr_low b (logical_or a c) h = or_none (expr_low false a (omega (arith, h))) (expr_low false c (omega (arith, h)))
+  expr_low b (binary op a c) h = or_from _ _ (expr_low false a (omega (arith, h))) (expr_low false c (omega (arith, h)))
+  expr_low b (logical_and a c) h = or_from _ _ (expr_low false a (omega (arith, h))) (expr_low false c (omega (arith, h)))
+  expr_low b (logical_or a c) h = or_from _ _ (expr_low false a (omega (arith, h))) (expr_low false c (omega (arith, h)))
   expr_low b (conditional a c d) h =
-      or_none (expr_low false a (omega (arith, h))) (or_none (expr_low false c (omega (arith, h))) (expr_low false d (omega (arith, h))))
-  expr_low b (assign op a c) h = or_none (expr_low false a (omega (arith, h))) (expr_low false c (omega (arith, h)))
+      or_from _ _ (expr_low false a (omega (arith, h))) (or_from _ _ (expr_low false c (omega (arith, h))) (expr_low false d (omega (arith, h))))
+  expr_low b (assign op a c) h = or_from _ _ (expr_low false a (omega (arith, h))) (expr_low false c (omega (arith, h)))
   expr_low b (comma es) h = exprs_low es (omega (arith, h))
 
   exprs_low : (es : tree.Exprs) → exprs_height es ≤ function_height_limit → exprs_any is_high_function es ≡ false
   exprs_low no_exprs h = refl
-  exprs_low (then_expr e es) h = or_none (expr_low false e (omega (arith, h))) (exprs_low es (omega (arith, h)))
+  exprs_low (then_expr e es) h = or_from _ _ (expr_low false e (omega (arith, h))) (exprs_low es (omega (arith, h)))
 
   maybe_expr_low : (e : tree.MaybeExpr) → maybe_expr_height e ≤ function_height_limit → maybe_expr_any is_high_function e ≡ false
   maybe_expr_low no_expr h = refl
@@ -50,41 +47,41 @@ mutual
 
   holes_low : (es : tree.Holes) → holes_height es ≤ function_height_limit → holes_any is_high_function es ≡ false
   holes_low no_holes h = refl
-  holes_low (then_hole e es) h = or_none (maybe_expr_low e (omega (arith, h))) (holes_low es (omega (arith, h)))
+  holes_low (then_hole e es) h = or_from _ _ (maybe_expr_low e (omega (arith, h))) (holes_low es (omega (arith, h)))
 
   fields_low : (fs : tree.Fields) → fields_height fs ≤ function_height_limit → fields_any is_high_function fs ≡ false
   fields_low no_fields h = refl
-  fields_low (then_field x e fs) h = or_none (expr_low false e (omega (arith, h))) (fields_low fs (omega (arith, h)))
+  fields_low (then_field x e fs) h = or_from _ _ (expr_low false e (omega (arith, h))) (fields_low fs (omega (arith, h)))
 
   code_low : (c : tree.Code) → code_height c ≤ function_height_limit → code_any is_high_function c ≡ false
   code_low (code x formals body) h = stmts_low body (omega (arith, h))
 
   stmt_low : (s : tree.Stmt) → stmt_height s ≤ function_height_limit + 1 → stmt_any is_high_function s ≡ false
   stmt_low (var ds) h = declarators_low ds (omega (arith, h))
-  stmt_low (function c) h = or_none (is_low (code_height c) (omega (arith, h))) (code_low c (omega (arith, h)))
+  stmt_low (function c) h = or_from _ _ (is_low (code_height c) (omega (arith, h))) (code_low c (omega (arith, h)))
   stmt_low (expr e) h = expr_low false e (omega (arith, h))
   stmt_low empty h = refl
   stmt_low (block ss) h = stmts_low ss (omega (arith, h))
   stmt_low (if_else e a c) h =
-      or_none (expr_low false e (omega (arith, h))) (or_none (stmts_low a (omega (arith, h))) (maybe_stmts_low c (omega (arith, h))))
-  stmt_low (do_while body e) h = or_none (stmts_low body (omega (arith, h))) (expr_low false e (omega (arith, h)))
-  stmt_low (while e body) h = or_none (expr_low false e (omega (arith, h))) (stmts_low body (omega (arith, h)))
+      or_from _ _ (expr_low false e (omega (arith, h))) (or_from _ _ (stmts_low a (omega (arith, h))) (maybe_stmts_low c (omega (arith, h))))
+  stmt_low (do_while body e) h = or_from _ _ (stmts_low body (omega (arith, h))) (expr_low false e (omega (arith, h)))
+  stmt_low (while e body) h = or_from _ _ (expr_low false e (omega (arith, h))) (stmts_low body (omega (arith, h)))
   stmt_low (for i t s body) h =
-      or_none (init_low i (omega (arith, h)))
-      (or_none (maybe_expr_low t (omega (arith, h))) (or_none (maybe_expr_low s (omega (arith, h))) (stmts_low body (omega (arith, h)))))
+      or_from _ _ (init_low i (omega (arith, h)))
+      (or_from _ _ (maybe_expr_low t (omega (arith, h))) (or_from _ _ (maybe_expr_low s (omega (arith, h))) (stmts_low body (omega (arith, h)))))
   stmt_low (for_in declared t e body) h =
-      or_none (expr_low false t (omega (arith, h))) (or_none (expr_low false e (omega (arith, h))) (stmts_low body (omega (arith, h))))
+      or_from _ _ (expr_low false t (omega (arith, h))) (or_from _ _ (expr_low false e (omega (arith, h))) (stmts_low body (omega (arith, h))))
   stmt_low continue h = refl
   stmt_low break h = refl
   stmt_low (return e) h = maybe_expr_low e (omega (arith, h))
   stmt_low (throw e) h = expr_low false e (omega (arith, h))
   stmt_low (try ss c l) h =
-      or_none (stmts_low ss (omega (arith, h))) (or_none (catch_low c (omega (arith, h))) (maybe_stmts_low l (omega (arith, h))))
-  stmt_low (switch e cs) h = or_none (expr_low false e (omega (arith, h))) (cases_low cs (omega (arith, h)))
+      or_from _ _ (stmts_low ss (omega (arith, h))) (or_from _ _ (catch_low c (omega (arith, h))) (maybe_stmts_low l (omega (arith, h))))
+  stmt_low (switch e cs) h = or_from _ _ (expr_low false e (omega (arith, h))) (cases_low cs (omega (arith, h)))
 
   stmts_low : (ss : tree.Stmts) → stmts_height ss ≤ function_height_limit + 1 → stmts_any is_high_function ss ≡ false
   stmts_low no_stmts h = refl
-  stmts_low (then_stmt s ss) h = or_none (stmt_low s (omega (arith, h))) (stmts_low ss (omega (arith, h)))
+  stmts_low (then_stmt s ss) h = or_from _ _ (stmt_low s (omega (arith, h))) (stmts_low ss (omega (arith, h)))
 
   maybe_stmts_low : (ss : tree.MaybeStmts) → maybe_stmts_height ss ≤ function_height_limit → maybe_stmts_any is_high_function ss ≡ false
   maybe_stmts_low no_body h = refl
@@ -92,7 +89,7 @@ mutual
 
   declarators_low : (ds : tree.Declarators) → declarators_height ds ≤ function_height_limit → declarators_any is_high_function ds ≡ false
   declarators_low no_declarators h = refl
-  declarators_low (then_declarator x e ds) h = or_none (maybe_expr_low e (omega (arith, h))) (declarators_low ds (omega (arith, h)))
+  declarators_low (then_declarator x e ds) h = or_from _ _ (maybe_expr_low e (omega (arith, h))) (declarators_low ds (omega (arith, h)))
 
   init_low : (i : tree.ForInit) → for_init_height i ≤ function_height_limit → init_any is_high_function i ≡ false
   init_low no_init h = refl
@@ -106,7 +103,7 @@ mutual
   cases_low : (cs : tree.Cases) → cases_height cs ≤ function_height_limit → cases_any is_high_function cs ≡ false
   cases_low no_cases h = refl
   cases_low (then_case e ss cs) h =
-      or_none (maybe_expr_low e (omega (arith, h))) (or_none (stmts_low ss (omega (arith, h))) (cases_low cs (omega (arith, h))))
+      or_from _ _ (maybe_expr_low e (omega (arith, h))) (or_from _ _ (stmts_low ss (omega (arith, h))) (cases_low cs (omega (arith, h))))
 
 pub expr_has_no_high_function : (b : Bool) (e : tree.Expr) → expr_height e ≤ function_height_limit → expr_any is_high_function b e ≡ false
 expr_has_no_high_function b e h = expr_low b e h

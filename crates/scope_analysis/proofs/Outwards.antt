@@ -1,9 +1,10 @@
 -- A name is added to the needs of functions from the inside out, up to the first that has it.
-use Rattle.std.proofs.Common.{◌≡◌, ◌≢◌, ℕ, ◌<◌, ◌≤◌, Bool, true, false, ◌||◌, List, [], ◌∷◌, Option, Some, None, length, refl, sym, ap, subst, ◌∙◌, arith, bytes_eq, eqb, if◌then◌else◌, inl, inr, ◌⊎◌}
+use Rattle.std.proofs.Common.{◌≡◌, ◌≢◌, ℕ, ◌<◌, ◌≤◌, Bool, true, false, List, [], ◌∷◌, Option, Some, None, length, refl, sym, ap, subst, ◌∙◌, arith, bytes_eq, eqb, if◌then◌else◌, inl, inr, ◌⊎◌}
 use Rattle.std.specs.List.{list_any}
 use Rattle.std.proofs.lemmas.Bool.Decides.{eqb_tells}
 use Rattle.std.proofs.lemmas.List.{get_or-set_other, get_or-set_same, length-set}
 use Rattle.std.proofs.lemmas.Slice.Eq.{bytes_eq-Decides}
+use Rattle.std.proofs.Math.Bool.{or-false, or-true}
 use Rattle.indexmap.specs.IndexSet.{insert_key}
 use Rattle.scope_analysis.specs.Names.{is_among}
 use Rattle.scope_analysis.specs.Scopes.{Around, Place, find, names_of, needing}
@@ -143,18 +144,10 @@ outwards_at ls (f ∷ fs) x falls have n = by_case (is_among x (list_at ls f)) r
     by_case false e after = by_place (eqb_tells f n) after
 
 among_new : (ks : List (List ℕ)) (x : List ℕ) → is_among x (insert_key bytes_eq ks x) ≡ true
-among_new ks x = let same : bytes_eq x x ≡ true = (bytes_eq-Decides x x).1 refl in rw (among_inserted ks x x, same) (by_case (is_among x ks))
-  where
-    by_case : (b : Bool) → (b || true) ≡ true
-    by_case true = refl
-    by_case false = refl
+among_new ks x = let same : bytes_eq x x ≡ true = (bytes_eq-Decides x x).1 refl in rw (among_inserted ks x x, same) (or-true (is_among x ks))
 
 among_other : (ks : List (List ℕ)) (x y : List ℕ) → bytes_eq y x ≡ false → is_among y (insert_key bytes_eq ks x) ≡ is_among y ks
-among_other ks x y ne = rw (among_inserted ks x y, ne) (by_case (is_among y ks))
-  where
-    by_case : (b : Bool) → (b || false) ≡ b
-    by_case true = refl
-    by_case false = refl
+among_other ks x y ne = rw (among_inserted ks x y, ne) (or-false (is_among y ks))
 
 -- all that need the name have it after, and no list has another name more
 all_have_after : (ls : List (List (List ℕ))) (fs : List ℕ) (x : List ℕ) → FallsBelow (length ls) fs → HaveOutwards (λ n. is_among x (list_at ls n)) fs → HaveAll (λ n. is_among x (list_at (with_name_outwards ls fs x) n)) fs

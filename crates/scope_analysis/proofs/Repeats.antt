@@ -1,20 +1,9 @@
 -- Names of a list in which none stands twice, and one more behind them.
-use Rattle.std.proofs.Common.{◌≡◌, ℕ, Bool, true, false, not, List, [], ◌∷◌, ◌++◌, ◌||◌, refl, bytes_eq}
+use Rattle.std.proofs.Common.{◌≡◌, ℕ, Bool, true, false, not, List, [], ◌∷◌, ◌++◌, refl, bytes_eq}
 use Rattle.std.proofs.lemmas.Slice.Eq.{bytes_eq-Decides}
 use Rattle.std.proofs.lemmas.List.Folds.{list_any-append}
+use Rattle.std.proofs.lemmas.Bool.{or_parts, or_right}
 use Rattle.scope_analysis.specs.Names.{is_among, has_repeat}
-
-or_right : (a b : Bool) → b ≡ true → (a || b) ≡ true
-or_right true b e = refl
-or_right false b e = e
-
-left_false : (a b : Bool) → (a || b) ≡ false → a ≡ false
-left_false true b e = absurd (cc)
-left_false false b e = refl
-
-right_false : (a b : Bool) → (a || b) ≡ false → b ≡ false
-right_false true b e = absurd (cc)
-right_false false b e = e
 
 same_name : (x : List ℕ) → bytes_eq x x ≡ true
 same_name x = (bytes_eq-Decides x x).1 refl
@@ -45,9 +34,9 @@ repeats_once_more (k ∷ ks) x xs e = by_case (bytes_eq x k) refl (repeats_once_
 pub stays_apart : (ks : List (List ℕ)) (x : List ℕ) → has_repeat ks ≡ false → is_among x ks ≡ false → has_repeat (ks ++ x ∷ []) ≡ false
 stays_apart [] x apart free = refl
 stays_apart (k ∷ ks) x apart free =
-    let here = other_name x k (left_false (bytes_eq x k) (is_among x ks) free) in
-    let before = left_false (is_among k ks) (has_repeat ks) apart in
-    let after = stays_apart ks x (right_false (is_among k ks) (has_repeat ks) apart) (right_false (bytes_eq x k) (is_among x ks) free) in
+    let here = other_name x k (or_parts (bytes_eq x k) (is_among x ks) free).0 in
+    let before = (or_parts (is_among k ks) (has_repeat ks) apart).0 in
+    let after = stays_apart ks x (or_parts (is_among k ks) (has_repeat ks) apart).1 (or_parts (bytes_eq x k) (is_among x ks) free).1 in
     rw (list_any-append (bytes_eq k) ks (x ∷ []), before, here, after) refl
 
 -- what a set that takes a name says of it

@@ -4,6 +4,8 @@ use Rattle.std.proofs.lemmas.Bool.Decides.{eqb_tells, nat_tests}
 use Rattle.std.proofs.lemmas.List.{append-nil, map-append, length-drop, length-reverse, get_or-set_other, get_or-set_same}
 use Rattle.std.proofs.lemmas.List.Elements.{filter-append}
 use Rattle.std.proofs.lemmas.List.Folds.{list_any-append}
+use Rattle.std.proofs.lemmas.Bool.{and_right}
+use Rattle.std.proofs.Math.Bool.{and-false, or-false}
 use Rattle.indexmap.specs.IndexSet.{insert_key, insert_all}
 use Rattle.scope_analysis.specs.declared.mark.UseKind.{UseKind}
 use Rattle.scope_analysis.specs.declared.scope_walk.Binding.{Binding}
@@ -44,29 +46,16 @@ number_below k [] i m falls e = cc
 number_below k (s ∷ ss) zero m falls e = let is : s.number ≡ m = cc in omega (arith, falls.0)
 number_below k (s ∷ ss) (suc i) m falls e = let h = number_below s.number ss i m falls.1 e in omega (arith, falls.0)
 
-and_three : (a b : Bool) → (a && (b && false)) ≡ false
-and_three true true = refl
-and_three true false = refl
-and_three false b = refl
-
-or_nothing : (a : Bool) → (a || (false || false)) ≡ a
-or_nothing true = refl
-or_nothing false = refl
-
 or_same : (a b : Bool) → (a || (b || false)) ≡ (a || ((b && (true && true)) || false))
 or_same true b = refl
 or_same false true = refl
 or_same false false = refl
 
-and_false : (a : Bool) → (a && false) ≡ false
-and_false true = refl
-and_false false = refl
-
 -- the captured names of each scope after a use of a bound name
 captured_after : (ls : List (List (List ℕ))) (us : List Occurrence) (kind : UseKind) (x : List ℕ) (chain : List Around) (scope : ℕ) (any : Bool) → scope < length ls → declaring chain x ≡ Some scope → has_any (needing chain x) ≡ any → (n : ℕ) (y : List ℕ) → is_among y (list_at ls n) ≡ is_captured_in us n y → is_among y (list_at (if any then with_name_at ls scope x else ls) n) ≡ is_captured_in (us ++ record { kind = kind; name = x; chain = chain } ∷ []) n y
 captured_after ls us kind x chain scope false lt at none n y was =
-    let quiet : captures n y (record { kind = kind; name = x; chain = chain }) ≡ false = rw (none) (and_three (bytes_eq y x) (is_number (declaring chain x) n)) in
-    rw (captured_more us (record { kind = kind; name = x; chain = chain }) n y, quiet, or_nothing (is_captured_in us n y)) was
+    let quiet : captures n y (record { kind = kind; name = x; chain = chain }) ≡ false = rw (none) (and_right (bytes_eq y x) _ (and-false (is_number (declaring chain x) n))) in
+    rw (captured_more us (record { kind = kind; name = x; chain = chain }) n y, quiet, or-false (is_captured_in us n y)) was
 captured_after ls us kind x chain scope true lt at some n y was = by_place (eqb_tells scope n)
   where
     by_place : ((eqb scope n ≡ true) × (scope ≡ n)) ⊎ ((eqb scope n ≡ false) × (scope ≢ n)) → is_among y (list_at (with_name_at ls scope x) n) ≡ is_captured_in (us ++ record { kind = kind; name = x; chain = chain } ∷ []) n y
@@ -75,7 +64,7 @@ captured_after ls us kind x chain scope true lt at some n y was = by_place (eqb_
         rw (here, among_inserted (list_at ls n) x y, was, captured_more us (record { kind = kind; name = x; chain = chain }) n y, at, some, e.0) (or_same (is_captured_in us n y) (bytes_eq y x))
     by_place (inr e) =
         let there : list_at (with_name_at ls scope x) n ≡ list_at ls n = get_or-set_other ls scope n (insert_key bytes_eq (list_at ls scope) x) [] (λ i. e.1 (sym i)) in
-        rw (there, was, captured_more us (record { kind = kind; name = x; chain = chain }) n y, at, e.0, and_false (bytes_eq y x), or_nothing (is_captured_in us n y)) refl
+        rw (there, was, captured_more us (record { kind = kind; name = x; chain = chain }) n y, at, e.0, and-false (bytes_eq y x), or-false (is_captured_in us n y)) refl
 
 -- a use of a global name
 quiet_after : (w : Walk) (us : List Occurrence) (u : Occurrence) (chain : List Around) → needing u.chain u.name ≡ [] → Tells w chain us → Tells w chain (us ++ u ∷ [])
@@ -84,7 +73,7 @@ quiet_after w us u chain nowhere t = record {
   open_scopes = t.open_scopes;
   inside = t.inside;
   functions = t.functions;
-  captured = λ n y. rw (captured_more us u n y, quiet n y, or_nothing (is_captured_in us n y)) (t.captured n y);
+  captured = λ n y. rw (captured_more us u n y, quiet n y, or-false (is_captured_in us n y)) (t.captured n y);
   needs = λ n. rw (needed_more us u n, unneeded n) (t.needs n);
   outwards = t.outwards;
   captured_count = t.captured_count;
@@ -93,7 +82,7 @@ quiet_after w us u chain nowhere t = record {
 }
   where
     quiet : (n : ℕ) (y : List ℕ) → captures n y u ≡ false
-    quiet n y = rw (nowhere) (and_three (bytes_eq y u.name) (is_number (declaring u.chain u.name) n))
+    quiet n y = rw (nowhere) (and_right (bytes_eq y u.name) _ (and-false (is_number (declaring u.chain u.name) n)))
 
     unneeded : (n : ℕ) → needs n u ≡ false
     unneeded n = rw (nowhere) refl

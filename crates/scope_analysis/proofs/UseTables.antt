@@ -3,6 +3,7 @@ use Rattle.std.proofs.Common.{◌≡◌, refl, sym, ap, ◌∙◌, ℕ, Bool, tr
 use Rattle.std.specs.List.{list_any}
 use Rattle.std.specs.Map.{keys_of, lookup, set_value}
 use Rattle.std.proofs.lemmas.Slice.Eq.{bytes_eq-Decides}
+use Rattle.std.proofs.Math.Bool.{or-false, or_assoc}
 use Rattle.indexmap.specs.IndexMap.{insert_entry}
 use Rattle.indexmap.specs.IndexSet.{insert_all, insert_key}
 use Rattle.scope_analysis.specs.declared.use_table.NameUses.{NameUses}
@@ -18,14 +19,6 @@ use Rattle.scope_analysis.specs.Uses.{Use, is_assigned, is_captured, leaving_cla
 use Rattle.scope_analysis.proofs.Sets.{same_symmetric}
 
 -- ---- truth values
-
-or_false : (b : Bool) → b ≡ (b || false)
-or_false true = refl
-or_false false = refl
-
-or_assoc : (a b c : Bool) → ((a || b) || c) ≡ (a || (b || c))
-or_assoc true b c = refl
-or_assoc false b c = refl
 
 or_swap : (a b c : Bool) → ((a || b) || c) ≡ ((a || c) || b)
 or_swap true b c = refl
@@ -261,7 +254,7 @@ again_if true s t = refl
 again_if false s t = refl
 
 captured_more : (es : Noted) (us : List Use) (x : List ℕ) → (uses_in (noted es us) x).crosses ≡ ((uses_in es x).crosses || is_captured x us)
-captured_more es [] x = or_false (uses_in es x).crosses
+captured_more es [] x = sym (or-false (uses_in es x).crosses)
 captured_more es (u ∷ us) x =
     captured_more (with_name es u.name (one_use u)) us x
     ∙ ap (λ (w : NameUses). w.crosses || is_captured x us) (uses_more es x u.name (one_use u))
@@ -269,7 +262,7 @@ captured_more es (u ∷ us) x =
     ∙ crosses_next (uses_in es x).crosses u.crosses (bytes_eq x u.name) (bytes_eq u.name x) (is_captured x us) (same_symmetric u.name x)
 
 assigned_more : (es : Noted) (us : List Use) (x : List ℕ) → (uses_in (noted es us) x).assigns ≡ ((uses_in es x).assigns || is_assigned x us)
-assigned_more es [] x = or_false (uses_in es x).assigns
+assigned_more es [] x = sym (or-false (uses_in es x).assigns)
 assigned_more es (u ∷ us) x =
     assigned_more (with_name es u.name (one_use u)) us x
     ∙ ap (λ (w : NameUses). w.assigns || is_assigned x us) (uses_more es x u.name (one_use u))
@@ -380,19 +373,19 @@ assigned_once_in es us x e =
 -- ---- the names that are used
 
 any_name : (p : List ℕ → Bool) (es : Noted) (y : List ℕ) (m : NameUses) → list_any p (keys_of (with_name es y m)) ≡ (list_any p (keys_of es) || p y)
-any_name p [] y m = sym (or_false (p y))
+any_name p [] y m = or-false (p y)
 any_name p (e ∷ es) y m = by_case (bytes_eq y e.0) refl (any_name p es y m)
   where
     kept : (a k : Bool) → (a || k) ≡ ((a || k) || a)
     kept true k = refl
-    kept false k = or_false k
+    kept false k = sym (or-false k)
 
     by_case : (c : Bool) → bytes_eq y e.0 ≡ c → list_any p (keys_of (with_name es y m)) ≡ (list_any p (keys_of es) || p y) → list_any p (keys_of (with_name (e ∷ es) y m)) ≡ (list_any p (keys_of (e ∷ es)) || p y)
     by_case true q more = rw q (kept (p e.0) (list_any p (keys_of es)) ∙ ap (λ z. (p e.0 || list_any p (keys_of es)) || p z) (sym (same_of y e.0 q)))
     by_case false q more = rw q (ap (λ (r : Bool). p e.0 || r) more ∙ sym (or_assoc (p e.0) (list_any p (keys_of es)) (p y)))
 
 any_noted : (p : List ℕ → Bool) (es : Noted) (us : List Use) → list_any p (keys_of (noted es us)) ≡ (list_any p (keys_of es) || list_any (λ u. p u.name) us)
-any_noted p es [] = or_false (list_any p (keys_of es))
+any_noted p es [] = sym (or-false (list_any p (keys_of es)))
 any_noted p es (u ∷ us) =
     any_noted p (with_name es u.name (one_use u)) us ∙ ap (λ (b : Bool). b || list_any (λ v. p v.name) us) (any_name p es u.name (one_use u))
     ∙ or_assoc (list_any p (keys_of es)) (p u.name) (list_any (λ v. p v.name) us)
