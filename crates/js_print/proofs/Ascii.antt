@@ -6,6 +6,7 @@ use Rattle.std.proofs.lemmas.Bool.Decides.{nat_tests}
 use Rattle.std.proofs.lemmas.List.Elements.{All-weaker}
 use Rattle.std.proofs.lemmas.List.Folds.{list_all-append}
 use Rattle.std.proofs.lemmas.List.Sums.{AllPass-from_list_all}
+use Rattle.std.proofs.lemmas.Bool.{and_from, and_parts}
 use Rattle.js_core.specs.declared.token.Punct.{Punct as Sign}
 use Rattle.js_core.specs.declared.token.Punct.TheVariants as punct
 use Rattle.js_core.specs.declared.keyword.Keyword.{Keyword as Word}
@@ -15,7 +16,7 @@ use Rattle.js_print.specs.declared.lexeme.Lexeme.TheVariants.{Keyword, Name, Num
 use Rattle.js_print.specs.Laws.{is_ascii_text, is_spelled_in_ascii, TextIsAscii}
 use Rattle.js_core.specs.Spelling.{keyword_text, punct_text}
 use Rattle.js_print.specs.Spelling.{is_plain, lexeme_text, is_word, space_between, text_after}
-use Rattle.js_print.proofs.Literals.{and_left, and_right, and_both, string_passes}
+use Rattle.js_print.proofs.Literals.{string_passes}
 
 pub keyword_is_ascii : (k : Word) → is_ascii_text (keyword_text k) ≡ true
 keyword_is_ascii keyword.Break = refl
@@ -44,13 +45,13 @@ space_is_ascii true false = refl
 space_is_ascii false b = refl
 
 joined : (a b : List ℕ) → is_ascii_text a ≡ true → is_ascii_text b ≡ true → is_ascii_text (a ++ b) ≡ true
-joined a b f g = list_all-append (λ u. nat_lt u 128) a b ∙ and_both _ _ f g
+joined a b f g = list_all-append (λ u. nat_lt u 128) a b ∙ and_from _ _ f g
 
 text_is_low : (xs : List Lexeme) (after_word : Bool) → list_all is_spelled_in_ascii xs ≡ true → is_ascii_text (text_after after_word xs) ≡ true
 text_is_low [] after_word h = refl
 text_is_low (x ∷ xs) after_word h =
     joined (space_between after_word (is_word x)) (lexeme_text x ++ text_after (is_word x) xs) (space_is_ascii after_word (is_word x))
-    (joined (lexeme_text x) (text_after (is_word x) xs) (lexeme_is_ascii x (and_left _ _ h)) (text_is_low xs (is_word x) (and_right _ _ h)))
+    (joined (lexeme_text x) (text_after (is_word x) xs) (lexeme_is_ascii x (and_parts _ _ h).0) (text_is_low xs (is_word x) (and_parts _ _ h).1))
 
 is_low : (u : ℕ) → nat_lt u 128 ≡ true → u < 128
 is_low u e = grind (arith, nat_tests)

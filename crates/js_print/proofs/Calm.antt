@@ -3,6 +3,7 @@
 use Rattle.std.proofs.Common.{◌≡◌, ◌∙◌, ℕ, Bool, true, false, List, [], ◌∷◌, ◌++◌, Option, Some, None, refl, ap, sym, append_assoc}
 use Rattle.std.specs.Prelude.{not, ◌&&◌, if◌then◌else◌}
 use Rattle.std.proofs.lemmas.List.{append-nil}
+use Rattle.std.proofs.lemmas.Bool.{and_from, and_parts, not-true}
 use Rattle.js_core.specs.Tree as tree
 use Rattle.js_core.specs.Tree.{name, num, text, bool, null, this, list, literal, func, member, index, call, construct, unary, update, binary, logical_and, logical_or, conditional, assign, comma, no_exprs, then_expr, no_expr, one_expr, no_holes, then_hole, no_fields, then_field, code, var, function, expr, empty, block, if_else, do_while, while, for, for_in, continue, break, return, throw, try, switch, no_stmts, then_stmt, no_body, one_body, no_declarators, then_declarator, no_init, init_var, init_expr, no_catch, one_catch, no_cases, then_case}
 use Rattle.js_core.specs.declared.operators.UnaryOp.{UnaryOp}
@@ -20,11 +21,6 @@ use Rattle.js_print.specs.Lexemes.{boolean_lexeme, updated, separator, maybe_nam
 use Rattle.js_print.specs.Operators.{unary_lexeme, update_punct, binary_lexeme, assign_punct}
 use Rattle.js_print.specs.Places.{is_simple, is_number, is_comma, is_bare, placed, parenthesised, braced}
 use Rattle.js_print.proofs.Neighbours.{refused_behind, is_empty, meets, calm, is_point, is_settled, start, free_meets, behind_free, begins_with_point, behind_number, is_mild, mild_meets}
-use Rattle.js_print.proofs.Literals.{and_left, and_right, and_both}
-
-not_true : (b : Bool) → not b ≡ true → b ≡ false
-not_true true e = absurd (cc)
-not_true false e = refl
 
 -- before lexemes that are calm, and do not begin with a point, these are calm with them
 pub record Calm (xs : List Lexeme) : Type 0 where
@@ -41,13 +37,13 @@ follows x (y ∷ ys) = meets x y
 
 behind_first : {xs : List Lexeme} (x : Lexeme) → is_point x ≡ false → follows x xs ≡ true → Calm xs → Calm (x ∷ xs)
 behind_first {xs = []} x e f c = absurd (cc)
-behind_first {xs = y ∷ ys} x e f c = record { first = e; run = λ rest d h. and_both _ _ (free_meets start x refl) (and_both _ _ f (and_right _ _ (c.run rest d h))) }
+behind_first {xs = y ∷ ys} x e f c = record { first = e; run = λ rest d h. and_from _ _ (free_meets start x refl) (and_from _ _ f (and_parts _ _ (c.run rest d h)).1) }
 
 -- one behind which every other may stand, and others
 behind : {xs : List Lexeme} (x : Lexeme) → is_settled x ≡ true → Calm xs → Calm (x ∷ xs)
 behind {xs} x e c = record {
-  first = not_true (is_point x) (and_right _ _ e);
-  run = λ rest d h. and_both _ _ (free_meets start x refl) (behind_free x (xs ++ rest) (and_left _ _ e) (c.run rest d h));
+  first = not-true (is_point x) (and_parts _ _ e).1;
+  run = λ rest d h. and_from _ _ (free_meets start x refl) (behind_free x (xs ++ rest) (and_parts _ _ e).0 (c.run rest d h));
 }
 
 one : (x : Lexeme) → is_settled x ≡ true → Calm (x ∷ [])
@@ -104,9 +100,9 @@ simple_begins null h = refl
 simple_begins this h = refl
 simple_begins (list es) h = refl
 simple_begins (member e x) h =
-    begun (placed Base e (expr_lexemes e)) (Punct punct.Dot ∷ Name x ∷ []) (operand_begins (is_simple e && not (is_number e)) (expr_lexemes e) (λ b. simple_begins e (and_left _ _ b)))
+    begun (placed Base e (expr_lexemes e)) (Punct punct.Dot ∷ Name x ∷ []) (operand_begins (is_simple e && not (is_number e)) (expr_lexemes e) (λ b. simple_begins e (and_parts _ _ b).0))
 simple_begins (index a b) h =
-    begun (placed Base a (expr_lexemes a)) (Punct punct.LeftBracket ∷ (placed Part b (expr_lexemes b) ++ Punct punct.RightBracket ∷ [])) (operand_begins (is_simple a && not (is_number a)) (expr_lexemes a) (λ c. simple_begins a (and_left _ _ c)))
+    begun (placed Base a (expr_lexemes a)) (Punct punct.LeftBracket ∷ (placed Part b (expr_lexemes b) ++ Punct punct.RightBracket ∷ [])) (operand_begins (is_simple a && not (is_number a)) (expr_lexemes a) (λ c. simple_begins a (and_parts _ _ c).0))
 simple_begins (call f es) h =
     begun (placed Operand f (expr_lexemes f)) (parenthesised (parts_lexemes es)) (operand_begins (is_simple f) (expr_lexemes f) (simple_begins f))
 simple_begins e h = absurd (cc)
@@ -211,7 +207,7 @@ expr_follows (assign op a b) h = behind_operand_follows equals a (Punct (assign_
 expr_follows (comma es) h = absurd (cc)
 
 part_follows : (e : tree.Expr) → follows equals (placed Part e (expr_lexemes e)) ≡ true
-part_follows e = by_test (is_bare Part e) (λ b. expr_follows e (not_true (is_comma e) (and_right _ _ b)))
+part_follows e = by_test (is_bare Part e) (λ b. expr_follows e (not-true (is_comma e) (and_parts _ _ b).1))
   where
     by_test : (b : Bool) → (b ≡ true → follows equals (expr_lexemes e) ≡ true) → follows equals (if b then expr_lexemes e else parenthesised (expr_lexemes e)) ≡ true
     by_test true f = f refl
@@ -241,7 +237,7 @@ last : {xs : List Lexeme} (x : Lexeme) → is_settled x ≡ true → Calm xs →
 last {xs} x e c = record {
   run = λ rest h.
       ap (calm start) (append_assoc xs (x ∷ []) rest)
-      ∙ c.run (x ∷ rest) (not_true (is_point x) (and_right _ _ e)) (and_both _ _ (free_meets start x refl) (behind_free x rest (and_left _ _ e) h));
+      ∙ c.run (x ∷ rest) (not-true (is_point x) (and_parts _ _ e).1) (and_from _ _ (free_meets start x refl) (behind_free x rest (and_parts _ _ e).0 h));
 }
 
 last_alone : (x : Lexeme) → is_settled x ≡ true → Ended (x ∷ [])
@@ -251,7 +247,7 @@ before_ended : {xs ys : List Lexeme} (x : Lexeme) → is_point x ≡ false → C
 before_ended {xs} {ys} x e c d = record { run = λ rest h. ap (calm start) (append_assoc xs (x ∷ ys) rest) ∙ c.run (x ∷ (ys ++ rest)) e (d.run rest h) }
 
 behind_ended : {xs : List Lexeme} (x : Lexeme) → is_empty (refused_behind x) ≡ true → Ended xs → Ended (x ∷ xs)
-behind_ended {xs} x e c = record { run = λ rest h. and_both _ _ (free_meets start x refl) (behind_free x (xs ++ rest) e (c.run rest h)) }
+behind_ended {xs} x e c = record { run = λ rest h. and_from _ _ (free_meets start x refl) (behind_free x (xs ++ rest) e (c.run rest h)) }
 
 both_ended : {xs ys : List Lexeme} → Ended xs → Ended ys → Ended (xs ++ ys)
 both_ended {xs} {ys} c d = record { run = λ rest h. ap (calm start) (append_assoc xs ys rest) ∙ c.run (ys ++ rest) (d.run rest h) }

@@ -5,6 +5,7 @@ use Rattle.std.specs.Char.{is_digit, digit_char, to_ascii_uppercase}
 use Rattle.std.specs.List.{list_all}
 use Rattle.std.proofs.lemmas.Bool.Decides.{nat_tests}
 use Rattle.std.proofs.lemmas.List.Folds.{list_all-append}
+use Rattle.std.proofs.lemmas.Bool.{and_from, and_parts}
 use Rattle.js_core.specs.LineText.{is_escaped}
 use Rattle.js_core.specs.Spelling.{keyword_text, punct_text}
 use Rattle.js_core.specs.declared.keyword.Keyword.{Keyword as Word}
@@ -20,7 +21,7 @@ use Rattle.js_print.specs.ReadBack.{kind_of}
 use Rattle.js_print.specs.Spelling.{is_plain, is_word, space_between, text_after}
 use Rattle.js_print.proofs.Decimals.{decimal_has_digits}
 use Rattle.js_print.proofs.Identifiers.{part_stands_for_itself}
-use Rattle.js_print.proofs.Literals.{and_left, and_right, and_both, string_passes}
+use Rattle.js_print.proofs.Literals.{string_passes}
 use Rattle.js_print.proofs.Units.{lexeme_units, units_after, are_written, units_of_text}
 
 keyword_is_free : (k : Word) → list_all is_free (keyword_text k) ≡ true
@@ -45,7 +46,7 @@ part_is_free u e = ap not (part_stands_for_itself u e).1
 
 each_passes : (p q : ℕ → Bool) → ((u : ℕ) → p u ≡ true → q u ≡ true) → (us : List ℕ) → list_all p us ≡ true → list_all q us ≡ true
 each_passes p q f [] e = refl
-each_passes p q f (u ∷ us) e = and_both _ _ (f u (and_left _ _ e)) (each_passes p q f us (and_right (p u) _ e))
+each_passes p q f (u ∷ us) e = and_from _ _ (f u (and_parts _ _ e).0) (each_passes p q f us (and_parts (p u) _ e).1)
 
 number_is_free : (n : Option _) → can_be_written (kind_of (Number n)) ≡ true → list_all is_free (lexeme_units (Number n)) ≡ true
 number_is_free (Some (pos n)) w = each_passes (λ u. is_digit u 10) is_free digit_is_free (decimal n) (decimal_has_digits n w)
@@ -53,7 +54,7 @@ number_is_free n w = absurd (cc)
 
 pub lexeme_is_free : (x : Lexeme) → can_be_written (kind_of x) ≡ true → list_all is_free (lexeme_units x) ≡ true
 lexeme_is_free (Keyword k) w = keyword_is_free k
-lexeme_is_free (Name x) w = each_passes is_identifier_part is_free part_is_free x (and_right _ _ (and_left (is_identifier_name x) _ w))
+lexeme_is_free (Name x) w = each_passes is_identifier_part is_free part_is_free x (and_parts _ _ (and_parts (is_identifier_name x) _ w).0).1
 lexeme_is_free (Number n) w = number_is_free n w
 lexeme_is_free (Text x) w = string_passes is_free plain_is_free hex_digit_is_free refl refl refl x
 lexeme_is_free (Punct p) w = punct_is_free p
@@ -64,13 +65,13 @@ space_is_free true false = refl
 space_is_free false b = refl
 
 joined : (a b : List ℕ) → list_all is_free a ≡ true → list_all is_free b ≡ true → list_all is_free (a ++ b) ≡ true
-joined a b f g = list_all-append is_free a b ∙ and_both _ _ f g
+joined a b f g = list_all-append is_free a b ∙ and_from _ _ f g
 
 units_are_free : (xs : List Lexeme) (after_word : Bool) → are_written xs ≡ true → list_all is_free (units_after after_word xs) ≡ true
 units_are_free [] after_word w = refl
 units_are_free (x ∷ xs) after_word w =
     joined (space_between after_word (is_word x)) _ (space_is_free after_word (is_word x))
-    (joined (lexeme_units x) (units_after (is_word x) xs) (lexeme_is_free x (and_left _ _ w)) (units_are_free xs (is_word x) (and_right _ _ w)))
+    (joined (lexeme_units x) (units_after (is_word x) xs) (lexeme_is_free x (and_parts _ _ w).0) (units_are_free xs (is_word x) (and_parts _ _ w).1))
 
 pub written_has_no_control : (xs : List Lexeme) → are_written xs ≡ true → HasNoControl (text_after false xs)
 written_has_no_control xs w = ap (list_all is_free) (units_of_text xs w) ∙ units_are_free xs false w

@@ -8,8 +8,8 @@ use Rattle.std.specs.Str.Parse.{digits_value}
 use Rattle.std.proofs.lemmas.Bool.Decides.{nat_tests}
 use Rattle.std.proofs.lemmas.Fmt.{digits_decimal, digits_value-decimal, decimal_nonempty, first_decimal, decimal_digit}
 use Rattle.std.proofs.lemmas.Str.Parse.{IsNumeralModel, numerals_by_value, tells_all_ascii_digits}
+use Rattle.std.proofs.lemmas.Bool.{and_from, and_parts}
 use Rattle.js_core.specs.Whole.{largest}
-use Rattle.js_print.proofs.Literals.{and_left, and_right, and_both}
 
 numerals : IsNumeralModel (λ ds. all_ascii_digits ds ≡ true) (digits_value 10)
 numerals = numerals_by_value _ tells_all_ascii_digits
@@ -22,7 +22,7 @@ digit_passes u e = grind (arith, nat_tests)
 
 digits_pass : (us : List ℕ) → all_ascii_digits us ≡ true → list_all (λ u. is_digit u 10) us ≡ true
 digits_pass [] e = refl
-digits_pass (u ∷ us) e = and_both _ _ (digit_passes u (and_left _ _ e)) (digits_pass us (and_right _ _ e))
+digits_pass (u ∷ us) e = and_from _ _ (digit_passes u (and_parts _ _ e).0) (digits_pass us (and_parts _ _ e).1)
 
 pub decimal_has_digits : (n : ℕ) → nat_le n largest ≡ true → list_all (λ u. is_digit u 10) (decimal n) ≡ true
 decimal_has_digits n e = digits_pass (decimal n) (digits_decimal numerals n (small n e))

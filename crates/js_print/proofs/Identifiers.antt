@@ -3,13 +3,12 @@ use Rattle.std.proofs.Common.{◌≡◌, ℕ, zero, suc, ◌+◌, ◌<◌, ◌�
 use Rattle.std.specs.Prelude.{not, ◌&&◌, ◌||◌, ◌==◌, nat_lt, nat_le}
 use Rattle.std.specs.Int.{is_in_range}
 use Rattle.std.specs.List.{list_all}
-use Rattle.std.proofs.lemmas.Bool.{cases_lt}
+use Rattle.std.proofs.lemmas.Bool.{and_parts, cases_lt}
 use Rattle.std.proofs.lemmas.Bool.Decides.{nat_tests}
 use Rattle.unicode_ident.proofs.Computing.{unicode_ident}
 use Rattle.js_core.specs.Characters.{is_white_space, is_line_end}
 use Rattle.js_core.specs.LineText.{is_escaped}
 use Rattle.js_lexer.specs.Characters.{is_surrogate, is_identifier_start, is_identifier_part}
-use Rattle.js_print.proofs.Literals.{and_left, and_right}
 
 -- so many numbers from one on
 abbrev from : ℕ → ℕ → List ℕ
@@ -18,16 +17,16 @@ from (suc n) low = low ∷ from n (low + 1)
 
 all_from : (p : ℕ → Bool) (n low u : ℕ) → list_all p (from n low) ≡ true → low ≤ u → u < low + n → p u ≡ true
 all_from p zero low u h l m = absurd (omega arith)
-all_from p (suc n) low u h l m = ⊎_elim (λ b. all_from p n (low + 1) u (and_right (p low) _ h) (omega arith) (omega arith)) here (cases_lt low u)
+all_from p (suc n) low u h l m = ⊎_elim (λ b. all_from p n (low + 1) u (and_parts (p low) _ h).1 (omega arith) (omega arith)) here (cases_lt low u)
   where
     here : u ≤ low → p u ≡ true
-    here b = let same : low ≡ u = omega arith in subst (λ v. p v ≡ true) same (and_left (p low) _ h)
+    here b = let same : low ≡ u = omega arith in subst (λ v. p v ≡ true) same (and_parts (p low) _ h).0
 
 -- what passes at each number of a range passes at one in it
 within : (p : ℕ → Bool) (n low high u : ℕ) → low + n ≡ high + 1 → list_all p (from n low) ≡ true → is_in_range low high u ≡ true → p u ≡ true
 within p n low high u e h r =
-    let l : low ≤ u = let t = and_left (nat_le low u) (nat_le u high) r in grind (arith, nat_tests) in
-    let m : u ≤ high = let t = and_right (nat_le low u) (nat_le u high) r in grind (arith, nat_tests) in
+    let l : low ≤ u = let t = (and_parts (nat_le low u) (nat_le u high) r).0 in grind (arith, nat_tests) in
+    let m : u ≤ high = let t = (and_parts (nat_le low u) (nat_le u high) r).1 in grind (arith, nat_tests) in
     all_from p n low u h l (omega arith)
 
 either : (a b c : Bool) → (a ≡ true → c ≡ true) → (b ≡ true → c ≡ true) → (a || b) ≡ true → c ≡ true

@@ -3,7 +3,7 @@ use Rattle.std.proofs.Common.{◌≡◌, ◌∙◌, ℕ, ◌+◌, ◌-◌, ◌�
 use Rattle.std.specs.Prelude.{not, ◌&&◌, ◌||◌, ◌==◌, codes, bytes_eq, encode_utf8_all, IsUtf8}
 use Rattle.std.specs.List.{list_all, flat_map}
 use Rattle.std.specs.Char.Escape.{encode_utf16}
-use Rattle.std.proofs.lemmas.Bool.{eq-eqb}
+use Rattle.std.proofs.lemmas.Bool.{and_from, and_parts, eq-eqb}
 use Rattle.std.proofs.lemmas.List.Folds.{list_all-append}
 use Rattle.std.proofs.lemmas.Slice.Eq.{bytes_eq-Decides}
 use Rattle.std.proofs.lemmas.Str.{chars-encodes, encodes-append}
@@ -38,11 +38,10 @@ use Rattle.js_print.specs.Written.{can_be_written}
 use Rattle.js_print.proofs.Ascii.{space_is_ascii}
 use Rattle.js_print.proofs.Calm.{alone, stmts_calm}
 use Rattle.js_print.proofs.Controls.{lexeme_is_free, space_is_free}
-use Rattle.js_print.proofs.Literals.{and_left, and_right, and_both}
 use Rattle.js_print.proofs.Neighbours.{refused_behind, has, meets, calm, start, ends_with_less, begins_with_slash, no_slash_behind_less}
 use Rattle.js_print.proofs.PrintedScripts.{plain_tokens, are_tokens, lexemes_can_be_written, lexemes_derive_the_tree}
 use Rattle.js_print.proofs.ReadAgain.{written, written_are_ordinary, coded_has_no_tag}
-use Rattle.js_print.proofs.Scans.{scan, no_tag, lexeme_scan, spaced_scan}
+use Rattle.js_print.proofs.Scans.{scan, no_tag, lexeme_scan, spaced_scan, untagged}
 use Rattle.js_print.proofs.Strictness.{ends, spans}
 use Rattle.js_print.proofs.TokensOfText.{refuses, lexeme_is_read, next, space_is_gap, no_gap_at_end}
 use Rattle.js_print.proofs.Units.{lexeme_units, are_written, Coded, both_coded, ascii_is_coded, lexeme_is_coded, all_scalars, units_alone}
@@ -62,7 +61,7 @@ lined_is_coded [] ls after_word w = record { single = refl; coded = refl }
 lined_is_coded (x ∷ xs) ls after_word w =
     let g = gap (first_of ls) after_word (is_word x) in
     both_coded g g _ _ (ascii_is_coded g (gap_is_ascii (first_of ls) after_word (is_word x)))
-    (both_coded (lexeme_text x) (lexeme_units x) _ _ (lexeme_is_coded x (and_left _ _ w)) (lined_is_coded xs (others_of ls) (is_word x) (and_right _ _ w)))
+    (both_coded (lexeme_text x) (lexeme_units x) _ _ (lexeme_is_coded x (and_parts _ _ w).0) (lined_is_coded xs (others_of ls) (is_word x) (and_parts _ _ w).1))
 
 coded_is_utf8 : (text units : List ℕ) → Coded text units → IsUtf8 text
 coded_is_utf8 text units c = (units, (all_scalars units c.single, sym c.coded))
@@ -73,37 +72,33 @@ units_of_coded text units c = ap utf16_of c.coded ∙ ap (flat_map encode_utf16)
 -- ---- no end tag
 
 gap_scan : (x : Lexeme) (l after_word less : Bool) (rest : List ℕ) → is_ordinary x ≡ true → (l ≡ false → not (less && begins_with_slash x) ≡ true) → scan (ends_with_less x) rest ≡ true → scan less (gap l after_word (is_word x) ++ (lexeme_text x ++ rest)) ≡ true
-gap_scan x true after_word less rest o n h = behind less (lexeme_scan x false rest o refl h)
-  where
-    behind : (less : Bool) {more : Bool} → more ≡ true → (not (less && false) && more) ≡ true
-    behind true g = g
-    behind false g = g
+gap_scan x true after_word less rest o n h = untagged less false _ refl (lexeme_scan x false rest o refl h)
 gap_scan x false after_word less rest o n h = spaced_scan x after_word less rest o (n refl) h
 
 lined_scan : (xs : List Lexeme) (ls : List Bool) (before : Lexeme) (after_word : Bool) → list_all is_ordinary xs ≡ true → calm before xs ≡ true → scan (ends_with_less before) (lined_after after_word ls xs) ≡ true
 lined_scan [] ls before after_word o c = refl
 lined_scan (x ∷ xs) ls before after_word o c =
-    gap_scan x (first_of ls) after_word (ends_with_less before) (lined_after (is_word x) (others_of ls) xs) (and_left _ _ o) (λ e. no_slash_behind_less before x (and_left _ _ c))
-    (lined_scan xs (others_of ls) x (is_word x) (and_right _ _ o) (and_right _ _ c))
+    gap_scan x (first_of ls) after_word (ends_with_less before) (lined_after (is_word x) (others_of ls) xs) (and_parts _ _ o).0 (λ e. no_slash_behind_less before x (and_parts _ _ c).0)
+    (lined_scan xs (others_of ls) x (is_word x) (and_parts _ _ o).1 (and_parts _ _ c).1)
 
 -- ---- no control character
 
 free_is_lined : (us : List ℕ) → list_all is_free us ≡ true → list_all is_lined us ≡ true
 free_is_lined [] e = refl
-free_is_lined (u ∷ us) e = and_both _ _ (ap (λ b. b || (u == 10)) (and_left (is_free u) _ e)) (free_is_lined us (and_right (is_free u) _ e))
+free_is_lined (u ∷ us) e = and_from _ _ (ap (λ b. b || (u == 10)) (and_parts (is_free u) _ e).0) (free_is_lined us (and_parts (is_free u) _ e).1)
 
 gap_is_lined : (l a b : Bool) → list_all is_lined (gap l a b) ≡ true
 gap_is_lined true a b = refl
 gap_is_lined false a b = free_is_lined (space_between a b) (space_is_free a b)
 
 joined : (a b : List ℕ) → list_all is_lined a ≡ true → list_all is_lined b ≡ true → list_all is_lined (a ++ b) ≡ true
-joined a b f g = list_all-append is_lined a b ∙ and_both _ _ f g
+joined a b f g = list_all-append is_lined a b ∙ and_from _ _ f g
 
 units_are_lined : (xs : List Lexeme) (ls : List Bool) (after_word : Bool) → are_written xs ≡ true → list_all is_lined (lined_units after_word ls xs) ≡ true
 units_are_lined [] ls after_word w = refl
 units_are_lined (x ∷ xs) ls after_word w =
     joined (gap (first_of ls) after_word (is_word x)) _ (gap_is_lined (first_of ls) after_word (is_word x))
-    (joined (lexeme_units x) _ (free_is_lined (lexeme_units x) (lexeme_is_free x (and_left _ _ w))) (units_are_lined xs (others_of ls) (is_word x) (and_right _ _ w)))
+    (joined (lexeme_units x) _ (free_is_lined (lexeme_units x) (lexeme_is_free x (and_parts _ _ w).0)) (units_are_lined xs (others_of ls) (is_word x) (and_parts _ _ w).1))
 
 -- ---- tokens
 
@@ -132,7 +127,7 @@ lined_ends x ls (y ∷ ys) w c = by (first_of ls)
   where
     by : (l : Bool) → begins_with (refuses x) (gap l (is_word x) (is_word y) ++ (lexeme_units y ++ lined_units (is_word y) (others_of ls) ys)) ≡ false
     by true = line_feed_ends x
-    by false = next x y (lined_units (is_word y) (others_of ls) ys) (and_left _ _ w) (and_left _ _ c)
+    by false = next x y (lined_units (is_word y) (others_of ls) ys) (and_parts _ _ w).0 (and_parts _ _ c).0
 
 line_feed_is_gap : (behind : List ℕ) → separator_of (10 ∷ behind) ≡ Some (true, behind)
 unfolding separator_of is_white_space is_line_end
@@ -153,9 +148,9 @@ has_lined : (size : ℕ) (xs : List Lexeme) (ls : List Bool) (before : Lexeme) (
 has_lined size [] ls before after_word w c = no_tokens [] false (no_gap_more [] no_gap_at_end)
 has_lined size (x ∷ xs) ls before after_word w c =
     let rest = lined_units (is_word x) (others_of ls) xs in
-    let read = lexeme_is_read x rest (and_left _ _ w) (lined_ends x (others_of ls) xs (and_right _ _ w) (and_right (meets before x) _ c)) in
+    let read = lexeme_is_read x rest (and_parts _ _ w).0 (lined_ends x (others_of ls) xs (and_parts _ _ w).1 (and_parts (meets before x) _ c).1) in
     token_more (lined_units after_word ls (x ∷ xs)) (lexeme_units x ++ rest) rest (first_of ls) (kind_of x) (lined_from size (others_of ls) xs) (gap_is_gap (first_of ls) after_word (is_word x) (lexeme_units x ++ rest) read.no_gap) read.at
-    (has_lined size xs (others_of ls) x (is_word x) (and_right _ _ w) (and_right (meets before x) _ c))
+    (has_lined size xs (others_of ls) x (is_word x) (and_parts _ _ w).1 (and_parts (meets before x) _ c).1)
 
 -- ---- symbols
 
@@ -169,8 +164,8 @@ same_symbols : (size : ℕ) (behind : Lexeme) (ls : List Bool) (xs : List Lexeme
 same_symbols size behind ls [] h = refl
 same_symbols size behind ls (x ∷ xs) h =
     let s = symbol_of (kind_of x) in
-    let mark = put (first_of ls) (may_part (symbol_of (kind_of behind)) s) (and_left _ _ h) in
-    let more = same_symbols size x (others_of ls) xs (and_right (not (first_of ls) || may_part (symbol_of (kind_of behind)) s) _ h) in
+    let mark = put (first_of ls) (may_part (symbol_of (kind_of behind)) s) (and_parts _ _ h).0 in
+    let more = same_symbols size x (others_of ls) xs (and_parts (not (first_of ls) || may_part (symbol_of (kind_of behind)) s) _ h).1 in
     ap (λ (l : Bool). (s, l) ∷ lexemes (lined_from size (others_of ls) xs)) mark
     ∙ ap (λ (ts : List Found). (s, false || (may_part (symbol_of (kind_of behind)) s && first_of ls)) ∷ ts) more
 

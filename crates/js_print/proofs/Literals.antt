@@ -1,22 +1,12 @@
 -- The units of a string literal: the double quotes, what stands for itself, and the characters of escapes.
-use Rattle.std.proofs.Common.{◌≡◌, ◌∙◌, ℕ, ◌/◌, ◌%◌, ◌<◌, Bool, true, false, List, [], ◌∷◌, refl, ap, arith}
-use Rattle.std.specs.Prelude.{◌&&◌, ◌==◌, codes, if◌then◌else◌}
+use Rattle.std.proofs.Common.{◌≡◌, ◌∙◌, ℕ, ◌/◌, ◌%◌, ◌<◌, Bool, true, false, List, [], ◌∷◌, refl, arith}
+use Rattle.std.specs.Prelude.{◌==◌, codes, if◌then◌else◌}
 use Rattle.std.specs.List.{list_all, flat_map}
 use Rattle.std.specs.Char.{digit_char, to_ascii_uppercase}
 use Rattle.std.proofs.lemmas.List.Folds.{list_all-append}
+use Rattle.std.proofs.lemmas.Bool.{and_from}
 use Rattle.js_core.specs.LineText.{unit_escape}
 use Rattle.js_print.specs.Spelling.{is_plain, string_unit, string_text}
-
-pub and_left : (a b : Bool) → (a && b) ≡ true → a ≡ true
-and_left true b e = refl
-and_left false b e = e
-
-pub and_right : (a b : Bool) → (a && b) ≡ true → b ≡ true
-and_right true b e = e
-and_right false b e = absurd (cc)
-
-pub and_both : (a b : Bool) → a ≡ true → b ≡ true → (a && b) ≡ true
-and_both a b e f = ap (λ c. c && b) e ∙ f
 
 -- each hexadecimal digit passes
 abbrev DigitsPass : (ℕ → Bool) → Type 0
@@ -31,29 +21,29 @@ place_passes q digits p u = digits (u / p % 16) (omega arith)
 
 escape_passes : (q : ℕ → Bool) → DigitsPass q → q 92 ≡ true → q 117 ≡ true → (u : ℕ) → list_all q (unit_escape u) ≡ true
 escape_passes q digits b l u =
-    and_both _ _ b (and_both _ _ l (and_both _ _ (place_passes q digits 0x1000 u) (and_both _ _ (place_passes q digits 0x100 u) (and_both _ _ (place_passes q digits 0x10 u) (and_both _ _ (place_passes q digits 1 u) refl)))))
+    and_from _ _ b (and_from _ _ l (and_from _ _ (place_passes q digits 0x1000 u) (and_from _ _ (place_passes q digits 0x100 u) (and_from _ _ (place_passes q digits 0x10 u) (and_from _ _ (place_passes q digits 1 u) refl)))))
 
 unit_passes : (q : ℕ → Bool) → PlainPass q → DigitsPass q → q 34 ≡ true → q 92 ≡ true → q 117 ≡ true → (u : ℕ) → list_all q (string_unit u) ≡ true
 unit_passes q plain digits d b l u = by_plain (is_plain u) refl
   where
     by_backslash : (t : Bool) → list_all q (if t then codes "\\\\" else unit_escape u) ≡ true
-    by_backslash true = and_both _ _ b (and_both _ _ b refl)
+    by_backslash true = and_from _ _ b (and_from _ _ b refl)
     by_backslash false = escape_passes q digits b l u
 
     by_quote : (t : Bool) → list_all q (if t then codes "\\\"" else (if u == 0x5C then codes "\\\\" else unit_escape u)) ≡ true
-    by_quote true = and_both _ _ b (and_both _ _ d refl)
+    by_quote true = and_from _ _ b (and_from _ _ d refl)
     by_quote false = by_backslash (u == 0x5C)
 
     by_plain : (t : Bool) → is_plain u ≡ t → list_all q (if t then u ∷ [] else (if u == 0x22 then codes "\\\"" else (if u == 0x5C then codes "\\\\" else unit_escape u))) ≡ true
-    by_plain true e = and_both _ _ (plain u e) refl
+    by_plain true e = and_from _ _ (plain u e) refl
     by_plain false e = by_quote (u == 0x22)
 
 units_pass : (q : ℕ → Bool) → PlainPass q → DigitsPass q → q 34 ≡ true → q 92 ≡ true → q 117 ≡ true → (us : List ℕ) → list_all q (flat_map string_unit us) ≡ true
 units_pass q plain digits d b l [] = refl
 units_pass q plain digits d b l (u ∷ us) =
-    list_all-append q (string_unit u) (flat_map string_unit us) ∙ and_both _ _ (unit_passes q plain digits d b l u) (units_pass q plain digits d b l us)
+    list_all-append q (string_unit u) (flat_map string_unit us) ∙ and_from _ _ (unit_passes q plain digits d b l u) (units_pass q plain digits d b l us)
 
 -- each character of a literal passes, where digits, what stands for itself, `"`, a backslash and `u` do
 pub string_passes : (q : ℕ → Bool) → PlainPass q → DigitsPass q → q 34 ≡ true → q 92 ≡ true → q 117 ≡ true → (us : List ℕ) → list_all q (string_text us) ≡ true
 string_passes q plain digits d b l us =
-    and_both _ _ d (list_all-append q (flat_map string_unit us) (codes "\"") ∙ and_both _ _ (units_pass q plain digits d b l us) (and_both _ _ d refl))
+    and_from _ _ d (list_all-append q (flat_map string_unit us) (codes "\"") ∙ and_from _ _ (units_pass q plain digits d b l us) (and_from _ _ d refl))

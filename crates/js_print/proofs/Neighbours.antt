@@ -2,12 +2,12 @@
 use Rattle.std.proofs.Common.{◌≡◌, ℕ, Bool, true, false, List, [], ◌∷◌, refl}
 use Rattle.std.specs.Prelude.{not, ◌&&◌, ◌==◌, codes}
 use Rattle.std.specs.List.{list_any}
+use Rattle.std.proofs.lemmas.Bool.{and_from, and_parts}
 use Rattle.js_core.specs.declared.token.Punct.TheVariants as punct
 use Rattle.js_core.specs.Spelling.{punct_text}
 use Rattle.js_lexer.specs.Characters.{begins_with}
 use Rattle.js_print.specs.declared.lexeme.Lexeme.{Lexeme}
 use Rattle.js_print.specs.declared.lexeme.Lexeme.TheVariants.{Keyword, Name, Number, Text, Punct}
-use Rattle.js_print.proofs.Literals.{and_right, and_both}
 
 -- the units with which no punctuator behind the lexeme may begin
 abbrev pub refused_behind : Lexeme → List ℕ
@@ -74,7 +74,7 @@ free_meets x (Punct p) e = none_refused (refused_behind x) (punct_text p) e
 
 pub behind_free : (x : Lexeme) (ys : List Lexeme) → is_empty (refused_behind x) ≡ true → calm start ys ≡ true → calm x ys ≡ true
 behind_free x [] e h = refl
-behind_free x (y ∷ ys) e h = and_both _ _ (free_meets x y e) (and_right _ _ h)
+behind_free x (y ∷ ys) e h = and_from _ _ (free_meets x y e) (and_parts _ _ h).1
 
 abbrev pub begins_with_point : List Lexeme → Bool
 begins_with_point [] = false
@@ -87,7 +87,7 @@ number_meets n y e = refl
 
 pub behind_number : (n : _) (ys : List Lexeme) → begins_with_point ys ≡ false → calm start ys ≡ true → calm (Number n) ys ≡ true
 behind_number n [] e h = refl
-behind_number n (y ∷ ys) e h = and_both _ _ (number_meets n y e) (and_right _ _ h)
+behind_number n (y ∷ ys) e h = and_from _ _ (number_meets n y e) (and_parts _ _ h).1
 
 -- ---- what operands begin with
 

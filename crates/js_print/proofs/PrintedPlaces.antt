@@ -1,6 +1,7 @@
 -- What printing an expression gives, and then the same in a place.
 use Rattle.std.proofs.Common.{◌≡◌, ℕ, ◌≤◌, Bool, true, false, List, ◌∷◌, refl, subst, ◌∙◌}
-use Rattle.std.specs.Prelude.{not, ◌&&◌, if◌then◌else◌}
+use Rattle.std.specs.Prelude.{not, if◌then◌else◌}
+use Rattle.std.proofs.lemmas.Bool.{and_parts, not-true}
 use Rattle.js_core.specs.Tree as tree
 use Rattle.js_core.specs.declared.token.TokenKind.{TokenKind}
 use Rattle.js_core.specs.declared.token.Punct.TheVariants as punct
@@ -19,15 +20,6 @@ use Rattle.js_print.proofs.PrintedReads.{Exp, Body, Members, Assignments, Sequen
 -- a binary `in` stands only where `in` is an operator
 abbrev pub Suits : Bool → tree.Expr → Type 0
 Suits inn a = is_in_test a ≡ true → inn ≡ true
-
-both_are : (x y : Bool) → (x && y) ≡ true → (x ≡ true) × (y ≡ true)
-both_are true true e = (refl, refl)
-both_are true false e = absurd (cc)
-both_are false y e = absurd (cc)
-
-not_is : (x : Bool) → not x ≡ true → x ≡ false
-not_is true e = absurd (cc)
-not_is false e = refl
 
 suits_any : (inn : Bool) (a : tree.Expr) → is_in_test a ≡ false → Suits inn a
 suits_any inn a e f = absurd (cc)
@@ -99,16 +91,16 @@ module _ (Ok : TokenKind → Type 0) (keeps : Keeps Ok) where
   operand_opens {a} p = placed_opens Operand false (λ e x. simple_opens a e) p
 
   pub base_opens : {a : tree.Expr} → Printed a → Opens false (placed Base a (expr_lexemes a))
-  base_opens {a} p = placed_opens Base false (λ e x. simple_opens a (both_are (is_simple a) (not (is_number a)) e).0) p
+  base_opens {a} p = placed_opens Base false (λ e x. simple_opens a (and_parts (is_simple a) (not (is_number a)) e).0) p
 
   pub part_opens : {a : tree.Expr} → Printed a → Opens (is_braced a) (placed Part a (expr_lexemes a))
-  part_opens {a} p = placed_opens Part (is_braced a) (λ e x. one_opens a (not_is (is_comma a) (both_are (not (is_in_test a)) (not (is_comma a)) e).1) ∙ x) p
+  part_opens {a} p = placed_opens Part (is_braced a) (λ e x. one_opens a (not-true (is_comma a) (and_parts (not (is_in_test a)) (not (is_comma a)) e).1) ∙ x) p
 
   pub whole_opens : {a : tree.Expr} → Printed a → Opens true (placed Whole a (expr_lexemes a))
   whole_opens {a} p = placed_opens Whole true (λ e x. absurd (cc)) p
 
   pub statement_opens : {a : tree.Expr} → Printed a → Opens false (placed Statement a (expr_lexemes a))
-  statement_opens {a} p = placed_opens Statement false (λ e x. not_is (begins_as_statement a) (both_are (not (is_in_test a)) (not (begins_as_statement a)) e).1) p
+  statement_opens {a} p = placed_opens Statement false (λ e x. not-true (begins_as_statement a) (and_parts (not (is_in_test a)) (not (begins_as_statement a)) e).1) p
 
   pub operand : {a : tree.Expr} → Printed a → (c : Bool) × Reads (Members c) (placed Operand a (expr_lexemes a)) a
   operand {a} p = by (is_simple a) refl
@@ -121,7 +113,7 @@ module _ (Ok : TokenKind → Type 0) (keeps : Keeps Ok) where
   base {a} p = by (is_bare Base a) refl
     where
       by : (b : Bool) → is_bare Base a ≡ b → (c : Bool) × Reads (Members c) (if b then expr_lexemes a else parenthesised (expr_lexemes a)) a
-      by true e = let r = p.left (both_are (is_simple a) (not (is_number a)) e).0 in (r.0, r.2)
+      by true e = let r = p.left (and_parts (is_simple a) (not (is_number a)) e).0 in (r.0, r.2)
       by false e = (false, in_parentheses p)
 
   name_simple : (a : tree.Expr) → is_name a ≡ true → is_simple a ≡ true
@@ -141,9 +133,9 @@ module _ (Ok : TokenKind → Type 0) (keeps : Keeps Ok) where
     where
       by : (b : Bool) → is_bare Part a ≡ b → (g : Bool) × ((inn : Bool) → Reads (Assignments inn g) (if b then expr_lexemes a else parenthesised (expr_lexemes a)) a)
       by true e =
-          let h = both_are (not (is_in_test a)) (not (is_comma a)) e in
-          let r = p.part (not_is (is_comma a) h.1) in
-          (r.0, λ inn. r.1 inn (suits_any inn a (not_is (is_in_test a) h.0)))
+          let h = and_parts (not (is_in_test a)) (not (is_comma a)) e in
+          let r = p.part (not-true (is_comma a) h.1) in
+          (r.0, λ inn. r.1 inn (suits_any inn a (not-true (is_in_test a) h.0)))
       by false e = (true, λ inn. read_as (Assignments inn true) (λ d x z h. assignment_of_member (Exp d) (Body d) inn false h) (in_parentheses p))
 
   grouped_whole : (inn : Bool) {a : tree.Expr} → Printed a → (g : Bool) × Reads (Sequences inn g) (parenthesised (expr_lexemes a)) a
@@ -153,7 +145,7 @@ module _ (Ok : TokenKind → Type 0) (keeps : Keeps Ok) where
   whole_of inn {a} p = by (is_bare Whole a) refl
     where
       by : (b : Bool) → is_bare Whole a ≡ b → (g : Bool) × Reads (Sequences inn g) (if b then expr_lexemes a else parenthesised (expr_lexemes a)) a
-      by true e = (p.whole.0, p.whole.1 inn (suits_any inn a (not_is (is_in_test a) e)))
+      by true e = (p.whole.0, p.whole.1 inn (suits_any inn a (not-true (is_in_test a) e)))
       by false e = grouped_whole inn p
 
   pub statement_of : {a : tree.Expr} → Printed a → (g : Bool) × Reads (Sequences true g) (placed Statement a (expr_lexemes a)) a

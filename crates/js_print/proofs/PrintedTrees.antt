@@ -2,6 +2,7 @@
 use Rattle.std.proofs.Common.{◌≡◌, ℕ, zero, suc, ◌≤◌, Bool, true, false, List, [], ◌∷◌, ◌++◌, Option, Some, None, refl, sym, subst, ap, arith}
 use Rattle.std.specs.Prelude.{if◌then◌else◌, not, ◌&&◌, ◌||◌, is_some, IsTrue}
 use Rattle.std.specs.List.{list_all}
+use Rattle.std.proofs.lemmas.Bool.{and_parts}
 use Rattle.js_core.specs.Tree as tree
 use Rattle.js_core.specs.Tree.{exprs_of, maybe_expr, holes_of, fields_of, stmts_of}
 use Rattle.js_core.specs.Spelling.{keyword_of, is_unused_word}
@@ -29,7 +30,6 @@ use Rattle.js_grammar.proofs.Callers.{same_one_default}
 use Rattle.js_print.specs.declared.lexeme.Lexeme.{Lexeme}
 use Rattle.js_print.specs.Lexemes.{maybe_name, stmts_lexemes}
 use Rattle.js_print.specs.Operators.{assign_punct}
-use Rattle.js_print.proofs.Literals.{and_left, and_right}
 use Rattle.js_print.proofs.Reserved.{keyword_can_be_written}
 use Rattle.js_print.proofs.PrintedSymbols.{before, Keeps, AreKept, IsIdentifier, IsName, keyword_spelled}
 use Rattle.js_print.proofs.PrintedReads.{Exp, Body, Stm, Each}
@@ -59,7 +59,7 @@ free_symbol w None e = by (is_unused_word w) e
     by false e = refl
 
 identified : (w : List ℕ) → is_identifier w ≡ true → IsIdentifier Ok w
-identified w h = (free_symbol w (keyword_of w) (and_right (can_be_written (kind.Word w)) _ h), and_left _ _ h)
+identified w h = (free_symbol w (keyword_of w) (and_parts (can_be_written (kind.Word w)) _ h).1, (and_parts _ _ h).0)
 
 member_symbol : (w : List ℕ) (o : Option Reserved) → keyword_of w ≡ o → member_name (word_symbol w o) ≡ Some w
 member_symbol w (Some k) e = ap (λ v. Some v) (sym (keyword_spelled w k e))
@@ -71,7 +71,7 @@ member_symbol w None e = by (is_unused_word w)
 
 all_identified : (ws : List (List ℕ)) → list_all is_identifier ws ≡ true → Each (IsIdentifier Ok) ws
 all_identified [] h = tt
-all_identified (w ∷ ws) h = (identified w (and_left _ _ h), all_identified ws (and_right (is_identifier w) _ h))
+all_identified (w ∷ ws) h = (identified w (and_parts _ _ h).0, all_identified ws (and_parts (is_identifier w) _ h).1)
 
 assigned : (f : Option BinaryOp) → assigns f ≡ true → assignment_of (Some (signs.Mark (assign_punct f))) ≡ Some f
 assigned None e = refl
@@ -335,4 +335,4 @@ function_printed own formals body h = code_printed own formals h.1 (elements_fou
 -- the name of a function among lexemes
 pub own_kept : (own : Option (List ℕ)) (xs : List Lexeme) → is_maybe_identifier own ≡ true → AreKept Ok xs → AreKept Ok (maybe_name own ++ xs)
 own_kept None xs h k = k
-own_kept (Some w) xs h k = (and_left _ _ h, k)
+own_kept (Some w) xs h k = ((and_parts _ _ h).0, k)

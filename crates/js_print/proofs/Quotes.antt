@@ -4,6 +4,7 @@ use Rattle.std.specs.Prelude.{◌==◌, codes, if◌then◌else◌}
 use Rattle.std.specs.Char.{digit_value, digit_char, to_ascii_uppercase}
 use Rattle.std.specs.List.{list_all, flat_map}
 use Rattle.std.proofs.lemmas.Bool.Decides.{nat_tests}
+use Rattle.std.proofs.lemmas.Bool.{and_parts}
 use Rattle.js_core.specs.Characters.{is_line_end}
 use Rattle.js_core.specs.LineText.{unit_escape, hex_digit_of}
 use Rattle.js_core.specs.declared.token.TokenKind.TheVariants as kind
@@ -14,7 +15,6 @@ use Rattle.js_lexer.specs.Tokens.{TokenAt}
 use Rattle.js_lexer.specs.Tokens.TokenAt.{string}
 use Rattle.js_print.specs.Spelling.{is_plain, string_unit, string_text}
 use Rattle.js_print.specs.Written.{is_unit}
-use Rattle.js_print.proofs.Literals.{and_left, and_right}
 
 -- ---- digits
 
@@ -81,7 +81,7 @@ closes (u ∷ us) rest l =
     let more = flat_map string_unit us in
     let apart : (((string_unit u ++ more) ++ codes "\"") ++ rest) ≡ string_unit u ++ ((more ++ codes "\"") ++ rest) =
     ap (λ x. x ++ rest) (append_assoc (string_unit u) more (codes "\"")) ∙ append_assoc (string_unit u) (more ++ codes "\"") rest in
-    later _ ((more ++ codes "\"") ++ rest) rest (Some u) us (ap (character_of 34) apart ∙ unit_is_read u ((more ++ codes "\"") ++ rest) (and_left (is_unit u) _ l)) (closes us rest (and_right (is_unit u) _ l))
+    later _ ((more ++ codes "\"") ++ rest) rest (Some u) us (ap (character_of 34) apart ∙ unit_is_read u ((more ++ codes "\"") ++ rest) (and_parts (is_unit u) _ l).0) (closes us rest (and_parts (is_unit u) _ l).1)
 
 pub string_stands : (us rest : List ℕ) → list_all is_unit us ≡ true → TokenAt (string_text us ++ rest) rest (kind.Text us)
 string_stands us rest l = string 34 ((flat_map string_unit us ++ codes "\"") ++ rest) rest us refl (closes us rest l)

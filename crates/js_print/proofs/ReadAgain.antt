@@ -6,6 +6,7 @@ use Rattle.std.proofs.lemmas.List.{append_cancel_left}
 use Rattle.std.proofs.lemmas.List.Sums.{list_all-from_AllPass}
 use Rattle.std.proofs.lemmas.Result.{on_ok_weaker}
 use Rattle.std.proofs.lemmas.Str.{encodes-append, encode_ascii}
+use Rattle.std.proofs.lemmas.Bool.{and_from, and_parts}
 use Rattle.js_core.specs.Spelling.{punct_text}
 use Rattle.js_core.specs.Tree as tree
 use Rattle.js_core.specs.declared.token.Punct.{Punct as Sign}
@@ -21,7 +22,6 @@ use Rattle.js_print.specs.Spelling.{is_word, lexeme_text, space_between, text_af
 use Rattle.js_print.specs.Written.{can_be_written, CanBeWritten}
 use Rattle.js_print.proofs.Calm.{alone, stmts_calm}
 use Rattle.js_print.proofs.Controls.{written_has_no_control}
-use Rattle.js_print.proofs.Literals.{and_left, and_right, and_both}
 use Rattle.js_print.proofs.Neighbours.{calm, start}
 use Rattle.js_print.proofs.Ordinary.{written_is_ordinary}
 use Rattle.js_print.proofs.PrintedScripts.{lexemes_derive_the_tree, lexemes_can_be_written}
@@ -34,7 +34,7 @@ use Rattle.js_print.proofs.Units.{Coded, units_after, are_written, text_is_coded
 
 pub written_are_ordinary : (xs : List Lexeme) → are_written xs ≡ true → list_all is_ordinary xs ≡ true
 written_are_ordinary [] w = refl
-written_are_ordinary (x ∷ xs) w = and_both _ _ (written_is_ordinary x (and_left _ _ w)) (written_are_ordinary xs (and_right (can_be_written (kind_of x)) _ w))
+written_are_ordinary (x ∷ xs) w = and_from _ _ (written_is_ordinary x (and_parts _ _ w).0) (written_are_ordinary xs (and_parts (can_be_written (kind_of x)) _ w).1)
 
 pub written : (xs : List Lexeme) → CanBeWritten xs → are_written xs ≡ true
 written xs w = list_all-from_AllPass (λ x. can_be_written (kind_of x)) xs w

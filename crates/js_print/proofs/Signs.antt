@@ -2,7 +2,7 @@
 use Rattle.std.proofs.Common.{◌≡◌, ℕ, zero, suc, ◌<◌, ◌≤◌, Bool, true, false, List, [], ◌∷◌, ◌++◌, length, get_or, None, refl, ap, subst, ⊎_elim, length-append, arith}
 use Rattle.std.specs.Prelude.{◌||◌, ◌==◌, codes}
 use Rattle.std.specs.List.{list_any}
-use Rattle.std.proofs.lemmas.Bool.{cases_lt}
+use Rattle.std.proofs.lemmas.Bool.{cases_lt, or_parts}
 use Rattle.std.proofs.lemmas.Bool.Decides.{nat_tests}
 use Rattle.js_core.specs.Characters.{is_white_space, is_line_end}
 use Rattle.js_core.specs.declared.token.Punct.{Punct as Sign}
@@ -20,16 +20,8 @@ use Rattle.js_print.proofs.Neighbours.{refused_behind, has}
 
 none_at : (f : Sign → Bool) (ps : List Sign) (k : ℕ) (d : Sign) → list_any f ps ≡ false → k < length ps → f (get_or ps k d) ≡ false
 none_at f [] k d e l = absurd (omega arith)
-none_at f (p ∷ ps) zero d e l = left_of (f p) (list_any f ps) e
-  where
-    left_of : (a b : Bool) → (a || b) ≡ false → a ≡ false
-    left_of true b e = absurd (cc)
-    left_of false b e = refl
-none_at f (p ∷ ps) (suc k) d e l = none_at f ps k d (right_of (f p) (list_any f ps) e) (omega arith)
-  where
-    right_of : (a b : Bool) → (a || b) ≡ false → b ≡ false
-    right_of true b e = absurd (cc)
-    right_of false b e = e
+none_at f (p ∷ ps) zero d e l = (or_parts (f p) (list_any f ps) e).0
+none_at f (p ∷ ps) (suc k) d e l = none_at f ps k d (or_parts (f p) (list_any f ps) e).1 (omega arith)
 
 none_of_all : (f : Sign → Bool) → list_any f punctuators ≡ false → (p : Sign) → f p ≡ false
 none_of_all f e p = let place = place_of p in subst (λ q. f q ≡ false) place.there (none_at f punctuators place.place punct.LeftBrace e place.below)

@@ -4,6 +4,7 @@ use Rattle.std.specs.Prelude.{not, ◌&&◌, ◌||◌, ◌==◌}
 use Rattle.std.specs.List.{list_all}
 use Rattle.std.proofs.lemmas.Bool.Decides.{nat_tests}
 use Rattle.std.proofs.lemmas.List.Sums.{list_all-from_AllPass}
+use Rattle.std.proofs.lemmas.Bool.{and_parts, not-true}
 use Rattle.js_core.specs.Characters.{is_white_space, is_line_end}
 use Rattle.js_core.specs.Spelling.{keyword_text, punct_text}
 use Rattle.js_core.specs.Text.{utf16_of}
@@ -24,7 +25,6 @@ use Rattle.js_print.specs.ReadBack.{kind_of, AreTokensOf}
 use Rattle.js_print.specs.ReadBack.AreTokensOf.{none as none_of_them, more as more_of_them}
 use Rattle.js_print.specs.Spelling.{is_word, space_between, text_after}
 use Rattle.js_print.specs.Written.{can_be_written, is_identifier_name, CanBeWritten, IsReadBack}
-use Rattle.js_print.proofs.Literals.{and_left, and_right}
 use Rattle.js_print.proofs.Neighbours.{refused_behind, has, meets, calm, start}
 use Rattle.js_print.proofs.Quotes.{string_stands}
 use Rattle.js_print.proofs.Signs.{sign_stands, no_gap_before_sign}
@@ -56,10 +56,10 @@ number_is_read n rest w ends = absurd (cc)
 
 pub lexeme_is_read : (x : Lexeme) (rest : List ℕ) → can_be_written (kind_of x) ≡ true → begins_with (refuses x) rest ≡ false → Read x rest
 lexeme_is_read (Keyword k) rest w ends =
-    record { no_gap = no_gap_before_start (keyword_text k) rest (and_left _ _ (keyword_is_name k)); at = word_stands (keyword_text k) rest (keyword_is_name k) ends }
+    record { no_gap = no_gap_before_start (keyword_text k) rest (and_parts _ _ (keyword_is_name k)).0; at = word_stands (keyword_text k) rest (keyword_is_name k) ends }
 lexeme_is_read (Name x) rest w ends =
-    let is_name = and_left (is_identifier_name x) _ w in
-    record { no_gap = no_gap_before_start x rest (and_left _ _ is_name); at = word_stands x rest is_name ends }
+    let is_name = (and_parts (is_identifier_name x) _ w).0 in
+    record { no_gap = no_gap_before_start x rest (and_parts _ _ is_name).0; at = word_stands x rest is_name ends }
 lexeme_is_read (Number n) rest w ends = number_is_read n rest w ends
 lexeme_is_read (Text t) rest w ends = record { no_gap = quote_is_no_gap _; at = string_stands t rest w }
 lexeme_is_read (Punct p) rest w ends = record { no_gap = no_gap_before_sign p rest ends; at = punctuator (punct_text p ++ rest) rest p (sign_stands p rest ends) }
@@ -107,10 +107,10 @@ marks_alone p = refl
 
 had_passes : (q : ℕ → Bool) (us : List ℕ) (u : ℕ) → list_all q us ≡ true → has us u ≡ true → q u ≡ true
 had_passes q [] u e h = absurd (cc)
-had_passes q (v ∷ vs) u e h = by_case (u == v) refl h (had_passes q vs u (and_right (q v) _ e))
+had_passes q (v ∷ vs) u e h = by_case (u == v) refl h (had_passes q vs u (and_parts (q v) _ e).1)
   where
     by_case : (b : Bool) → (u == v) ≡ b → (b || has vs u) ≡ true → (has vs u ≡ true → q u ≡ true) → q u ≡ true
-    by_case true s h more = let same : v ≡ u = grind (arith, nat_tests) in subst (λ w. q w ≡ true) same (and_left (q v) _ e)
+    by_case true s h more = let same : v ≡ u = grind (arith, nat_tests) in subst (λ w. q w ≡ true) same (and_parts (q v) _ e).0
     by_case false s h more = more h
 
 refused_is_mark : (p : Sign) (u : ℕ) → is_mark u ≡ false → has (refused_behind (Punct p)) u ≡ false
@@ -155,11 +155,7 @@ sign_ends_sign p q us h = begun (punct_text q) (has_first q) h
 
     begun : (cs : List ℕ) → begins_with (λ u. true) cs ≡ true → not (begins_with (has (refused_behind (Punct p))) cs) ≡ true → begins_with (has (refused_behind (Punct p))) (cs ++ us) ≡ false
     begun [] f h = absurd (cc)
-    begun (c ∷ cs) f h = is_false (has (refused_behind (Punct p)) c) h
-      where
-        is_false : (b : Bool) → not b ≡ true → b ≡ false
-        is_false true h = absurd (cc)
-        is_false false h = refl
+    begun (c ∷ cs) f h = not-true (has (refused_behind (Punct p)) c) h
 
 behind_word : (y : Lexeme) (more : List ℕ) → begins_with is_identifier_part (space_between true (is_word y) ++ (lexeme_units y ++ more)) ≡ false
 behind_word (Keyword k) more = space_ends_word
@@ -176,8 +172,8 @@ behind_number n (Text t) more h = quote_ends_number
 behind_number n (Punct p) more h = sign_ends_number n p more h
 
 behind_sign : (p : Sign) (y : Lexeme) (more : List ℕ) → can_be_written (kind_of y) ≡ true → meets (Punct p) y ≡ true → begins_with (has (refused_behind (Punct p))) (space_between false (is_word y) ++ (lexeme_units y ++ more)) ≡ false
-behind_sign p (Keyword k) more w h = start_ends_sign p (keyword_text k) more (and_left _ _ (keyword_is_name k))
-behind_sign p (Name x) more w h = start_ends_sign p x more (and_left _ _ (and_left (is_identifier_name x) _ w))
+behind_sign p (Keyword k) more w h = start_ends_sign p (keyword_text k) more (and_parts _ _ (keyword_is_name k)).0
+behind_sign p (Name x) more w h = start_ends_sign p x more (and_parts _ _ (and_parts (is_identifier_name x) _ w).0).0
 behind_sign p (Number n) more w h = number_ends_sign p n more w
 behind_sign p (Text t) more w h = quote_ends_sign p
 behind_sign p (Punct q) more w h = sign_ends_sign p q more h
@@ -191,7 +187,7 @@ next (Punct p) y more w h = behind_sign p y more w h
 
 ends : (x : Lexeme) (xs : List Lexeme) → are_written xs ≡ true → calm x xs ≡ true → begins_with (refuses x) (units_after (is_word x) xs) ≡ false
 ends x [] w c = refl
-ends x (y ∷ ys) w c = next x y (units_after (is_word y) ys) (and_left _ _ w) (and_left _ _ c)
+ends x (y ∷ ys) w c = next x y (units_after (is_word y) ys) (and_parts _ _ w).0 (and_parts _ _ c).0
 
 -- ---- all lexemes
 
@@ -220,9 +216,9 @@ has_tokens : (size : ℕ) (xs : List Lexeme) (before : Lexeme) (after_word : Boo
 has_tokens size [] before after_word w c = no_tokens [] false (no_gap_more [] no_gap_at_end)
 has_tokens size (x ∷ xs) before after_word w c =
     let rest = units_after (is_word x) xs in
-    let read = lexeme_is_read x rest (and_left _ _ w) (ends x xs (and_right _ _ w) (and_right (meets before x) _ c)) in
+    let read = lexeme_is_read x rest (and_parts _ _ w).0 (ends x xs (and_parts _ _ w).1 (and_parts (meets before x) _ c).1) in
     token_more (units_after after_word (x ∷ xs)) (lexeme_units x ++ rest) rest false (kind_of x) (tokens_from size xs) (space_is_gap after_word (is_word x) (lexeme_units x ++ rest) read.no_gap) read.at
-    (has_tokens size xs x (is_word x) (and_right _ _ w) (and_right (meets before x) _ c))
+    (has_tokens size xs x (is_word x) (and_parts _ _ w).1 (and_parts (meets before x) _ c).1)
 
 pub calm_tokens : (xs : List Lexeme) → CanBeWritten xs → calm start xs ≡ true → Tokens (utf16_of (text_after false xs)) (tokens_from (length (units_after false xs)) xs)
 calm_tokens xs written c =

@@ -6,6 +6,7 @@ use Rattle.std.specs.Int.{is_in_range}
 use Rattle.std.specs.List.{list_all}
 use Rattle.std.specs.Str.Parse.{digits_value}
 use Rattle.std.proofs.lemmas.Bool.Decides.{nat_tests}
+use Rattle.std.proofs.lemmas.Bool.{and_from, and_parts}
 use Rattle.js_core.specs.Characters.{is_white_space, is_line_end}
 use Rattle.js_core.specs.Spelling.{keyword_text}
 use Rattle.js_core.specs.Whole.{largest}
@@ -21,7 +22,6 @@ use Rattle.js_lexer.proofs.Callers.{start_of_ascii, start_is_part}
 use Rattle.js_print.specs.Written.{is_identifier_name}
 use Rattle.js_print.proofs.Decimals.{decimal_has_digits, decimal_writes, decimal_is_not_empty, zero_is, first_is_not_zero}
 use Rattle.js_print.proofs.Identifiers.{start_is_no_space}
-use Rattle.js_print.proofs.Literals.{and_left, and_right, and_both}
 
 -- ---- reserved words
 
@@ -35,7 +35,7 @@ letter_is_start u e =
 
 letters_are_parts : (us : List ℕ) → list_all is_letter us ≡ true → list_all is_identifier_part us ≡ true
 letters_are_parts [] e = refl
-letters_are_parts (u ∷ us) e = and_both _ _ (start_is_part u (letter_is_start u (and_left _ _ e))) (letters_are_parts us (and_right (is_letter u) _ e))
+letters_are_parts (u ∷ us) e = and_from _ _ (start_is_part u (letter_is_start u (and_parts _ _ e).0)) (letters_are_parts us (and_parts (is_letter u) _ e).1)
 
 letters_begin : (us : List ℕ) → begins_with is_letter us ≡ true → begins_with is_identifier_start us ≡ true
 letters_begin [] e = absurd (cc)
@@ -50,12 +50,12 @@ keyword_has_letters keyword.Break = refl
 keyword_has_letters k = refl
 
 pub keyword_is_name : (k : Keyword) → is_identifier_name (keyword_text k) ≡ true
-keyword_is_name k = and_both _ _ (letters_begin _ (keyword_begins k)) (letters_are_parts _ (keyword_has_letters k))
+keyword_is_name k = and_from _ _ (letters_begin _ (keyword_begins k)) (letters_are_parts _ (keyword_has_letters k))
 
 -- ---- words
 
 pub word_stands : (w rest : List ℕ) → is_identifier_name w ≡ true → begins_with is_identifier_part rest ≡ false → TokenAt (w ++ rest) rest (kind.Word w)
-word_stands w rest e ends = word (w ++ rest) w rest (record { joined = refl; starts = and_left _ _ e; goes_on = and_right (begins_with is_identifier_start w) _ e; ends = ends })
+word_stands w rest e ends = word (w ++ rest) w rest (record { joined = refl; starts = (and_parts _ _ e).0; goes_on = (and_parts (begins_with is_identifier_start w) _ e).1; ends = ends })
 
 pub no_gap_before_start : (us rest : List ℕ) → begins_with is_identifier_start us ≡ true → separator_of (us ++ rest) ≡ None
 unfolding separator_of
@@ -85,7 +85,7 @@ number_stands n rest e ends =
 
 digits_begin : (ds : List ℕ) → list_all (λ u. is_digit u 10) ds ≡ true → 0 < length ds → begins_with is_decimal_digit ds ≡ true
 digits_begin [] e l = absurd (omega arith)
-digits_begin (u ∷ us) e l = and_left _ _ e
+digits_begin (u ∷ us) e l = (and_parts _ _ e).0
 
 pub decimal_begins : (n : ℕ) → nat_le n largest ≡ true → begins_with is_decimal_digit (decimal n) ≡ true
 decimal_begins n e = digits_begin (decimal n) (decimal_has_digits n e) (decimal_is_not_empty n e)
