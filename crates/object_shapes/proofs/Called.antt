@@ -1,6 +1,6 @@
 -- Calls on one object keep what each edit of its properties keeps.
 use Rattle.std.proofs.Common.{◌≡◌, refl, sym, ap, ◌∙◌, ℕ, ◌+◌, pos, Bool, true, false, ◌&&◌, not, List, [], ◌∷◌, Option, Some, None, unwrap_or, nat_le, nat_lt, bytes_eq, if◌then◌else◌}
-use Rattle.std.proofs.lemmas.Bool.{and_parts}
+use Rattle.std.proofs.lemmas.Bool.{and_parts, not-true}
 use Rattle.std.proofs.lemmas.Slice.Eq.{bytes_eq-Decides}
 use Rattle.std.specs.Prelude.{cond}
 use Rattle.js_values.specs.declared.throw.Throw.{Throw}
@@ -196,13 +196,9 @@ module _ (n : ℕ) (Allowed : List ℕ → Type 0) (P : Props → Type 0) where
   call_stays list r o (putting can name v) e a small h =
       stays_if (not (is_closed_at o name) && can) _ _
       (λ may. define_stays list r CannotSet o name (put_change v (own_property o.props name)) e
-      (a (open_place (is_closed_at o name) (and_parts (not (is_closed_at o name)) can may).0))
+      (a (not-true (is_closed_at o name) (and_parts (not (is_closed_at o name)) can may).0))
       (put_small n v (own_property o.props name) small) h)
       (λ refused. h)
-    where
-      open_place : (b : Bool) → not b ≡ true → b ≡ false
-      open_place true g = cc g
-      open_place false g = refl
   call_stays list r o (defining name change) e a small h =
       stays_if (is_closed_at o name) _ _ (λ refused. h) (λ may. define_stays list r CannotDefine o name change e (a may) small h)
   call_stays list r o (deleting name) e a small h =

@@ -1,6 +1,6 @@
 -- Pages whose objects refer to places below a bound, with their shapes; and functions, whose lengths stay.
 use Rattle.std.proofs.Common.{◌≡◌, ◌⊎◌, inl, inr, refl, sym, ap, subst, ◌∙◌, ℕ, zero, suc, ◌-◌, ◌<◌, ◌≤◌, pos, Bool, true, false, ◌&&◌, not, IsTrue, nat_le, nat_lt, List, [], ◌∷◌, Some, length, bytes_eq, if◌then◌else◌, arith}
-use Rattle.std.proofs.lemmas.Bool.{and_from, and_parts, cases_lt, le-leb, leb-true, lt-ltb, ltb-true}
+use Rattle.std.proofs.lemmas.Bool.{and_from, and_parts, cases_lt, le-leb, leb-true, lt-ltb, ltb-true, not-true}
 use Rattle.std.proofs.lemmas.Slice.Eq.{bytes_eq-Decides}
 use Rattle.code_table.specs.Declarations.{formals_of}
 use Rattle.js_values.specs.declared.ids.ObjId.{ObjId}
@@ -126,19 +126,15 @@ count_of : (v : Value) → is_count v ≡ true → v ≡ number (number_in v)
 count_of (Num (Some (pos m))) h = refl
 count_of v h = cc h
 
-is_false : (b : Bool) → not b ≡ true → b ≡ false
-is_false true h = cc h
-is_false false h = refl
-
 fixed_prop : (p : Prop) → is_fixed_count p ≡ true → p ≡ fixed (number (number_in p.value))
 fixed_prop p h =
     let one = and_parts (is_count p.value) (not p.writable && (not p.enumerable && not p.configurable)) h in
     let two = and_parts (not p.writable) (not p.enumerable && not p.configurable) one.1 in
     let three = and_parts (not p.enumerable) (not p.configurable) two.1 in
     let value : p.value ≡ number (number_in p.value) = count_of p.value one.0 in
-    let writable : p.writable ≡ false = is_false p.writable two.0 in
-    let enumerable : p.enumerable ≡ false = is_false p.enumerable three.0 in
-    let configurable : p.configurable ≡ false = is_false p.configurable three.1 in
+    let writable : p.writable ≡ false = not-true p.writable two.0 in
+    let enumerable : p.enumerable ≡ false = not-true p.enumerable three.0 in
+    let configurable : p.configurable ≡ false = not-true p.configurable three.1 in
     (λ j. record { value = value j; writable = writable j; enumerable = enumerable j; configurable = configurable j })
 
 begins_length : (props : Props) → begins_fixed props ≡ true → SomeLength props

@@ -1,6 +1,6 @@
 -- What a call does to the properties of an object, edit by edit: what each edit keeps is kept by the call.
 use Rattle.std.proofs.Common.{◌≡◌, refl, sym, ap, ◌∙◌, ℕ, ℤ, Bool, true, false, ◌&&◌, ◌||◌, not, List, [], ◌∷◌, ◌++◌, Option, Some, None, unwrap_or, bytes_eq}
-use Rattle.std.proofs.lemmas.Bool.{and_parts, eqb-true}
+use Rattle.std.proofs.lemmas.Bool.{and_parts, eqb-true, not-true}
 use Rattle.std.proofs.lemmas.Bool.Decides.{Decides-int_eq}
 use Rattle.std.proofs.lemmas.Slice.Eq.{bytes_eq-Decides}
 use Rattle.std.specs.Option.{option_eq}
@@ -44,15 +44,11 @@ same_number (Some a) (Some b) h = ap Some ((Decides-int_eq a b).0 h)
 same_number None (Some b) h = cc h
 same_number (Some a) None h = cc h
 
-not_true : (b : Bool) → not b ≡ true → b ≡ false
-not_true true h = cc
-not_true false h = refl
-
 same_value_same : (v w : Value) → same_value v w ≡ true → v ≡ w
 same_value_same Undefined Undefined h = refl
 same_value_same Null Null h = refl
 same_value_same (Truth true) (Truth b) h = ap Truth (sym h)
-same_value_same (Truth false) (Truth b) h = ap Truth (sym (not_true b h))
+same_value_same (Truth false) (Truth b) h = ap Truth (sym (not-true b h))
 same_value_same (Num a) (Num b) h = ap Num (same_number a b h)
 same_value_same (Text a) (Text b) h = ap Text ((bytes_eq-Decides a b).0 h)
 same_value_same (At a) (At b) h = ap (λ n. At (record { 0 = n })) (eqb-true a.0 b.0 h)
@@ -81,7 +77,7 @@ asked p change fixed may =
     let parts = and_parts (not (asks change.configurable) && keeps change.enumerable p.enumerable)
     (p.writable || (not (asks change.writable) && keeps_value change.value p.value)) all in
     let flags = and_parts (not (asks change.configurable)) (keeps change.enumerable p.enumerable) parts.0 in
-    let configurable : unwrap_or change.configurable p.configurable ≡ false = ap (unwrap_or change.configurable) fixed ∙ not_true
+    let configurable : unwrap_or change.configurable p.configurable ≡ false = ap (unwrap_or change.configurable) fixed ∙ not-true
     (asks change.configurable) flags.0 in
     let enumerable = keeps_same change.enumerable p.enumerable flags.1 in
     record {
@@ -91,7 +87,7 @@ asked p change fixed may =
           let rest = and_parts (not (asks change.writable)) (keeps_value change.value p.value) (rw locked at parts.1) in
           let value = keeps_value_same change.value p.value rest.1 in
           let writable : unwrap_or change.writable p.writable ≡ p.writable =
-          ap (unwrap_or change.writable) locked ∙ not_true (asks change.writable) rest.0 ∙ sym locked
+          ap (unwrap_or change.writable) locked ∙ not-true (asks change.writable) rest.0 ∙ sym locked
           in
           let settled : unwrap_or change.configurable p.configurable ≡ p.configurable = configurable ∙ sym fixed in
           (λ j. record { value = value j; writable = writable j; enumerable = enumerable j; configurable = settled j });
