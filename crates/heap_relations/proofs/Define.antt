@@ -1,6 +1,6 @@
 -- What is tried on two objects that are related leaves them related, and throws the same (ECMA-262 5.1 sections 8.12
 -- and 15.4.5.1).
-use Rattle.std.proofs.Common.{◌≡◌, refl, ap, ◌∙◌, ℕ, ◌+◌, Bool, true, false, ◌&&◌, ◌||◌, List, [], ◌∷◌, ◌++◌, Option, Some, None, if◌then◌else◌, nat_lt, nat_le, bytes_eq}
+use Rattle.std.proofs.Common.{◌≡◌, refl, ap, ◌∙◌, ℕ, ◌+◌, Bool, true, false, ◌&&◌, List, [], ◌∷◌, ◌++◌, Option, Some, None, if◌then◌else◌, nat_lt, nat_le, bytes_eq}
 use Rattle.js_values.specs.declared.throw.Throw.{Throw}
 use Rattle.js_values.specs.declared.throw.Throw.TheVariants.{CannotDefine, CannotDelete, CannotSet, InvalidLength}
 use Rattle.js_values.specs.declared.value.Value.{Value}
@@ -27,12 +27,6 @@ done_rel h = record { after = h; thrown = refl }
 
 throws_rel : {A : Type 0} {R : A → A → Type 0} {a b : A} (t : Throw) → R a b → AttemptRel R (throws a t) (throws b t)
 throws_rel t h = record { after = h; thrown = refl }
-
-and_same : (a b c d : Bool) → a ≡ b → c ≡ d → (a && c) ≡ (b && d)
-and_same a b c d e f = rw (e, f) refl
-
-or_same : (a b c d : Bool) → a ≡ b → c ≡ d → (a || c) ≡ (b || d)
-or_same a b c d e f = rw (e, f) refl
 
 module _ {L : Links} where
   -- ---- what is read of related values, properties and objects is the same
@@ -218,7 +212,7 @@ module _ {L : Links} where
         → AttemptRel (ObjectRel L) (shrunk t o c end x) (shrunk t p d end y)
     shrunk_rel t end h k none = throws_rel t h
     shrunk_rel t end h k (some m) =
-        if_rel _ _ (and_same _ _ _ _ m.writable (may_update_same m k)) (shrunk_to_rel t end _ _ (end_kept_same end h.props) h (updated_rel m k)) (throws_rel t h)
+        if_rel _ _ (λ i. m.writable i && may_update_same m k i) (shrunk_to_rel t end _ _ (end_kept_same end h.props) h (updated_rel m k)) (throws_rel t h)
 
     length_as_rel : {o p : Object} {c d : Change} (t : Throw) (n m : Option ℕ) → n ≡ m → ObjectRel L o p → ChangeRel L c d
         → AttemptRel (ObjectRel L) (define_length_as t o c n) (define_length_as t p d m)
@@ -273,7 +267,7 @@ module _ {L : Links} where
   -- an array, and an object that has the property, stays as it is
   pub added_rel : {o p : Object} {x y : Prop} (name : List ℕ) → ObjectRel L o p → PropRel L x y → ObjectRel L (with_added o name x) (with_added p name y)
   added_rel {o = o} {p = p} {x = x} {y = y} name h k =
-      by_case _ _ (or_same _ _ _ _ (is_list_same h.class) (is_some_same (own_rel name h.props)))
+      by_case _ _ (rw (is_list_same h.class, is_some_same (own_rel name h.props)) refl)
     where
       by_case : (b c : Bool) → b ≡ c → ObjectRel L (if b then o else with_props o (o.props ++ (name, x) ∷ [])) (if c then p else with_props p (p.props ++ (name, y) ∷ []))
       by_case true true e = h
