@@ -1,5 +1,5 @@
 -- What holds of each item of a list.
-use Rattle.std.proofs.Common.{◌≡◌, ◌∙◌, refl, sym, subst, ℕ, Bool, true, false, List, [], ◌∷◌, ◌++◌, bytes_eq}
+use Rattle.std.proofs.Common.{◌≡◌, refl, sym, subst, ℕ, Bool, true, false, List, [], ◌∷◌, ◌++◌, bytes_eq}
 use Rattle.std.specs.List.{list_all, list_any}
 use Rattle.std.proofs.lemmas.Bool.{and_from, or_from, or_left, or_parts, or_right}
 use Rattle.std.proofs.lemmas.Slice.Eq.{bytes_eq-Decides}
@@ -51,9 +51,6 @@ Among x xs = is_among x xs ≡ true
 
 abbrev pub Missing : List ℕ → List (List ℕ) → Type 0
 Missing x xs = is_among x xs ≡ false
-
-pub never_both : (b : Bool) → b ≡ true → b ≡ false → ⊥
-never_both b t f = let e : true ≡ false = sym t ∙ f in cc
 
 pub same_name : (x : List ℕ) → bytes_eq x x ≡ true
 same_name x = (bytes_eq-Decides x x).1 refl

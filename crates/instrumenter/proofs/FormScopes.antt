@@ -1,7 +1,7 @@
 -- The scopes of an opened script are in form: what functions inside use is the object of the scope, or the parameter of the clause.
 use Rattle.std.proofs.Common.{◌≡◌, refl, sym, ap, subst, ◌∙◌, ℕ, Bool, true, false, ◌&&◌, List, [], ◌∷◌, ◌++◌, inl, inr, Option, Some, None, bytes_eq, if◌then◌else◌}
 use Rattle.std.specs.List.{list_any}
-use Rattle.std.proofs.lemmas.Bool.{and_from, and_right, false_from_ne_true, not_from_false, not_from_true, or_left, or_parts, or_right}
+use Rattle.std.proofs.lemmas.Bool.{and_from, and_right, both_ways, false_from_ne_true, not_from_false, not_from_true, or_left, or_parts, or_right}
 use Rattle.std.proofs.lemmas.Slice.Eq.{bytes_eq-Decides}
 use Rattle.js_core.specs.Tree as tree
 use Rattle.js_core.specs.Tree.{code, name, no_fields, no_stmts, then_field, then_stmt}
@@ -14,7 +14,7 @@ use Rattle.scope_analysis.specs.Uses.{Use, assignment, fields_uses, is_assigned,
 use Rattle.instrumenter.specs.Around.{append, clause_object, field_inside, literal_fields, next_number, parameter, scope_name, scope_object, valued_names, void_zero}
 use Rattle.instrumenter.specs.Fields.{clause_fields, fields_in, has_fields}
 use Rattle.instrumenter.specs.Opening.{open_stmts}
-use Rattle.instrumenter.proofs.Each.{Among, Each, Fails, Missing, all_pass, each_always, each_among, each_at, each_both, each_fails, each_so, never_both, none_passes, same_name}
+use Rattle.instrumenter.proofs.Each.{Among, Each, Fails, Missing, all_pass, each_always, each_among, each_at, each_both, each_fails, each_so, none_passes, same_name}
 use Rattle.instrumenter.proofs.Leaving.{Declaring, Through, among_left, among_parts, among_right, declarations_inside, declared_inside, fields_inside, if_captured, names_inside, object_uses, opened_as, opened_inside, statements_inside, uses_append, value_uses}
 use Rattle.instrumenter.proofs.OnceNames.{captured_is_field}
 use Rattle.instrumenter.proofs.OpenedNames.{append_both, declarations_from, opening, stmts_from}
@@ -23,10 +23,10 @@ use Rattle.instrumenter.proofs.OpenedUses.{declarations_opened, stmts_opened}
 -- ---- names of objects
 
 pub other_than_object : (x : List ℕ) (n : ℕ) → is_reserved x ≡ false → bytes_eq x (scope_name n) ≡ false
-other_than_object x n h = false_from_ne_true (bytes_eq x (scope_name n)) (λ e. never_both (is_reserved (scope_name n)) refl (subst (λ y. is_reserved y ≡ false) ((bytes_eq-Decides x (scope_name n)).0 e) h))
+other_than_object x n h = false_from_ne_true (bytes_eq x (scope_name n)) (λ e. both_ways (is_reserved (scope_name n)) (subst (λ y. is_reserved y ≡ false) ((bytes_eq-Decides x (scope_name n)).0 e) h) refl)
 
 pub object_is_other : (n : ℕ) (x : List ℕ) → is_reserved x ≡ false → bytes_eq (scope_name n) x ≡ false
-object_is_other n x h = false_from_ne_true (bytes_eq (scope_name n) x) (λ e. never_both (is_reserved (scope_name n)) refl (subst (λ y. is_reserved y ≡ false) (sym ((bytes_eq-Decides (scope_name n) x).0 e)) h))
+object_is_other n x h = false_from_ne_true (bytes_eq (scope_name n) x) (λ e. both_ways (is_reserved (scope_name n)) (subst (λ y. is_reserved y ≡ false) (sym ((bytes_eq-Decides (scope_name n) x).0 e)) h) refl)
 
 -- ---- the object
 
@@ -237,7 +237,7 @@ unassigned f n own x formals body is z free away h =
       (λ e. false_from_ne_true (bytes_eq y z) (λ same.
           let lost : Among z (formals ++ later) = subst (λ v. Among v (formals ++ later)) ((bytes_eq-Decides y z).0 same)
           (among_right y formals later (declared_inside f n fields own x formals body is y there e)) in
-          never_both (is_among z (formals ++ later)) lost away)),
+          both_ways (is_among z (formals ++ later)) away lost)),
     ))) h)
 
 -- what uses of the own name become assigns to it nowhere
@@ -271,7 +271,7 @@ own_used f n z formals body is away kept false field =
 
     original : (b : Bool) → is_among z (formals ++ declared_names body) ≡ b → assigns_maybe (if b then None else Some z) (stmts_uses body) ≡ false → is_assigned z (stmts_uses body) ≡ false
     original false free h = h
-    original true there h = absurd (never_both (is_among z (formals ++ declared_names (expression_after f n (Some z) formals body))) (still there) away)
+    original true there h = absurd (both_ways (is_among z (formals ++ declared_names (expression_after f n (Some z) formals body))) away (still there))
 
 pub own_stays_unassigned : (f : List ℕ → Option ℕ) (n : ℕ) (x : Option (List ℕ)) (formals : List (List ℕ)) (body : tree.Stmts) → AreStmts true body
     → list_any is_reserved (maybe_name x) ≡ false → assigns_own (code x formals body) ≡ false → assigns_own (code x formals (expression_after f n x formals body)) ≡ false

@@ -1,6 +1,7 @@
 -- The jumps that leave opened statements are those that leave the statements.
 use Rattle.std.proofs.Common.{◌≡◌, refl, sym, ap, ◌∙◌, ℕ, ◌+◌, Bool, true, false, not, ◌&&◌, ◌||◌, List, [], ◌∷◌, ◌++◌, Option, Some, None, if◌then◌else◌}
 use Rattle.std.specs.Prelude.{is_some}
+use Rattle.std.proofs.Math.Bool.{or-false, or_assoc}
 use Rattle.js_core.specs.Tree as tree
 use Rattle.js_core.specs.Tree.{name, num, text, bool, null, this, list, literal, func, member, index, call, construct, unary, update, binary, logical_and, logical_or, conditional, assign, comma, no_exprs, then_expr, no_expr, one_expr, no_holes, then_hole, no_fields, then_field, code, var, function, expr, empty, block, if_else, do_while, while, for, for_in, continue, break, return, throw, try, switch, no_stmts, then_stmt, no_body, one_body, no_declarators, then_declarator, no_init, init_var, init_expr, no_catch, one_catch, no_cases, then_case}
 use Rattle.scope_analysis.specs.Jumps.{cases_leave, catch_leaves, is_continue, is_return, leaves, maybe_body_leaves, stmt_leaves}
@@ -13,21 +14,13 @@ use Rattle.instrumenter.specs.Opening.{open_cases, open_catch, open_declarations
 use Rattle.instrumenter.proofs.Leaving.{declarations_inside, opened_inside, statements_inside}
 use Rattle.instrumenter.proofs.OpenedNames.{opening}
 
-or_none : (b : Bool) → (b || false) ≡ b
-or_none true = refl
-or_none false = refl
-
 pub or_same : {a b c d : Bool} → a ≡ c → b ≡ d → (a || b) ≡ (c || d)
 or_same {b = b} {c = c} e h = ap (λ x. x || b) e ∙ ap (λ x. c || x) h
-
-or_round : (a b c : Bool) → ((a || b) || c) ≡ (a || (b || c))
-or_round true b c = refl
-or_round false b c = refl
 
 module _ (j : Jump) where
   pub leaves_append : (s t : tree.Stmts) → leaves j (append s t) ≡ (leaves j s || leaves j t)
   leaves_append no_stmts t = refl
-  leaves_append (then_stmt s ss) t = ap (λ b. stmt_leaves j s || b) (leaves_append ss t) ∙ sym (or_round (stmt_leaves j s) (leaves j ss) (leaves j t))
+  leaves_append (then_stmt s ss) t = ap (λ b. stmt_leaves j s || b) (leaves_append ss t) ∙ sym (or_assoc (stmt_leaves j s) (leaves j ss) (leaves j t))
 
   statements : (es : tree.Exprs) → leaves j (as_statements es) ≡ false
   statements no_exprs = refl
@@ -69,25 +62,25 @@ module _ (j : Jump) where
     stmt_jumps f w n (function c) = refl
     stmt_jumps f w n (expr e) = refl
     stmt_jumps f w n empty = refl
-    stmt_jumps f w n (block ss) = or_none _ ∙ stmts_jumps f w n ss
+    stmt_jumps f w n (block ss) = or-false _ ∙ stmts_jumps f w n ss
     stmt_jumps f w n (if_else e a b) =
-        or_none _ ∙ or_same (stmts_jumps f w (n + expr_scopes e) a) (body_jumps f w ((n + expr_scopes e) + stmts_scopes a) b)
-    stmt_jumps f w n (do_while body e) = or_none _ ∙ ap (λ b. is_return j && b) (stmts_jumps f w n body)
-    stmt_jumps f w n (while e body) = or_none _ ∙ ap (λ b. is_return j && b) (stmts_jumps f w (n + expr_scopes e) body)
+        or-false _ ∙ or_same (stmts_jumps f w (n + expr_scopes e) a) (body_jumps f w ((n + expr_scopes e) + stmts_scopes a) b)
+    stmt_jumps f w n (do_while body e) = or-false _ ∙ ap (λ b. is_return j && b) (stmts_jumps f w n body)
+    stmt_jumps f w n (while e body) = or-false _ ∙ ap (λ b. is_return j && b) (stmts_jumps f w (n + expr_scopes e) body)
     stmt_jumps f w n (for i t s body) =
         let m : ℕ = ((n + init_scopes i) + maybe_expr_scopes t) + maybe_expr_scopes s in
-        before (opening f w) i _ ∙ (or_none (is_return j && leaves j (open_stmts (opening f w) m body)) ∙ ap (λ b. is_return j && b) (stmts_jumps f w m body))
+        before (opening f w) i _ ∙ (or-false (is_return j && leaves j (open_stmts (opening f w) m body)) ∙ ap (λ b. is_return j && b) (stmts_jumps f w m body))
     stmt_jumps f w n (for_in declared t e body) =
         let m : ℕ = (n + expr_scopes t) + expr_scopes e in
-        before_in (opening f w) declared t _ ∙ (or_none (is_return j && leaves j (open_stmts (opening f w) m body)) ∙ ap (λ b. is_return j && b) (stmts_jumps f w m body))
-    stmt_jumps f w n continue = or_none _
-    stmt_jumps f w n break = or_none _
-    stmt_jumps f w n (return e) = or_none _
+        before_in (opening f w) declared t _ ∙ (or-false (is_return j && leaves j (open_stmts (opening f w) m body)) ∙ ap (λ b. is_return j && b) (stmts_jumps f w m body))
+    stmt_jumps f w n continue = or-false _
+    stmt_jumps f w n break = or-false _
+    stmt_jumps f w n (return e) = or-false _
     stmt_jumps f w n (throw e) = refl
     stmt_jumps f w n (try b c l) =
-        or_none _ ∙ or_same (stmts_jumps f w n b)
+        or-false _ ∙ or_same (stmts_jumps f w n b)
         (or_same (catch_jumps f w (n + stmts_scopes b) c) (body_jumps f w ((n + stmts_scopes b) + catch_scopes c) l))
-    stmt_jumps f w n (switch e cs) = or_none _ ∙ ap (λ b. (is_return j || is_continue j) && b) (cases_jumps f w (n + expr_scopes e) cs)
+    stmt_jumps f w n (switch e cs) = or-false _ ∙ ap (λ b. (is_return j || is_continue j) && b) (cases_jumps f w (n + expr_scopes e) cs)
 
     pub stmts_jumps : (f : List ℕ → Option ℕ) (w : List ℕ → Bool) (n : ℕ) (ss : tree.Stmts) → leaves j (open_stmts (opening f w) n ss) ≡ leaves j ss
     stmts_jumps f w n no_stmts = refl

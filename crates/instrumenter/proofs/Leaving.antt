@@ -1,6 +1,6 @@
 -- What opening makes of a use of a name, and which uses an opened function or catch clause leaves to the scopes round it.
 use Rattle.std.proofs.Common.{◌≡◌, refl, sym, subst, ℕ, Bool, true, false, ◌||◌, List, [], ◌∷◌, ◌++◌, ◌⊎◌, inl, inr, Option, Some, None, append_assoc, bytes_eq, if◌then◌else◌}
-use Rattle.std.proofs.lemmas.Bool.{false_from_ne_true, or_cases, or_from, or_left, or_parts, or_right, true_from_ne_false}
+use Rattle.std.proofs.lemmas.Bool.{both_ways, false_from_ne_true, or_cases, or_from, or_left, or_parts, or_right, true_from_ne_false}
 use Rattle.std.proofs.lemmas.List.Folds.{list_any-append}
 use Rattle.std.proofs.lemmas.Slice.Eq.{bytes_eq-Decides}
 use Rattle.js_core.specs.Tree as tree
@@ -11,7 +11,7 @@ use Rattle.scope_analysis.specs.Uses.{Use, assignment, crossing, expr_uses, leav
 use Rattle.instrumenter.specs.Around.{append, clause_object, field_inside, literal_fields, next_number, parameter, scope_name, scope_object, valued_names, void_zero}
 use Rattle.instrumenter.specs.Fields.{has_fields}
 use Rattle.instrumenter.specs.Opening.{open_declarations, open_stmts}
-use Rattle.instrumenter.proofs.Each.{Among, Each, Fails, Missing, each_among, each_both, each_fails, each_so, never_both, none_passes, same_name}
+use Rattle.instrumenter.proofs.Each.{Among, Each, Fails, Missing, each_among, each_both, each_fails, each_so, none_passes, same_name}
 use Rattle.instrumenter.proofs.KeptNames.{top_kept}
 use Rattle.instrumenter.proofs.OpenedNames.{append_parts, opening}
 
@@ -89,8 +89,8 @@ use_leaves P f n fields names before after binds u h = by (is_among u.name field
   where
     by : (b : Bool) → is_among u.name fields ≡ b → (c : Bool) → is_among u.name names ≡ c
         → Leaving P after (opened_as (if b then Some n else (if c then None else f u.name)) u)
-    by true is c there = λ e. absurd (never_both (is_among (scope_name n) after) (binds.object (there_are_fields u.name fields is)) e)
-    by false is true there = λ e. absurd (never_both (is_among u.name after) (binds.plain u.name there is) e)
+    by true is c there = λ e. absurd (both_ways (is_among (scope_name n) after) e (binds.object (there_are_fields u.name fields is)))
+    by false is true there = λ e. absurd (both_ways (is_among u.name after) e (binds.plain u.name there is))
     by false is false there = λ e. subst P (crossing_same (f u.name) u) (h (binds.outer u.name there))
 
 -- P holds of the use that the assignment of a declared function is
@@ -101,8 +101,8 @@ declared_leaves : (P : Use → Type 0) (f : List ℕ → Option ℕ) (n : ℕ) (
     → (y : List ℕ) → Among y names → Declaring (Leaving P after) (field_inside fields names n f) (λ x. is_among x fields) y
 declared_leaves P f n fields names before after binds y there = (
   (λ is. subst (λ b. Leaving P after (opened_as (if b then Some n else (if is_among y names then None else f y)) (assignment y))) (sym is)
-      (λ e. absurd (never_both (is_among (scope_name n) after) (binds.object (there_are_fields y fields is)) e))),
-  (λ is e. absurd (never_both (is_among y after) (binds.plain y there is) e)),
+      (λ e. absurd (both_ways (is_among (scope_name n) after) e (binds.object (there_are_fields y fields is))))),
+  (λ is e. absurd (both_ways (is_among y after) e (binds.plain y there is))),
 )
 
 -- ---- the object of a function
@@ -167,9 +167,9 @@ declared_inside f n fields own x formals body is y there free = true_from_ne_fal
     let other : (z : List ℕ) → is_among z fields ≡ true → bytes_eq y z ≡ false =
     λ z field. false_from_ne_true _ (λ same.
     let e : y ≡ z = (bytes_eq-Decides y z).0 same in
-    never_both (is_among y fields) (subst (λ v. Among v fields) (sym e) field) free) in
+    both_ways (is_among y fields) free (subst (λ v. Among v fields) (sym e) field)) in
     let before = top_kept (Fails (bytes_eq y)) (λ z. is_among z fields) other (fields_inside f n fields own x formals body) (next_number fields n) (next_number fields n) body is parts.0 parts.1 in
-    never_both (is_among y (declared_names body)) there (none_passes (bytes_eq y) (declared_names body) before))
+    both_ways (is_among y (declared_names body)) (none_passes (bytes_eq y) (declared_names body) before) there)
 
 module _ (f : List ℕ → Option ℕ) (n : ℕ) (fields : List (List ℕ)) (own x z : Option (List ℕ)) (formals : List (List ℕ)) (body : tree.Stmts) (is : AreStmts true body) where
   -- the names that the opened function binds, where it has the name z
@@ -224,8 +224,8 @@ module _ (f : List ℕ → Option ℕ) (n : ℕ) (fields : List (List ℕ)) (own
       let ss : tree.Stmts = statements_inside f n fields own x formals body in
       leaving_from P bound_after (stmts_uses (opened_inside f n fields own x formals body))
       (object_uses Q n (valued_names own (code x formals body)) fields (append ds ss)
-      (λ e away. absurd (never_both (is_among (scope_name n) bound_after) (binds.object e) away))
-      (λ y there away. absurd (never_both (is_among y bound_after) (value_is_bound same y there) away))
+      (λ e away. absurd (both_ways (is_among (scope_name n) bound_after) away (binds.object e)))
+      (λ y there away. absurd (both_ways (is_among y bound_after) away (value_is_bound same y there)))
       (rw (uses_append ds ss) (each_both Q (stmts_uses ds) (stmts_uses ss) (declarations declared uses) (statements uses))))
 
 -- ---- the own name of a function expression
@@ -249,8 +249,8 @@ name_is_own (Some z) formals body y h = by (is_among z bound) refl h
     by : (b : Bool) → is_among z (bound_names (code (Some z) formals body)) ≡ b
         → Missing y (maybe_name (if b then None else Some z) ++ bound_names (code (Some z) formals body)) → Missing y (z ∷ bound_names (code (Some z) formals body))
     by true there k = or_from (bytes_eq y z) (is_among y (bound_names (code (Some z) formals body)))
-        (false_from_ne_true (bytes_eq y z) (λ e. never_both (is_among z (bound_names (code (Some z) formals body))) there
-        (subst (λ v. Missing v (bound_names (code (Some z) formals body))) ((bytes_eq-Decides y z).0 e) k))) k
+        (false_from_ne_true (bytes_eq y z) (λ e. both_ways (is_among z (bound_names (code (Some z) formals body)))
+        (subst (λ v. Missing v (bound_names (code (Some z) formals body))) ((bytes_eq-Decides y z).0 e) k) there)) k
     by false there k = k
 
 -- ---- catch clauses
@@ -286,12 +286,12 @@ use_stays P f n x true u h = by (bytes_eq u.name x) h
   where
     by : (c : Bool) → (c ≡ false → P (opened_use f u))
         → Staying P (scope_name n) (opened_as (if c || false then Some n else (if c || false then None else f u.name)) u)
-    by true k = λ e. absurd (never_both (bytes_eq (scope_name n) (scope_name n)) (same_name (scope_name n)) e)
+    by true k = λ e. absurd (both_ways (bytes_eq (scope_name n) (scope_name n)) e (same_name (scope_name n)))
     by false k = λ e. k refl
 use_stays P f n x false u h = by (bytes_eq u.name x) refl h
   where
     by : (c : Bool) → bytes_eq u.name x ≡ c → (c ≡ false → P (opened_use f u)) → Staying P x (opened_as (if c || false then None else f u.name) u)
-    by true is k = λ e. absurd (never_both (bytes_eq u.name x) is e)
+    by true is k = λ e. absurd (both_ways (bytes_eq u.name x) e is)
     by false is k = λ e. k refl
 
 box_uses : (Q : Use → Type 0) (n : ℕ) (fields : List (List ℕ)) (ss : tree.Stmts) → (has_fields fields ≡ true → Q (assignment (scope_name n)) × Q (read (scope_name n)))
@@ -312,7 +312,7 @@ clause_step P f n x b us ss inside h =
     (use_stays P f n x b) us (staying_to (Through P f) x us h))))
   where
     away : (e : bytes_eq (scope_name n) (scope_name n) ≡ false) → ⊥
-    away e = never_both (bytes_eq (scope_name n) (scope_name n)) (same_name (scope_name n)) e
+    away e = both_ways (bytes_eq (scope_name n) (scope_name n)) e (same_name (scope_name n))
 
     bound : (c : Bool) → has_fields (if_captured c x) ≡ true
         → Staying P (parameter n (if_captured c x) x) (assignment (scope_name n)) × Staying P (parameter n (if_captured c x) x) (read (scope_name n))

@@ -26,7 +26,7 @@ use Rattle.instrumenter.proofs.Each.{Among, Each, Fails, each_among, each_at, ea
 use Rattle.instrumenter.proofs.FormScopes.{after, block_after, clause_in_form, declaration_in_form, expression_after, expression_in_form, own_stays_unassigned}
 use Rattle.instrumenter.proofs.Jumps.{inside_jumps}
 use Rattle.instrumenter.proofs.NamedUses.{stmts_undeclared, stmts_unnamed}
-use Rattle.instrumenter.proofs.NodeTests.{left_of, narrow, passes, right_of}
+use Rattle.instrumenter.proofs.NodeTests.{narrow, passes}
 use Rattle.instrumenter.proofs.OpenedNames.{no_init_names, opening}
 
 -- ---- the tests
@@ -51,16 +51,13 @@ inner n = passes inner_tests n
 pub pair : {a b c d : Bool} → (a ≡ false → b ≡ false) → (c ≡ false → d ≡ false) → (a || c) ≡ false → (b || d) ≡ false
 pair {a = a} {b = b} {c = c} {d = d} one more h = or_from b d (one (or_parts a c h).0) (more (or_parts a c h).1)
 
-pub or_none : (b : Bool) → b ≡ false → (b || false) ≡ false
-or_none b e = or_from b false e refl
-
 -- ---- names
 
 object_is_free : (k : ℕ) → is_restricted (scope_name k) ≡ false
 object_is_free k = refl
 
 pub name_node : (d : Bool) (x : List ℕ) → is_restricted x ≡ false → expr_any inner d (name x) ≡ false
-name_node d x e = or_none _ (or_none _ e)
+name_node d x e = or_from _ _ (or_from _ _ e refl) refl
 
 pub reference_node : (d : Bool) (o : Option ℕ) (x : List ℕ) → is_restricted x ≡ false → expr_any inner d (field_or_name o x) ≡ false
 reference_node d None x e = name_node d x e
@@ -71,7 +68,7 @@ callee_node a (name x) e h = by (a.fields x)
   where
     by : (o : Option ℕ) → expr_any inner true (without_this o e) ≡ false
     by None = h true
-    by (Some k) = or_none _ (h false)
+    by (Some k) = or_from _ _ (h false) refl
 callee_node a g e h = h true
 
 -- ---- targets
@@ -82,7 +79,7 @@ still_no_name a n (func (code x formals body)) h = refl
 still_no_name a n e h = refl
 
 pub unary_node : (c d : Bool) (op : UnaryOp) (e t : tree.Expr) → (is_name e ≡ false → is_name t ≡ false) → kept (expression c (unary op e)) ≡ false → inner (expression d (unary op t)) ≡ false
-unary_node c d Delete e t so h = or_none _ (so (left_of (is_name e) false h))
+unary_node c d Delete e t so h = or_from _ _ (so (or_parts (is_name e) false h).0) refl
 unary_node c d op e t so h = refl
 
 pub still_target : (a : Around) (n : ℕ) (e : tree.Expr) → not (is_target e) ≡ false → not (is_target (open_expr a n e)) ≡ false
@@ -117,28 +114,28 @@ value_nodes valued (x ∷ xs) h = or_from _ _ (by (is_among x valued) refl) (val
 
 pub any_append : (test : Node → Bool) (s t : tree.Stmts) → stmts_any test s ≡ false → stmts_any test t ≡ false → stmts_any test (append s t) ≡ false
 any_append test no_stmts t h k = k
-any_append test (then_stmt s ss) t h k = or_from _ _ (left_of _ _ h) (any_append test ss t (right_of _ _ h) k)
+any_append test (then_stmt s ss) t h k = or_from _ _ (or_parts _ _ h).0 (any_append test ss t (or_parts _ _ h).1 k)
 
 pub alone : (s : tree.Stmt) → stmt_any inner s ≡ false → stmts_any inner (single s) ≡ false
-alone s h = or_none (stmt_any inner s) h
+alone s h = or_from _ _ h refl
 
 statement_nodes : (es : tree.Exprs) → exprs_any inner es ≡ false → stmts_any inner (as_statements es) ≡ false
 statement_nodes no_exprs h = refl
-statement_nodes (then_expr e es) h = or_from _ _ (left_of _ _ h) (statement_nodes es (right_of _ _ h))
+statement_nodes (then_expr e es) h = or_from _ _ (or_parts _ _ h).0 (statement_nodes es (or_parts _ _ h).1)
 
 init_nodes : (es : tree.Exprs) → exprs_any inner es ≡ false → init_any inner (as_init es) ≡ false
 init_nodes no_exprs h = refl
-init_nodes (then_expr e no_exprs) h = left_of (expr_any inner false e) false h
+init_nodes (then_expr e no_exprs) h = (or_parts (expr_any inner false e) false h).0
 init_nodes (then_expr e (then_expr d es)) h = h
 
 plain_free : (a : Around) (ds : tree.Declarators) → list_any is_restricted (declarator_names ds) ≡ false → list_any is_restricted (declarator_names (plain_names a ds)) ≡ false
 plain_free a no_declarators h = refl
-plain_free a (then_declarator x e ds) h = by (a.own x) (plain_free a ds (right_of _ _ h))
+plain_free a (then_declarator x e ds) h = by (a.own x) (plain_free a ds (or_parts _ _ h).1)
   where
     by : (b : Bool) → list_any is_restricted (declarator_names (plain_names a ds)) ≡ false
         → list_any is_restricted (declarator_names (if b then plain_names a ds else then_declarator x no_expr (plain_names a ds))) ≡ false
     by true more = more
-    by false more = or_from _ _ (left_of _ _ h) more
+    by false more = or_from _ _ (or_parts _ _ h).0 more
 
 plain_nodes : (a : Around) (ds : tree.Declarators) → declarators_any inner (plain_names a ds) ≡ false
 plain_nodes a no_declarators = refl
@@ -149,7 +146,7 @@ plain_nodes a (then_declarator x e ds) = by (a.own x) (plain_nodes a ds)
     by false more = more
 
 pub var_node : (ds : tree.Declarators) → list_any is_restricted (declarator_names ds) ≡ false → declarators_any inner ds ≡ false → stmt_any inner (var ds) ≡ false
-var_node ds h k = or_from _ _ (or_none _ h) k
+var_node ds h k = or_from _ _ (or_from _ _ h refl) k
 
 where_any : (a : Around) (ds : tree.Declarators) (ss : tree.Stmts) → list_any is_restricted (declarator_names ds) ≡ false → stmts_any inner ss ≡ false
     → stmts_any inner (var_where_any (plain_names a ds) ss) ≡ false
@@ -167,7 +164,7 @@ var_nodes a ds opened false es h k r t = alone (var opened) (var_node opened r t
 
 pub loop_node : (i : tree.ForInit) (t s : tree.MaybeExpr) (body : tree.Stmts) → list_any is_restricted (init_names i) ≡ false → init_any inner i ≡ false
     → (maybe_expr_any inner t || (maybe_expr_any inner s || stmts_any inner body)) ≡ false → stmts_any inner (single (for i t s body)) ≡ false
-loop_node i t s body h k r = alone (for i t s body) (or_from _ _ (or_none _ h) (or_from _ _ k r))
+loop_node i t s body h k r = alone (for i t s body) (or_from _ _ (or_from _ _ h refl) (or_from _ _ k r))
 
 pub for_var_nodes : (a : Around) (ds opened : tree.Declarators) (b : Bool) (es : tree.Exprs) (t s : tree.MaybeExpr) (body : tree.Stmts)
     → list_any is_restricted (declarator_names ds) ≡ false → exprs_any inner es ≡ false
@@ -183,7 +180,7 @@ pub before_nodes : (a : Around) (declared : Bool) (t : tree.Expr) (ss : tree.Stm
 before_nodes a true (name x) ss h k = by (is_some (a.fields x) && not (a.own x))
   where
     by : (b : Bool) → stmts_any inner (if b then then_stmt (var (then_declarator x no_expr no_declarators)) ss else ss) ≡ false
-    by true = or_from _ _ (var_node (then_declarator x no_expr no_declarators) (left_of (is_restricted x || false) _ h) refl) k
+    by true = or_from _ _ (var_node (then_declarator x no_expr no_declarators) (or_parts (is_restricted x || false) _ h).0 refl) k
     by false = k
 before_nodes a true t ss h k = k
 before_nodes a false t ss h k = k
@@ -343,8 +340,8 @@ object_nodes n valued [] ss free apart h = h
 object_nodes n valued (x ∷ xs) ss free apart h =
     let fs : tree.Fields = literal_fields valued (x ∷ xs) in
     let named : repeats_name fs ≡ false = ap has_repeat (literal_names valued (x ∷ xs)) ∙ apart in
-    let whole : expr_any inner false (literal fs) ≡ false = or_from _ _ (or_none (repeats_name fs) named) (value_nodes valued (x ∷ xs) free) in
-    or_from _ _ (var_node (then_declarator (scope_name n) (one_expr (literal fs)) no_declarators) refl (or_none _ whole)) h
+    let whole : expr_any inner false (literal fs) ≡ false = or_from _ _ (or_from _ _ named refl) (value_nodes valued (x ∷ xs) free) in
+    or_from _ _ (var_node (then_declarator (scope_name n) (one_expr (literal fs)) no_declarators) refl (or_from _ _ whole refl)) h
 
 pub assigned_node : (o : Option ℕ) (x : List ℕ) (e : tree.Expr) → is_restricted x ≡ false → expr_any inner false e ≡ false → expr_any inner false (assign None (field_or_name o x) e) ≡ false
 assigned_node None x e h k = or_from _ _ (name_node false x h) k
@@ -353,12 +350,12 @@ assigned_node (Some j) x e h k = k
 declared_nodes : (a : Around) (x : List ℕ) (e : tree.Expr) (b : Bool) → is_restricted x ≡ false → expr_any inner false e ≡ false
     → stmt_any inner (if b then expr (assign None (field_or_name (a.fields x) x) e) else var_of x e) ≡ false
 declared_nodes a x e true h k = assigned_node (a.fields x) x e h k
-declared_nodes a x e false h k = var_node (then_declarator x (one_expr e) no_declarators) (or_none _ h) (or_none _ k)
+declared_nodes a x e false h k = var_node (then_declarator x (one_expr e) no_declarators) (or_from _ _ h refl) (or_from _ _ k refl)
 
 pub declaration_nodes : (a : Around) (x : Option (List ℕ)) (e : tree.Expr) (ss : tree.Stmts) → list_any is_restricted (maybe_name x) ≡ false → expr_any inner false e ≡ false
     → stmts_any inner ss ≡ false → stmts_any inner (declaration a x e ss) ≡ false
 declaration_nodes a None e ss h k r = r
-declaration_nodes a (Some x) e ss h k r = or_from _ _ (declared_nodes a x e (a.own x) (left_of (is_restricted x) false h) k) r
+declaration_nodes a (Some x) e ss h k r = or_from _ _ (declared_nodes a x e (a.own x) (or_parts (is_restricted x) false h).0 k) r
 
 -- ---- catch clauses
 
@@ -379,14 +376,14 @@ clause_nodes f w n x ss is h k =
           (
             refl,
             (
-              named (clause_fields x ss) (left_of (is_restricted x) false facts.1.1.1.0),
+              named (clause_fields x ss) (or_parts (is_restricted x) false facts.1.1.1.0).0,
               (
                 refl,
                 (
                   refl,
                   (
                     refl,
-                    (clause_in_form f w n x ss is (stmts_unnamed is_reserved ss free) (left_of (is_reserved x) false facts.1.1.1.1.1.1.1.0), tt),
+                    (clause_in_form f w n x ss is (stmts_unnamed is_reserved ss free) (or_parts (is_reserved x) false facts.1.1.1.1.1.1.1.0).0, tt),
                   ),
                 ),
               ),
@@ -397,7 +394,7 @@ clause_nodes f w n x ss is h k =
     )) (boxed (clause_fields x ss) _ k)
   where
     named : (fields : List (List ℕ)) → is_restricted x ≡ false → (is_restricted (parameter n fields x) || false) ≡ false
-    named [] e = or_none _ e
+    named [] e = or_from _ _ e refl
     named (y ∷ ys) e = refl
 
     boxed : (fields : List (List ℕ)) (ts : tree.Stmts) → stmts_any inner ts ≡ false → stmts_any inner (clause_object n fields ts) ≡ false

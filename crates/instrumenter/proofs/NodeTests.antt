@@ -6,12 +6,6 @@ use Rattle.js_core.specs.Tree as tree
 use Rattle.js_core.specs.Tree.{name, num, text, bool, null, this, list, literal, func, member, index, call, construct, unary, update, binary, logical_and, logical_or, conditional, assign, comma, no_exprs, then_expr, no_expr, one_expr, no_holes, then_hole, no_fields, then_field, code, var, function, expr, empty, block, if_else, do_while, while, for, for_in, continue, break, return, throw, try, switch, no_stmts, then_stmt, no_body, one_body, no_declarators, then_declarator, no_init, init_var, init_expr, no_catch, one_catch, no_cases, then_case}
 use Rattle.scope_analysis.specs.Nodes.{Node, cases_any, catch_any, clause, code_any, declarators_any, expr_any, expression, exprs_any, fields_any, holes_any, init_any, maybe_expr_any, maybe_stmts_any, statement, stmt_any, stmts_any}
 
-pub left_of : (x y : Bool) → (x || y) ≡ false → x ≡ false
-left_of x y h = (or_parts x y h).0
-
-pub right_of : (x y : Bool) → (x || y) ≡ false → y ≡ false
-right_of x y h = (or_parts x y h).1
-
 either : {a b c d e f : Bool} → (a ≡ false → b ≡ false → c ≡ false) → (d ≡ false → e ≡ false → f ≡ false) → (a || d) ≡ false → (b || e) ≡ false → (c || f) ≡ false
 either {a = a} {b = b} {c = c} {d = d} {e = e} {f = f} one more h k = or_from c f (one (or_parts a d h).0 (or_parts b e k).0) (more (or_parts a d h).1 (or_parts b e k).1)
 

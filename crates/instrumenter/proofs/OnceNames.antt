@@ -1,6 +1,6 @@
 -- The fields of a scope are names of it, each once, and those that functions inside use.
 use Rattle.std.proofs.Common.{◌≡◌, refl, sym, subst, ℕ, Bool, true, false, ◌||◌, List, [], ◌∷◌, ◌++◌, ◌⊎◌, inl, inr, Option, bytes_eq, cond, filter, if◌then◌else◌}
-use Rattle.std.proofs.lemmas.Bool.{false_from_ne_true, or_from, or_left, or_parts, or_right}
+use Rattle.std.proofs.lemmas.Bool.{both_ways, false_from_ne_true, or_from, or_left, or_parts, or_right}
 use Rattle.std.proofs.lemmas.Slice.Eq.{bytes_eq-Decides}
 use Rattle.indexmap.specs.IndexSet.{insert_all, insert_key}
 use Rattle.js_core.specs.Tree as tree
@@ -9,7 +9,7 @@ use Rattle.scope_analysis.specs.Names.{declared_names, has_repeat, is_among, may
 use Rattle.scope_analysis.specs.Scopes.{once_each, scope_names}
 use Rattle.scope_analysis.specs.Uses.{is_captured, stmts_uses}
 use Rattle.instrumenter.specs.Fields.{fields_in}
-use Rattle.instrumenter.proofs.Each.{Among, Each, Missing, each_both, never_both, same_name}
+use Rattle.instrumenter.proofs.Each.{Among, Each, Missing, each_both, same_name}
 use Rattle.instrumenter.proofs.Leaving.{among_left, among_parts, among_right, missing_both}
 
 -- ---- each name once
@@ -72,7 +72,7 @@ missing_there x y [] e = (or_parts (bytes_eq x y) false e).0
 missing_there x y (k ∷ ks) e = missing_there x y ks (or_parts (bytes_eq x k) _ e).1
 
 other_way : (x y : List ℕ) → bytes_eq x y ≡ false → bytes_eq y x ≡ false
-other_way x y e = false_from_ne_true (bytes_eq y x) (λ same. never_both (bytes_eq x x) (same_name x) (subst (λ z. bytes_eq x z ≡ false) ((bytes_eq-Decides y x).0 same) e))
+other_way x y e = false_from_ne_true (bytes_eq y x) (λ same. both_ways (bytes_eq x x) (subst (λ z. bytes_eq x z ≡ false) ((bytes_eq-Decides y x).0 same) e) (same_name x))
 
 one_more : (ks : List (List ℕ)) (x : List ℕ) → has_repeat ks ≡ false → Missing x ks → has_repeat (ks ++ x ∷ []) ≡ false
 one_more [] x apart free = refl
@@ -122,7 +122,7 @@ filtered_among p y (x ∷ xs) h there = by (p x) refl (bytes_eq y x) refl (filte
     by : (b : Bool) → p x ≡ b → (c : Bool) → bytes_eq y x ≡ c → (Among y xs → Among y (filter p xs)) → (c || is_among y xs) ≡ true → Among y (cond b (x ∷ filter p xs) (filter p xs))
     by true is true same more e = or_left (bytes_eq y x) (is_among y (filter p xs)) same
     by true is false same more e = or_right (bytes_eq y x) (is_among y (filter p xs)) (more e)
-    by false is true same more e = absurd (never_both (p x) (subst (λ z. p z ≡ true) ((bytes_eq-Decides y x).0 same) h) is)
+    by false is true same more e = absurd (both_ways (p x) is (subst (λ z. p z ≡ true) ((bytes_eq-Decides y x).0 same) h))
     by false is false same more e = more e
 
 pub captured_is_field : (own : Option (List ℕ)) (x : Option (List ℕ)) (formals : List (List ℕ)) (body : tree.Stmts) (y : List ℕ)

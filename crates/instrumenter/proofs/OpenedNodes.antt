@@ -1,7 +1,7 @@
 -- No node of an opened piece breaks an early rule, is a scope out of form, or declares a function.
 use Rattle.std.proofs.Common.{◌≡◌, refl, ap, ◌∙◌, ℕ, ◌+◌, Bool, true, false, not, ◌||◌, List, [], ◌∷◌, Option, None}
 use Rattle.std.specs.List.{list_any}
-use Rattle.std.proofs.lemmas.Bool.{or_from}
+use Rattle.std.proofs.lemmas.Bool.{or_from, or_parts}
 use Rattle.js_core.specs.Tree as tree
 use Rattle.js_core.specs.Tree.{name, num, text, bool, null, this, list, literal, func, member, index, call, construct, unary, update, binary, logical_and, logical_or, conditional, assign, comma, no_exprs, then_expr, no_expr, one_expr, no_holes, then_hole, no_fields, then_field, code, var, function, expr, empty, block, if_else, do_while, while, for, for_in, continue, break, return, throw, try, switch, no_stmts, then_stmt, no_body, one_body, no_declarators, then_declarator, no_init, init_var, init_expr, no_catch, one_catch, no_cases, then_case}
 use Rattle.js_grammar.specs.Syntax.{AreCases, AreDeclarators, AreExprs, AreFields, AreHoles, AreStmts, IsExpr, IsMaybeBody, IsMaybeCatch, IsMaybeExpr, IsStmt}
@@ -16,8 +16,7 @@ use Rattle.instrumenter.specs.Opening.{open_cases, open_catch, open_declarations
 use Rattle.instrumenter.proofs.Each.{Among}
 use Rattle.instrumenter.proofs.FormScopes.{after, expression_after}
 use Rattle.instrumenter.proofs.Leaving.{declarations_inside, fields_inside, own_is_name, statements_inside}
-use Rattle.instrumenter.proofs.NodePieces.{any_append, assigned_node, before_nodes, callee_node, clause_nodes, declaration_nodes, declared_node, expression_node, for_var_nodes, inner, kept, kept_declaration, kept_expression, loop_node, object_nodes, or_none, pair, reference_node, same_fields, still_no_name, still_target, unary_node, valued_free, var_nodes}
-use Rattle.instrumenter.proofs.NodeTests.{left_of, right_of}
+use Rattle.instrumenter.proofs.NodePieces.{any_append, assigned_node, before_nodes, callee_node, clause_nodes, declaration_nodes, declared_node, expression_node, for_var_nodes, inner, kept, kept_declaration, kept_expression, loop_node, object_nodes, pair, reference_node, same_fields, still_no_name, still_target, unary_node, valued_free, var_nodes}
 use Rattle.instrumenter.proofs.OnceNames.{fields_apart}
 use Rattle.instrumenter.proofs.OpenedNames.{opened_declarator_names, opening}
 
@@ -26,7 +25,7 @@ none_named x y there = cc there
 
 mutual
   pub expr_nodes : (f : List ℕ → Option ℕ) (w : List ℕ → Bool) (n : ℕ) (c d : Bool) (e : tree.Expr) → IsExpr e → expr_any kept c e ≡ false → expr_any inner d (open_expr (opening f w) n e) ≡ false
-  expr_nodes f w n c d (name x) is h = reference_node d (f x) x (left_of (is_restricted x) false (left_of (is_restricted x || false) _ h))
+  expr_nodes f w n c d (name x) is h = reference_node d (f x) x (or_parts (is_restricted x) false (or_parts (is_restricted x || false) _ h).0).0
   expr_nodes f w n c d (num k) is h = refl
   expr_nodes f w n c d (text x) is h = refl
   expr_nodes f w n c d (bool b) is h = refl
@@ -35,13 +34,13 @@ mutual
   expr_nodes f w n c d (list es) is h = holes_nodes f w n es is h
   expr_nodes f w n c d (literal fs) is h =
       pair {a = repeats_name fs || false} {b = repeats_name (open_fields (opening f w) n fs) || false}
-      (λ e. or_none _ (ap has_repeat (same_fields (opening f w) n fs) ∙ left_of (repeats_name fs) false e)) (fields_nodes f w n fs is) h
+      (λ e. or_from _ _ (ap has_repeat (same_fields (opening f w) n fs) ∙ (or_parts (repeats_name fs) false e).0) refl) (fields_nodes f w n fs is) h
   expr_nodes f w n c d (func (code x formals body)) is h =
       let own : Option (List ℕ) = own_name (code x formals body) in
       let fields : List (List ℕ) = expression_fields (code x formals body) in
       let inside : List ℕ → Option ℕ = fields_inside f n fields own x formals body in
       let facts = kept_expression c x formals body h in
-      let rest : stmts_any kept body ≡ false = right_of (kept (expression c (func (code x formals body)))) (stmts_any kept body) h in
+      let rest : stmts_any kept body ≡ false = (or_parts (kept (expression c (func (code x formals body)))) (stmts_any kept body) h).1 in
       or_from (inner (expression d (func (code x formals (expression_after f n x formals body))))) (stmts_any inner (expression_after f n x formals body))
       (expression_node f n d x formals body is.2 facts)
       (object_nodes n (valued_names own (code x formals body)) fields _ (valued_free own x formals body facts.0 (own_is_name x formals body)) (fields_apart own x formals body)
@@ -53,12 +52,12 @@ mutual
   expr_nodes f w n c d (call g es) is h = pair (λ e. callee_node (opening f w) g (open_expr (opening f w) n g) (λ k. expr_nodes f w n true k g is.0 e)) (exprs_nodes f w (n + expr_scopes g) es is.1) h
   expr_nodes f w n c d (construct g es) is h = pair (expr_nodes f w n false false g is.0) (exprs_nodes f w (n + expr_scopes g) es is.1) h
   expr_nodes f w n c d (unary op e) is h = pair (unary_node c d op e (open_expr (opening f w) n e) (still_no_name (opening f w) n e)) (expr_nodes f w n false false e is) h
-  expr_nodes f w n c d (update up prefix e) is h = pair (λ k. or_none _ (still_target (opening f w) n e (left_of _ false k))) (expr_nodes f w n false false e is) h
+  expr_nodes f w n c d (update up prefix e) is h = pair (λ k. or_from _ _ (still_target (opening f w) n e (or_parts _ false k).0) refl) (expr_nodes f w n false false e is) h
   expr_nodes f w n c d (binary op a b) is h = pair (expr_nodes f w (n) false false a is.0) (expr_nodes f w (n + expr_scopes a) false false b is.1) h
   expr_nodes f w n c d (logical_and a b) is h = pair (expr_nodes f w (n) false false a is.0) (expr_nodes f w (n + expr_scopes a) false false b is.1) h
   expr_nodes f w n c d (logical_or a b) is h = pair (expr_nodes f w (n) false false a is.0) (expr_nodes f w (n + expr_scopes a) false false b is.1) h
   expr_nodes f w n c d (conditional a b e) is h = pair (expr_nodes f w (n) false false a is.0) (pair (expr_nodes f w (n + expr_scopes a) false false b is.1) (expr_nodes f w ((n + expr_scopes a) + expr_scopes b) false false e is.2)) h
-  expr_nodes f w n c d (assign op a b) is h = pair (λ k. or_none _ (still_target (opening f w) n a (left_of _ false k))) (pair (expr_nodes f w (n) false false a is.1) (expr_nodes f w (n + expr_scopes a) false false b is.2)) h
+  expr_nodes f w n c d (assign op a b) is h = pair (λ k. or_from _ _ (still_target (opening f w) n a (or_parts _ false k).0) refl) (pair (expr_nodes f w (n) false false a is.1) (expr_nodes f w (n + expr_scopes a) false false b is.2)) h
   expr_nodes f w n c d (comma es) is h = exprs_nodes f w n es is.1 h
 
   pub exprs_nodes : (f : List ℕ → Option ℕ) (w : List ℕ → Bool) (n : ℕ) (es : tree.Exprs) → AreExprs es → exprs_any kept es ≡ false → exprs_any inner (open_exprs (opening f w) n es) ≡ false
@@ -82,9 +81,9 @@ mutual
   declarations_nodes f w n (then_stmt (function (code x formals body)) ss) is h =
       let fields : List (List ℕ) = declaration_fields (code x formals body) in
       let inside : List ℕ → Option ℕ = fields_inside f n fields None x formals body in
-      let parts : (stmt_any kept (function (code x formals body)) ≡ false) × (stmts_any kept ss ≡ false) = (left_of _ _ h, right_of _ _ h) in
+      let parts : (stmt_any kept (function (code x formals body)) ≡ false) × (stmts_any kept ss ≡ false) = or_parts _ _ h in
       let facts = kept_declaration x formals body parts.0 in
-      let rest : stmts_any kept body ≡ false = right_of (kept (statement (function (code x formals body)))) (stmts_any kept body) parts.0 in
+      let rest : stmts_any kept body ≡ false = (or_parts (kept (statement (function (code x formals body)))) (stmts_any kept body) parts.0).1 in
       declaration_nodes (opening f w) x (func (code None formals (after f n None x formals body))) _ facts.name_unrestricted
       (or_from (inner (expression false (func (code None formals (after f n None x formals body))))) (stmts_any inner (after f n None x formals body))
       (declared_node f n false x formals body is.0.1.2 facts)
@@ -93,52 +92,52 @@ mutual
       (declarations_nodes inside (λ y. is_among y fields) (next_number fields n) body is.0.1.2 rest)
       (stmts_nodes inside (λ y. is_among y fields) (next_number fields n) true body is.0.1.2 rest))))
       (declarations_nodes f w (n + stmt_scopes (function (code x formals body))) ss is.1 parts.1)
-  declarations_nodes f w n (then_stmt s ss) is h = declarations_nodes f w (n + stmt_scopes s) ss is.1 (right_of (stmt_any kept s) (stmts_any kept ss) h)
+  declarations_nodes f w n (then_stmt s ss) is h = declarations_nodes f w (n + stmt_scopes s) ss is.1 (or_parts (stmt_any kept s) (stmts_any kept ss) h).1
 
   pub stmt_nodes : (f : List ℕ → Option ℕ) (w : List ℕ → Bool) (n : ℕ) (top : Bool) (s : tree.Stmt) → IsStmt top s → stmt_any kept s ≡ false → stmts_any inner (open_stmt (opening f w) n s) ≡ false
   stmt_nodes f w n top (var ds) is h =
       let restricted : Bool = list_any is_restricted (declarator_names ds) in
-      let free : restricted ≡ false = left_of restricted _ (left_of _ (declarators_any kept ds) h) in
-      let more : declarators_any kept ds ≡ false = right_of _ (declarators_any kept ds) h in
+      let free : restricted ≡ false = (or_parts restricted _ (or_parts _ (declarators_any kept ds) h).0).0 in
+      let more : declarators_any kept ds ≡ false = (or_parts _ (declarators_any kept ds) h).1 in
       var_nodes (opening f w) ds _ (is_changed (opening f w) ds) _ free (assignments_nodes f w n ds is.1 free more)
       (ap (λ xs. list_any is_restricted xs) (opened_declarator_names (opening f w) n ds) ∙ free) (declarators_nodes f w n ds is.1 more)
   stmt_nodes f w n top (function e) is h = refl
-  stmt_nodes f w n top (expr e) is h = or_none _ (expr_nodes f w n false false e is h)
+  stmt_nodes f w n top (expr e) is h = or_from _ _ (expr_nodes f w n false false e is h) refl
   stmt_nodes f w n top empty is h = refl
-  stmt_nodes f w n top (block ss) is h = or_none _ (stmts_nodes f w n false ss is h)
-  stmt_nodes f w n top (if_else e a b) is h = or_none _ (pair (expr_nodes f w (n) false false e is.0) (pair (stmts_nodes f w (n + expr_scopes e) false a is.1) (body_nodes f w ((n + expr_scopes e) + stmts_scopes a) b is.2)) h)
-  stmt_nodes f w n top (do_while body e) is h = or_none _ (pair (stmts_nodes f w n false body is.0) (expr_nodes f w (n + stmts_scopes body) false false e is.1) h)
-  stmt_nodes f w n top (while e body) is h = or_none _ (pair (expr_nodes f w (n) false false e is.0) (stmts_nodes f w (n + expr_scopes e) false body is.1) h)
+  stmt_nodes f w n top (block ss) is h = or_from _ _ (stmts_nodes f w n false ss is h) refl
+  stmt_nodes f w n top (if_else e a b) is h = or_from _ _ (pair (expr_nodes f w (n) false false e is.0) (pair (stmts_nodes f w (n + expr_scopes e) false a is.1) (body_nodes f w ((n + expr_scopes e) + stmts_scopes a) b is.2)) h) refl
+  stmt_nodes f w n top (do_while body e) is h = or_from _ _ (pair (stmts_nodes f w n false body is.0) (expr_nodes f w (n + stmts_scopes body) false false e is.1) h) refl
+  stmt_nodes f w n top (while e body) is h = or_from _ _ (pair (expr_nodes f w (n) false false e is.0) (stmts_nodes f w (n + expr_scopes e) false body is.1) h) refl
   stmt_nodes f w n top (for no_init t s body) is h = loop_node no_init (open_maybe (opening f w) (n + 0) t) (open_maybe (opening f w) ((n + 0) + maybe_expr_scopes t) s) (open_stmts (opening f w) (((n + 0) + maybe_expr_scopes t) + maybe_expr_scopes s) body) refl refl (pair (maybe_nodes f w (n + 0) t is.1) (pair (maybe_nodes f w ((n + 0) + maybe_expr_scopes t) s is.2) (stmts_nodes f w (((n + 0) + maybe_expr_scopes t) + maybe_expr_scopes s) false body is.3)) h)
   stmt_nodes f w n top (for (init_var ds) t s body) is h =
       let restricted : Bool = list_any is_restricted (declarator_names ds) in
-      let free : restricted ≡ false = left_of restricted _ (left_of _ (declarators_any kept ds || (maybe_expr_any kept t || (maybe_expr_any kept s || stmts_any kept body))) h) in
+      let free : restricted ≡ false = (or_parts restricted _ (or_parts _ (declarators_any kept ds || (maybe_expr_any kept t || (maybe_expr_any kept s || stmts_any kept body))) h).0).0 in
       let more : (declarators_any kept ds || (maybe_expr_any kept t || (maybe_expr_any kept s || stmts_any kept body))) ≡ false =
-      right_of _ (declarators_any kept ds || (maybe_expr_any kept t || (maybe_expr_any kept s || stmts_any kept body))) h in
-      let parts : (declarators_any kept ds ≡ false) × ((maybe_expr_any kept t || (maybe_expr_any kept s || stmts_any kept body)) ≡ false) = (left_of _ _ more, right_of _ _ more) in
+      (or_parts _ (declarators_any kept ds || (maybe_expr_any kept t || (maybe_expr_any kept s || stmts_any kept body))) h).1 in
+      let parts : (declarators_any kept ds ≡ false) × ((maybe_expr_any kept t || (maybe_expr_any kept s || stmts_any kept body)) ≡ false) = or_parts _ _ more in
       for_var_nodes (opening f w) ds _ (is_changed (opening f w) ds) _ _ _ _ free (assignments_nodes f w n ds is.0.1 free parts.0)
       (ap (λ xs. list_any is_restricted xs) (opened_declarator_names (opening f w) n ds) ∙ free) (declarators_nodes f w n ds is.0.1 parts.0)
       (pair (maybe_nodes f w (n + declarators_scopes ds) t is.1) (pair (maybe_nodes f w ((n + declarators_scopes ds) + maybe_expr_scopes t) s is.2) (stmts_nodes f w (((n + declarators_scopes ds) + maybe_expr_scopes t) + maybe_expr_scopes s) false body is.3)) parts.1)
   stmt_nodes f w n top (for (init_expr e) t s body) is h =
-      let parts : (expr_any kept false e ≡ false) × ((maybe_expr_any kept t || (maybe_expr_any kept s || stmts_any kept body)) ≡ false) = (left_of _ _ h, right_of _ _ h) in
+      let parts : (expr_any kept false e ≡ false) × ((maybe_expr_any kept t || (maybe_expr_any kept s || stmts_any kept body)) ≡ false) = or_parts _ _ h in
       loop_node (init_expr (open_expr (opening f w) n e)) (open_maybe (opening f w) (n + expr_scopes e) t) (open_maybe (opening f w) ((n + expr_scopes e) + maybe_expr_scopes t) s) (open_stmts (opening f w) (((n + expr_scopes e) + maybe_expr_scopes t) + maybe_expr_scopes s) body) refl (expr_nodes f w n false false e is.0 parts.0)
       (pair (maybe_nodes f w (n + expr_scopes e) t is.1) (pair (maybe_nodes f w ((n + expr_scopes e) + maybe_expr_scopes t) s is.2) (stmts_nodes f w (((n + expr_scopes e) + maybe_expr_scopes t) + maybe_expr_scopes s) false body is.3)) parts.1)
   stmt_nodes f w n top (for_in declared t e body) is h =
-      let parts : ((not (is_target t) || false) ≡ false) × ((expr_any kept false t || (expr_any kept false e || stmts_any kept body)) ≡ false) = (left_of _ _ h, right_of _ _ h) in
-      before_nodes (opening f w) declared t _ (left_of (expr_any kept false t) _ parts.1)
-      (or_none _ (or_from _ _ (or_none _ (still_target (opening f w) n t (left_of _ false parts.0)))
-      (pair (expr_nodes f w (n) false false t is.1) (pair (expr_nodes f w (n + expr_scopes t) false false e is.2) (stmts_nodes f w ((n + expr_scopes t) + expr_scopes e) false body is.3)) parts.1)))
+      let parts : ((not (is_target t) || false) ≡ false) × ((expr_any kept false t || (expr_any kept false e || stmts_any kept body)) ≡ false) = or_parts _ _ h in
+      before_nodes (opening f w) declared t _ (or_parts (expr_any kept false t) _ parts.1).0
+      (or_from _ _ (or_from _ _ (or_from _ _ (still_target (opening f w) n t (or_parts _ false parts.0).0) refl)
+      (pair (expr_nodes f w (n) false false t is.1) (pair (expr_nodes f w (n + expr_scopes t) false false e is.2) (stmts_nodes f w ((n + expr_scopes t) + expr_scopes e) false body is.3)) parts.1)) refl)
   stmt_nodes f w n top continue is h = refl
   stmt_nodes f w n top break is h = refl
-  stmt_nodes f w n top (return e) is h = or_none _ (maybe_nodes f w n e is h)
-  stmt_nodes f w n top (throw e) is h = or_none _ (expr_nodes f w n false false e is h)
-  stmt_nodes f w n top (try b c l) is h = or_none _ (pair (stmts_nodes f w n false b is.1) (pair (catch_nodes f w (n + stmts_scopes b) c is.2) (body_nodes f w ((n + stmts_scopes b) + catch_scopes c) l is.3)) h)
-  stmt_nodes f w n top (switch e cs) is h = or_none _ (pair (expr_nodes f w (n) false false e is.0) (cases_nodes f w (n + expr_scopes e) cs is.2) h)
+  stmt_nodes f w n top (return e) is h = or_from _ _ (maybe_nodes f w n e is h) refl
+  stmt_nodes f w n top (throw e) is h = or_from _ _ (expr_nodes f w n false false e is h) refl
+  stmt_nodes f w n top (try b c l) is h = or_from _ _ (pair (stmts_nodes f w n false b is.1) (pair (catch_nodes f w (n + stmts_scopes b) c is.2) (body_nodes f w ((n + stmts_scopes b) + catch_scopes c) l is.3)) h) refl
+  stmt_nodes f w n top (switch e cs) is h = or_from _ _ (pair (expr_nodes f w (n) false false e is.0) (cases_nodes f w (n + expr_scopes e) cs is.2) h) refl
 
   pub stmts_nodes : (f : List ℕ → Option ℕ) (w : List ℕ → Bool) (n : ℕ) (top : Bool) (ss : tree.Stmts) → AreStmts top ss → stmts_any kept ss ≡ false → stmts_any inner (open_stmts (opening f w) n ss) ≡ false
   stmts_nodes f w n top no_stmts is h = refl
   stmts_nodes f w n top (then_stmt s ss) is h = any_append inner (open_stmt (opening f w) n s) (open_stmts (opening f w) (n + stmt_scopes s) ss)
-      (stmt_nodes f w n top s is.0 (left_of _ _ h)) (stmts_nodes f w (n + stmt_scopes s) top ss is.1 (right_of _ _ h))
+      (stmt_nodes f w n top s is.0 (or_parts _ _ h).0) (stmts_nodes f w (n + stmt_scopes s) top ss is.1 (or_parts _ _ h).1)
 
   pub body_nodes : (f : List ℕ → Option ℕ) (w : List ℕ → Bool) (n : ℕ) (b : tree.MaybeStmts) → IsMaybeBody b → maybe_stmts_any kept b ≡ false → maybe_stmts_any inner (open_maybe_body (opening f w) n b) ≡ false
   body_nodes f w n no_body is h = refl
@@ -147,10 +146,10 @@ mutual
   assignments_nodes : (f : List ℕ → Option ℕ) (w : List ℕ → Bool) (n : ℕ) (ds : tree.Declarators) → AreDeclarators ds → list_any is_restricted (declarator_names ds) ≡ false → declarators_any kept ds ≡ false
       → exprs_any inner (assignments (opening f w) (open_declarators (opening f w) n ds)) ≡ false
   assignments_nodes f w n no_declarators is e h = refl
-  assignments_nodes f w n (then_declarator x no_expr ds) is e h = assignments_nodes f w (n + 0) ds is.2 (right_of (is_restricted x) _ e) h
+  assignments_nodes f w n (then_declarator x no_expr ds) is e h = assignments_nodes f w (n + 0) ds is.2 (or_parts (is_restricted x) _ e).1 h
   assignments_nodes f w n (then_declarator x (one_expr v) ds) is e h =
-      pair (λ k. assigned_node (f x) x (open_expr (opening f w) n v) (left_of (is_restricted x) _ e) (expr_nodes f w n false false v is.1 k))
-      (assignments_nodes f w (n + expr_scopes v) ds is.2 (right_of (is_restricted x) _ e)) h
+      pair (λ k. assigned_node (f x) x (open_expr (opening f w) n v) (or_parts (is_restricted x) _ e).0 (expr_nodes f w n false false v is.1 k))
+      (assignments_nodes f w (n + expr_scopes v) ds is.2 (or_parts (is_restricted x) _ e).1) h
 
   pub declarators_nodes : (f : List ℕ → Option ℕ) (w : List ℕ → Bool) (n : ℕ) (ds : tree.Declarators) → AreDeclarators ds → declarators_any kept ds ≡ false → declarators_any inner (open_declarators (opening f w) n ds) ≡ false
   declarators_nodes f w n no_declarators is h = refl
@@ -160,7 +159,7 @@ mutual
   catch_nodes f w n no_catch is h = refl
   catch_nodes f w n (one_catch x ss) is h =
       let fields : List (List ℕ) = clause_fields x ss in
-      clause_nodes f w n x ss is.1 h (stmts_nodes (field_inside fields (x ∷ []) n f) w (next_number fields n) false ss is.1 (right_of _ (stmts_any kept ss) h))
+      clause_nodes f w n x ss is.1 h (stmts_nodes (field_inside fields (x ∷ []) n f) w (next_number fields n) false ss is.1 (or_parts _ (stmts_any kept ss) h).1)
 
   pub cases_nodes : (f : List ℕ → Option ℕ) (w : List ℕ → Bool) (n : ℕ) (cs : tree.Cases) → AreCases cs → cases_any kept cs ≡ false → cases_any inner (open_cases (opening f w) n cs) ≡ false
   cases_nodes f w n no_cases is h = refl
