@@ -3,6 +3,7 @@ use Rattle.std.proofs.Common.{◌≡◌, refl, sym, ap, ◌∙◌, ℕ, ◌<◌,
 use Rattle.std.specs.Option.{ForSome}
 use Rattle.std.proofs.lemmas.List.{length-append}
 use Rattle.std.proofs.lemmas.Slice.Eq.{bytes_eq-Decides}
+use Rattle.std.proofs.Math.Bool.{or-false, or_assoc}
 use Rattle.js_core.specs.Tree as tree
 use Rattle.js_core.specs.Tree.{name, code, var, function, expr, empty, block, if_else, do_while, while, for, for_in, continue, break, return, throw, try, switch, no_stmts, then_stmt, no_body, one_body, no_declarators, then_declarator, no_init, init_var, init_expr, no_catch, one_catch, no_cases, then_case}
 use Rattle.js_grammar.specs.Syntax.{AreCases, AreStmts, IsMaybeBody, IsMaybeCatch, IsStmt}
@@ -19,7 +20,7 @@ use Rattle.scope_analysis.specs.Names as names
 use Rattle.scope_analysis.specs.Names.{declared_names, is_among}
 use Rattle.scope_chains.specs.Laws.{ClausesAreLevels, FunctionsAreLevels, OwnNamesAreBound, opened_in}
 use Rattle.scope_chains.specs.Levels.{AreLevels, Binds, BindsOwn, Level, OwnName, innermost, round_it}
-use Rattle.scope_chains.proofs.Among.{among_append, or_between, or_none, or_round}
+use Rattle.scope_chains.proofs.Among.{among_append, or_between}
 use Rattle.scope_chains.proofs.Stay.{step_levels, step_own}
 
 -- ---- the names that a body declares, in two parts
@@ -89,7 +90,7 @@ declared_parts : (x : List ℕ) (ss : tree.Stmts) → AreStmts true ss → is_am
 declared_parts x no_stmts h = refl
 declared_parts x (then_stmt (function (code None formals body)) ss) h = cc h.0.0
 declared_parts x (then_stmt (function (code (Some y) formals body)) ss) h =
-    rw (declared_parts x ss h.1) (sym (or_round (bytes_eq x y) (is_among x (function_names (held.functions_of ss))) (is_among x (held.variables_of ss))))
+    rw (declared_parts x ss h.1) (sym (or_assoc (bytes_eq x y) (is_among x (function_names (held.functions_of ss))) (is_among x (held.variables_of ss))))
 declared_parts x (then_stmt (var ds) ss) h = plain x (var ds) ss (no_functions (var ds) h.0) refl (declared_parts x ss h.1)
 declared_parts x (then_stmt (expr e) ss) h = plain x (expr e) ss refl refl (declared_parts x ss h.1)
 declared_parts x (then_stmt empty ss) h = plain x empty ss refl refl (declared_parts x ss h.1)
@@ -134,7 +135,7 @@ last_bound (p ∷ ps) y x = by_case (bytes_eq x p.0) refl (last_bound ps y x)
     by_case false e r = rw (e) r
 
 pub names_bound : (b : Bound) (xs : List (List ℕ)) (x : List ℕ) → is_some (value_of (with_names b xs) x) ≡ (is_some (value_of b x) || is_among x xs)
-names_bound b [] x = or_none (is_some (value_of b x))
+names_bound b [] x = sym (or-false (is_some (value_of b x)))
 names_bound b (y ∷ ys) x = by_case (is_some (value_of b y)) refl (names_bound b ys x) (names_bound (b ++ (y, Undefined) ∷ []) ys x)
   where
     kept : (t : Bool) → bytes_eq x y ≡ t → is_some (value_of b y) ≡ true → (is_some (value_of b x) || is_among x ys) ≡ (is_some (value_of b x) || (t || is_among x ys))
@@ -146,7 +147,7 @@ names_bound b (y ∷ ys) x = by_case (is_some (value_of b y)) refl (names_bound 
         → is_some (value_of (with_names (b ++ (y, Undefined) ∷ []) ys) x) ≡ (is_some (value_of (b ++ (y, Undefined) ∷ []) x) || is_among x ys)
         → is_some (value_of (with_names b (y ∷ ys)) x) ≡ (is_some (value_of b x) || is_among x (y ∷ ys))
     by_case true h r s = rw (h) (r ∙ kept (bytes_eq x y) refl h)
-    by_case false h r s = rw (h) (s ∙ (ap (λ t. t || is_among x ys) (last_bound b y x) ∙ or_round (is_some (value_of b x)) (bytes_eq x y) (is_among x ys)))
+    by_case false h r s = rw (h) (s ∙ (ap (λ t. t || is_among x ys) (last_bound b y x) ∙ or_assoc (is_some (value_of b x)) (bytes_eq x y) (is_among x ys)))
 
 pub entry_bound : (formals : List (List ℕ)) (body : tree.Stmts) (vs : List Value) → AreStmts true body → (x : List ℕ) → is_some (value_of (entry_names formals body vs) x) ≡ is_among x (formals ++ declared_names body)
 entry_bound formals body vs h x =
@@ -154,7 +155,7 @@ entry_bound formals body vs h x =
     let us = held.variables_of body in
     names_bound (with_names (with_arguments formals vs) fs) us x
     ∙ (ap (λ t. t || is_among x us) (names_bound (with_arguments formals vs) fs x ∙ ap (λ t. t || is_among x fs) (arguments_bound formals vs x))
-    ∙ (or_round (is_among x formals) (is_among x fs) (is_among x us)
+    ∙ (or_assoc (is_among x formals) (is_among x fs) (is_among x us)
     ∙ (ap (λ t. is_among x formals || t) (sym (declared_parts x body h)) ∙ sym (among_append x formals (declared_names body)))))
 
 -- ---- a new environment
