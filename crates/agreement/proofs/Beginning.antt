@@ -1,7 +1,7 @@
 -- A page before its scripts agrees with itself: each built-in object names itself, and refers only to built-in ones (section 15).
 use Rattle.std.proofs.Common.{◌≡◌, ap, ◌∙◌, refl, sym, subst, ℕ, zero, suc, ◌<◌, Bool, true, false, ◌&&◌, nat_eq, nat_lt, List, [], ◌∷◌, Option, Some, None, length, arith}
 use Rattle.agreement.specs.Opened.{Demand, HasTrees, function_stands, opened_code, opening}
-use Rattle.std.proofs.lemmas.Bool.{and_parts, ltb-true}
+use Rattle.std.proofs.lemmas.Bool.{and_parts, both_ways, ltb-true}
 use Rattle.std.proofs.lemmas.Bool.Decides.{nat_tests}
 use Rattle.js_core.specs.Tree as tree
 use Rattle.js_values.specs.declared.ids.ObjId.{ObjId}
@@ -22,7 +22,6 @@ use Rattle.object_shapes.proofs.Callers.{pristine_shaped}
 use Rattle.object_shapes.specs.Links.{built_in_count}
 use Rattle.agreement.specs.Acts.{HasBuiltIns, IsPlaced, StoreRel}
 use Rattle.agreement.specs.Trees.{code_fits, HasEqualTrees}
-use Rattle.agreement.proofs.Entries.{never_opens}
 use Rattle.agreement.proofs.Unopened.{code_same}
 
 -- ---- the naming
@@ -70,8 +69,8 @@ asking_trees d closed = record {
   opens = sym closed;
   opened = λ n fs c. code_same n fs c ∙ ap (λ o. opened_code o n fs c) (sym closed);
   fits = λ n fs c. refl;
-  bases = λ e. never_opens closed e;
-  opening = λ e. never_opens closed e;
+  bases = λ e. absurd (both_ways _ closed e);
+  opening = λ e. absurd (both_ways _ closed e);
 }
 
 -- what is named below a place

@@ -3,7 +3,7 @@ use Rattle.std.proofs.Common.{◌≡◌, refl, sym, ap, ◌∙◌, ℕ, ◌+◌,
 use Rattle.std.proofs.lemmas.List.{append-nil}
 use Rattle.std.proofs.lemmas.List.Elements.{filter-append}
 use Rattle.std.proofs.lemmas.List.Folds.{list_any-append}
-use Rattle.std.proofs.lemmas.Bool.{and_parts}
+use Rattle.std.proofs.lemmas.Bool.{and_parts, or_left, or_right}
 use Rattle.std.proofs.lemmas.Slice.Eq.{bytes_eq-Decides}
 use Rattle.std.specs.List.{list_all}
 use Rattle.code_table.specs.Declarations as held
@@ -301,14 +301,10 @@ body_among a n ss x own =
 -- ---- what a body declares
 
 pub left_among : (x : List ℕ) (xs ys : List (List ℕ)) → is_among x xs ≡ true → is_among x (xs ++ ys) ≡ true
-left_among x xs ys h = list_any-append (bytes_eq x) xs ys ∙ ap (λ b. b || is_among x ys) h
+left_among x xs ys h = list_any-append (bytes_eq x) xs ys ∙ or_left (is_among x xs) (is_among x ys) h
 
 pub right_among : (x : List ℕ) (xs ys : List (List ℕ)) → is_among x ys ≡ true → is_among x (xs ++ ys) ≡ true
-right_among x xs ys h = list_any-append (bytes_eq x) xs ys ∙ ap (λ b. is_among x xs || b) h ∙ or_true (is_among x xs)
-  where
-    or_true : (b : Bool) → (b || true) ≡ true
-    or_true true = refl
-    or_true false = refl
+right_among x xs ys h = list_any-append (bytes_eq x) xs ys ∙ or_right (is_among x xs) (is_among x ys) h
 
 -- of two lists, one has it
 pub either_among : (x : List ℕ) (xs ys : List (List ℕ)) {P : Type 0} → is_among x (xs ++ ys) ≡ true → (is_among x xs ≡ true → P) → (is_among x ys ≡ true → P) → P

@@ -1,5 +1,5 @@
 -- Property descriptors of both pages, and definitions by them (sections 8.10 and 15.2.3).
-use Rattle.std.proofs.Common.{◌≡◌, refl, ap, subst, ◌∙◌, ℕ, Bool, true, false, if◌then◌else◌, ◌||◌, List, Option, Some, None, codes}
+use Rattle.std.proofs.Common.{◌≡◌, refl, ap, subst, ℕ, Bool, true, false, if◌then◌else◌, ◌||◌, List, Option, Some, None, codes}
 use Rattle.std.specs.Option.{option_map}
 use Rattle.js_values.specs.declared.ids.ObjId.{ObjId}
 use Rattle.js_values.specs.declared.value.Value.{Value}
@@ -60,11 +60,8 @@ change_of_rel g a b n = record {
   configurable = flag_of_same g a b n (codes "configurable");
 }
 
-or_same : {a b c d : Bool} → a ≡ b → c ≡ d → (a || c) ≡ (b || d)
-or_same {b = b} {c = c} e f = ap (λ x. x || c) e ∙ ap (λ x. b || x) f
-
 has_accessor_same : {W : World} {s t : Store} → StoreRel W s t → (a b : ObjId) → Named W a.0 b.0 → has_accessor s a ≡ has_accessor t b
-has_accessor_same g a b n = or_same (has_property_same g a b n (codes "get")) (has_property_same g a b n (codes "set"))
+has_accessor_same g a b n = λ i. has_property_same g a b n (codes "get") i || has_property_same g a b n (codes "set") i
 
 unless_accessor : {V : World} {c d : Change} (a b : Bool) → a ≡ b → ChangeRel (named V) c d → Maybe (ChangeRel (named V)) (if a then None else Some c) (if b then None else Some d)
 unless_accessor true true e r = none

@@ -1,6 +1,6 @@
 -- What calling a function of the page does (sections 10.4.3 and 13.2.1), in both pages.
 use Rattle.std.proofs.Common.{◌≡◌, refl, sym, ap, subst, ◌∙◌, ℕ, ◌+◌, ◌<◌, ◌^◌, Bool, true, false, ◌||◌, ◌&&◌, nat_eq, nat_lt, List, [], ◌∷◌, length, Option, Some, None, arith, if◌then◌else◌}
-use Rattle.std.proofs.lemmas.Bool.{and_parts, ltb-true}
+use Rattle.std.proofs.lemmas.Bool.{and_parts, both_ways, ltb-true}
 use Rattle.code_table.specs.Declarations.{functions_of}
 use Rattle.js_core.specs.Tree as tree
 use Rattle.js_core.specs.Tree.{code, function, literal, no_stmts, then_stmt}
@@ -30,7 +30,7 @@ use Rattle.agreement.proofs.Constants.{ready_up}
 use Rattle.agreement.proofs.Dropped.{act_as, act_from, append_run}
 use Rattle.agreement.proofs.EntryNames.{first_some}
 use Rattle.agreement.proofs.Entering.{Asked, asked, both_bind, declared_plain, declared_scoped, inner_among, inner_body, inner_passed, inside_fields, inside_of, no_argument_scope, no_body_scope, no_field_scope, others_value, whole_body, whole_passed}
-use Rattle.agreement.proofs.Entries.{Enters, bound_rel, enters_ready, enters_round, enters_up, entry_names_rel, entry_names_same, environment_rel, names_up, never_opens, opened_rel, plain_frame}
+use Rattle.agreement.proofs.Entries.{Enters, bound_rel, enters_ready, enters_round, enters_up, entry_names_rel, entry_names_same, environment_rel, names_up, opened_rel, plain_frame}
 use Rattle.agreement.proofs.EqualTrees.{trees_up}
 use Rattle.agreement.proofs.FirstSets.{declared_free, first_set}
 use Rattle.agreement.proofs.FirstStatements.{first_statement_rel}
@@ -133,7 +133,7 @@ closed_entered {V = V} {this = this} {that = that} {vs = vs} {ws = ws} c d n fs 
     by_first : (first : Bool) → begins_with_set (is_constant trees.demand formals body) body ≡ first → are_sure (trees.demand.seals formals body) formals body ≡ true
         → body_stands first (closed trees.demand) n (closed_frame trees.demand formals body ∷ fs) body ≡ true → Agrees V (enter (exec_all c) (code x formals body) e this vs) (enter (exec_all d) (code x formals body) f that ws)
     by_first false first sure inside =
-        bind_rel (opened_rel (is_bound formals body) (trees.demand.seals formals body) fs e f (entry_names formals body vs) (entry_names formals body ws) (never_opens (trees.opens ∙ shut)) o ready
+        bind_rel (opened_rel (is_bound formals body) (trees.demand.seals formals body) fs e f (entry_names formals body vs) (entry_names formals body ws) (λ e. absurd (both_ways _ (trees.opens ∙ shut) e)) o ready
         (entry_names_rel formals body vs ws h) (entry_names_same formals body vs)) (λ W l a b m.
         also_rel (declared_rel body n (trees_up l trees) shut m (λ y i. declared_free (trees.demand.seals formals body) formals body y sure i) (ap (λ z. stmts_stand z n (closed_frame trees.demand formals body ∷ fs) body) is ∙ inside)) (λ X j v w r.
         bind_rel (goes n body inside X (larger_more l j) a b (heap.round_up j (enters_round m)) (ready_up j (enters_ready m))) (λ Y k p q s. ret_rel (λ Z z. call_end_rel z s))))

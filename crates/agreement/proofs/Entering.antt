@@ -2,7 +2,7 @@
 use Rattle.std.proofs.Common.{◌≡◌, refl, sym, ap, subst, ◌∙◌, ℕ, Bool, true, false, ◌||◌, ◌&&◌, not, List, [], ◌∷◌, ◌++◌, Option, Some, None, is_some, bytes_eq, if◌then◌else◌}
 use Rattle.agreement.specs.Trees.{free_where}
 use Rattle.std.proofs.lemmas.Slice.Eq.{bytes_eq-Decides}
-use Rattle.std.proofs.lemmas.Bool.{and_parts}
+use Rattle.std.proofs.lemmas.Bool.{and_parts, not-true}
 use Rattle.std.proofs.lemmas.List.Folds.{list_any-append}
 use Rattle.std.specs.List.{list_all}
 use Rattle.code_table.specs.Declarations.{functions_of, variables_of}
@@ -33,10 +33,6 @@ pub record Asked (n : ℕ) (gs : List Frame) (own : Option (List ℕ)) (F : List
   pub own_plain : (x : List ℕ) → is_among x (maybe_name own) ≡ true → opened_at true (resolve gs x) ≡ None
   pub distinct : has_repeat F ≡ false
 
-not_true : (b : Bool) → not b ≡ true → b ≡ false
-not_true true e = absurd (cc e)
-not_true false e = refl
-
 not_some : (o : Option ℕ) → not (is_some o) ≡ true → o ≡ None
 not_some None e = refl
 not_some (Some m) e = absurd (cc e)
@@ -54,11 +50,11 @@ asked n gs own F formals body h =
     let five = and_parts owns (not (has_repeat F)) four.1 in
     record {
       numbered = one.0;
-      plain = λ x i. not_true (is_scope_name x) (all_among (λ y. not (is_reserved true y)) x names two.0 i);
+      plain = λ x i. not-true (is_scope_name x) (all_among (λ y. not (is_reserved true y)) x names two.0 i);
       declared = λ x i. all_among (is_bound formals body) x (declared_names body) three.0 i;
       field = λ x i. all_among (λ y. is_bound formals body y || (is_among y (maybe_name own) && is_round gs y)) x F four.0 i;
       own_plain = λ x i. not_some (opened_at true (resolve gs x)) (all_among (λ y. not (is_some (opened_at true (resolve gs y)))) x (maybe_name own) five.0 i);
-      distinct = not_true (has_repeat F) five.1;
+      distinct = not-true (has_repeat F) five.1;
     }
 
 -- the own name is none that the function declares

@@ -218,10 +218,6 @@ pub opened_rel : {V : World} (bound constant : List ℕ → Bool) (fs : List Fra
 opened_rel bound constant fs e f names others hidden o ready h same =
     environment_rel bound constant fs e f names others o ready (λ x own. heap.entry_found (bytes_eq x) h) same hidden (λ W l s t g. names_below g (names_up l h))
 
--- where nothing is opened, none is
-pub never_opens : {b : Bool} {A : Type 0} → b ≡ false → b ≡ true → A
-never_opens closed q = absurd (cc (q, closed))
-
 -- a name of it takes the value
 pub bound_rel : {V : World} {f : Frame} {fs : List Frame} {a b : EnvId} {v w : Value} (x : List ℕ) → is_reserved V.opens x ≡ false → Enters V f fs a b → f.keeps x ≡ Free → ValueRel (named V) v w
     → ActRel (Equal {A = Unit {0}}) V (bind_name a x v) (bind_name b x w)

@@ -1,6 +1,6 @@
 -- A scope is entered whose first statement sets its constant, to an object literal of names and `void 0` (sections 10.5, 11.1.5 and 12.14). The
 -- literal is older than all that its parts make, so its place is known when the scope is entered.
-use Rattle.std.proofs.Common.{◌≡◌, refl, sym, ap, subst, ◌∙◌, ℕ, suc, Bool, true, false, not, ◌&&◌, List, ◌∷◌, Option, Some, is_some, length, bytes_eq, arith, if◌then◌else◌}
+use Rattle.std.proofs.Common.{◌≡◌, refl, sym, ap, subst, ◌∙◌, ℕ, suc, Bool, true, false, not, List, ◌∷◌, Option, Some, is_some, length, bytes_eq, arith, if◌then◌else◌}
 use Rattle.std.proofs.lemmas.Bool.{and_from, and_parts, lt-ltb}
 use Rattle.std.proofs.lemmas.Slice.Eq.{bytes_eq-Decides}
 use Rattle.js_core.specs.declared.operators.UnaryOp.TheVariants.{Void}
@@ -74,15 +74,11 @@ void_rel : {V : World} (c d : Calls) (a b : Here) (e : tree.Expr) → is_zero e 
 void_rel c d a b (num (Some z)) q = also_rel (give_rel related.num) (λ W l v w r. give_rel undefined)
 void_rel c d a b e q = absurd (cc q)
 
-not_named : (x y : Bool) → (x && y) ≡ true → y ≡ true
-not_named true y e = e
-not_named false y e = absurd (cc e)
-
 plain_value_rel : {V : World} (c d : Calls) (D : Demand) (n : ℕ) (fs : List Frame) (a b : Here) (e : tree.Expr) → D.opens ≡ false → V.opens ≡ false
     → Round V fs a.env b.env → is_plain_value e ≡ true → expr_stands D n fs e ≡ true → Agrees V (eval c a e) (eval d b e)
 plain_value_rel c d D n fs a b (name x) closed shut o q stands =
     read_round_rel fs a b x o (ap (λ k. is_reserved k x) shut)
-    (reached_use false (resolve fs x) ∙ ap (λ k. may_use k false (resolve fs x)) (sym closed) ∙ not_named (not (is_reserved D.opens x)) (may_use D.opens false (resolve fs x)) stands)
+    (reached_use false (resolve fs x) ∙ ap (λ k. may_use k false (resolve fs x)) (sym closed) ∙ (and_parts (not (is_reserved D.opens x)) (may_use D.opens false (resolve fs x)) stands).1)
 plain_value_rel c d D n fs a b (unary Void e) closed shut o q stands = void_rel c d a b e q
 plain_value_rel c d D n fs a b e closed shut o q stands = absurd (cc q)
 

@@ -1,8 +1,9 @@
 -- What the rule of form says of the captured names of a function or a catch clause: each is a constant, which only the first statement may set.
 use Rattle.std.proofs.Common.{◌≡◌, refl, ap, ◌∙◌, ℕ, Bool, true, false, not, ◌&&◌, ◌||◌, List, [], ◌∷◌, ◌++◌, ◌⊎◌, inl, inr, None, bytes_eq, if◌then◌else◌}
 use Rattle.std.specs.List.{list_all, list_any}
-use Rattle.std.proofs.lemmas.Bool.{and_from, and_parts, false_from_ne_true, not-true, or_left, or_parts, or_right}
+use Rattle.std.proofs.lemmas.Bool.{and_from, and_parts, both_ways, cond-false, cond-true, false_from_ne_true, not-true, or_left, or_parts, or_right}
 use Rattle.std.proofs.lemmas.Slice.Eq.{bytes_eq-Decides}
+use Rattle.std.proofs.Math.Bool.{and-false}
 use Rattle.js_core.specs.Tree as tree
 use Rattle.js_core.specs.Tree.{assign, expr, function, literal, name, no_declarators, no_fields, no_stmts, one_expr, then_declarator, then_field, then_stmt, var}
 use Rattle.code_table.specs.Declarations.{functions_of}
@@ -11,24 +12,12 @@ use Rattle.scope_analysis.specs.Identifiers.{is_reserved}
 use Rattle.scope_analysis.specs.Names.{declared_names, is_among}
 use Rattle.scope_analysis.specs.Nodes.{stmt_any, stmts_any}
 use Rattle.scope_analysis.specs.Uses.{Use, assignment, fields_uses, is_assigned, is_captured, stmts_uses}
-use Rattle.instrumenter.proofs.Callers.{Among, Each, Missing, all_pass, among_right, each_among, never_both, right_of, same_name}
+use Rattle.instrumenter.proofs.Callers.{Among, Each, Missing, all_pass, among_right, each_among, same_name}
 use Rattle.agreement.specs.Opened.{are_sure, begins_with_set, declares_none, is_bound, is_sure}
-
-pub not_false : (b : Bool) → not b ≡ false → b ≡ true
-not_false true e = refl
-not_false false e = cc e
 
 pub or_else : (a b : Bool) → (not a || b) ≡ true → a ≡ true → b ≡ true
 or_else true b h e = h
 or_else false b h e = cc e
-
-when : (b x y : Bool) → b ≡ true → x ≡ true → (if b then x else y) ≡ true
-when true x y e h = h
-when false x y e h = cc e
-
-unless : (b x y : Bool) → b ≡ false → y ≡ true → (if b then x else y) ≡ true
-unless true x y e h = cc e
-unless false x y e h = h
 
 -- what holds of all names holds of each
 pub all_names : (p : List ℕ → Bool) (xs : List (List ℕ)) (x : List ℕ) → list_all p xs ≡ true → Among x xs → p x ≡ true
@@ -111,15 +100,11 @@ captured_is formals body x form there captured = (parts.0, by (is_among x formal
     by true e k = inl (e, k)
     by false e k = inr (e, k)
 
-pub and_false : (b : Bool) → (b && false) ≡ true → ⊥
-and_false true h = cc h
-and_false false h = cc h
-
 -- where the first statement declares a constant with an object literal, it sets one
 opens_begins : (body : tree.Stmts) (x : List ℕ) (p : List ℕ → Bool) → opens_with x body ≡ true → p x ≡ true → declares_none (functions_of body) ≡ true → begins_with_set p body ≡ true
 opens_begins (then_stmt (var (then_declarator y (one_expr (literal es)) no_declarators)) ss) x p h e d =
     and_from (p y) (declares_none (functions_of ss)) (ap p ((bytes_eq-Decides y x).0 (and_parts (bytes_eq y x) (are_plain_fields es) h).0) ∙ e) d
-opens_begins (then_stmt (var (then_declarator y e no_declarators)) ss) x p h k d = absurd (and_false (bytes_eq y x) h)
+opens_begins (then_stmt (var (then_declarator y e no_declarators)) ss) x p h k d = absurd (both_ways (bytes_eq y x && false) (and-false (bytes_eq y x)) h)
 opens_begins body x p h e d = cc h
 
 module _ (x : List ℕ) (us : List Use) where
@@ -134,7 +119,7 @@ module _ (x : List ℕ) (us : List Use) where
 pub no_functions : (body : tree.Stmts) → stmts_any is_declaration body ≡ false → declares_none (functions_of body) ≡ true
 no_functions no_stmts h = refl
 no_functions (then_stmt (function c) ss) h = cc h
-no_functions (then_stmt s ss) h = no_functions ss (right_of (stmt_any is_declaration s) (stmts_any is_declaration ss) h)
+no_functions (then_stmt s ss) h = no_functions ss (or_parts (stmt_any is_declaration s) (stmts_any is_declaration ss) h).1
 
 -- each constant is a formal that nothing declares again, or is set by the first statement
 pub names_are_sure : (formals : List (List ℕ)) (body : tree.Stmts) → Formed formals body → stmts_any is_declaration body ≡ false → are_sure (seals body) formals body ≡ true
@@ -146,10 +131,10 @@ names_are_sure formals body form plain =
     asked y = if is_among y formals then not (is_among y (declared_names body)) else begins_with_set (bytes_eq y) body
 
     either : (y : List ℕ) → Cause formals body y → asked y ≡ true
-    either y (inl k) = when (is_among y formals) _ _ k.0 (and_parts (not (is_assigned y (stmts_uses body))) (not (is_among y (declared_names body))) k.1).1
+    either y (inl k) = cond-true (is_among y formals) _ _ k.0 ∙ (and_parts (not (is_assigned y (stmts_uses body))) (not (is_among y (declared_names body))) k.1).1
     either y (inr k) =
         let parts = and_parts (opens_with y body) (is_once y (declared_names body) && is_assigned_once y (stmts_uses body)) k.1 in
-        unless (is_among y formals) _ _ k.0 (opens_begins body y (bytes_eq y) parts.0 (same_name y) (no_functions body plain))
+        cond-false (is_among y formals) _ _ k.0 ∙ opens_begins body y (bytes_eq y) parts.0 (same_name y) (no_functions body plain)
 
     by : (y : List ℕ) → Among y (formals ++ declared_names body) → (b : Bool) → seals body y ≡ b → (not b || asked y) ≡ true
     by y there true e = either y (captured_is formals body y form there (and_parts (is_reserved y) (is_captured y (stmts_uses body)) e).1).1
@@ -167,12 +152,12 @@ none_is_set formals body form plain none y bound there assigned =
   where
     by : seals body y ≡ true → Cause formals body y → ⊥
     by e (inl k) =
-        never_both (is_assigned y (stmts_uses body)) assigned
-        (not-true (is_assigned y (stmts_uses body)) (and_parts (not (is_assigned y (stmts_uses body))) (not (is_among y (declared_names body))) k.1).0)
+        both_ways (is_assigned y (stmts_uses body))
+        (not-true (is_assigned y (stmts_uses body)) (and_parts (not (is_assigned y (stmts_uses body))) (not (is_among y (declared_names body))) k.1).0) assigned
     by e (inr k) =
         let parts = and_parts (opens_with y body) (is_once y (declared_names body) && is_assigned_once y (stmts_uses body)) k.1 in
-        never_both (begins_with_set (holds formals body) body)
-        (opens_begins body y (holds formals body) parts.0 (and_from (is_bound formals body y) (seals body y) bound e) (no_functions body plain)) none
+        both_ways (begins_with_set (holds formals body) body) none
+        (opens_begins body y (holds formals body) parts.0 (and_from (is_bound formals body y) (seals body y) bound e) (no_functions body plain))
 
 -- ---- a body that begins with `var x={..};`
 
@@ -190,8 +175,9 @@ module _ (formals : List (List ℕ)) (x : List ℕ) (es : tree.Fields) (ss : tre
     where
       by : Cause formals opening x → are_plain_fields es ≡ true
       by (inl k) =
-          absurd (never_both (is_assigned x (stmts_uses opening)) (or_left (bytes_eq x x) (is_assigned x later) (same_name x))
-          (not-true (is_assigned x (stmts_uses opening)) (and_parts (not (is_assigned x (stmts_uses opening))) (not (is_among x (declared_names opening))) k.1).0))
+          absurd (both_ways (is_assigned x (stmts_uses opening))
+          (not-true (is_assigned x (stmts_uses opening)) (and_parts (not (is_assigned x (stmts_uses opening))) (not (is_among x (declared_names opening))) k.1).0)
+          (or_left (bytes_eq x x) (is_assigned x later) (same_name x)))
       by (inr k) =
           let parts = and_parts (opens_with x opening) (is_once x (declared_names opening) && is_assigned_once x (stmts_uses opening)) k.1 in
           (and_parts (bytes_eq x x) (are_plain_fields es) parts.0).1
@@ -204,12 +190,13 @@ module _ (formals : List (List ℕ)) (x : List ℕ) (es : tree.Fields) (ss : tre
     where
       by : Cause formals opening y → ⊥
       by (inl k) =
-          never_both (is_assigned y (stmts_uses opening)) (or_right (bytes_eq x y) (is_assigned y later) assigned)
+          both_ways (is_assigned y (stmts_uses opening))
           (not-true (is_assigned y (stmts_uses opening)) (and_parts (not (is_assigned y (stmts_uses opening))) (not (is_among y (declared_names opening))) k.1).0)
+          (or_right (bytes_eq x y) (is_assigned y later) assigned)
       by (inr k) =
           let parts = and_parts (opens_with y opening) (is_once y (declared_names opening) && is_assigned_once y (stmts_uses opening)) k.1 in
           let once = (and_parts (is_once y (declared_names opening)) (is_assigned_once y (stmts_uses opening)) parts.1).1 in
-          never_both (is_assigned y later) assigned (only_first y later x (and_parts (bytes_eq x y) (are_plain_fields es) parts.0).0 once)
+          both_ways (is_assigned y later) (only_first y later x (and_parts (bytes_eq x y) (are_plain_fields es) parts.0).0 once) assigned
 
 -- ---- a body that begins with `x={..};`
 
@@ -224,8 +211,9 @@ module _ (formals : List (List ℕ)) (x : List ℕ) (es : tree.Fields) (ss : tre
     where
       by : Cause formals setting x → ⊥
       by (inl k) =
-          never_both (is_assigned x (stmts_uses setting)) (or_left (bytes_eq x x) (is_assigned x (fields_uses es ++ stmts_uses ss)) (same_name x))
+          both_ways (is_assigned x (stmts_uses setting))
           (not-true (is_assigned x (stmts_uses setting)) (and_parts (not (is_assigned x (stmts_uses setting))) (not (is_among x (declared_names setting))) k.1).0)
+          (or_left (bytes_eq x x) (is_assigned x (fields_uses es ++ stmts_uses ss)) (same_name x))
       by (inr k) = cc k.1
 
 -- ---- catch clauses

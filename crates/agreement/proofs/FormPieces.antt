@@ -1,12 +1,13 @@
 -- What holds of a piece of a script in form and of the frames round it, of its parts, too.
 use Rattle.std.proofs.Common.{◌≡◌, ℕ, Bool, true, false, ◌||◌, List, ◌++◌, None}
+use Rattle.std.proofs.lemmas.Bool.{or_parts}
 use Rattle.js_core.specs.Tree as tree
 use Rattle.js_core.specs.Tree.{assign, expr, literal, name, no_declarators, no_expr, one_expr, then_declarator, then_stmt, var}
 use Rattle.scope_analysis.specs.EarlyRules.{assigns_own_name}
 use Rattle.scope_analysis.specs.Form.{are_plain_fields, is_declaration, scope_out_of_form}
 use Rattle.scope_analysis.specs.Nodes.{Node, fields_any, stmts_any}
 use Rattle.scope_analysis.specs.Uses.{Use, declarator_uses, expr_uses, fields_uses, maybe_expr_uses, stmts_uses, target_uses}
-use Rattle.instrumenter.proofs.Callers.{Each, each_parts, left_of, right_of}
+use Rattle.instrumenter.proofs.Callers.{Each, each_parts}
 use Rattle.heap_relations.specs.Naming.{Frame, resolve}
 use Rattle.agreement.specs.Formed.{is_found_so, is_unasked}
 use Rattle.agreement.specs.Opened.{may_use}
@@ -32,18 +33,18 @@ pub record Piece (asks : tree.Code → Bool) (any : (Node → Bool) → Bool) (u
 
 pub clean_left : {asks : tree.Code → Bool} (f g : (Node → Bool) → Bool) → Clean asks (λ t. f t || g t) → Clean asks f
 clean_left {asks = asks} f g h = record {
-  asked = left_of (f (is_unasked asks)) (g (is_unasked asks)) h.asked;
-  formed = left_of (f scope_out_of_form) (g scope_out_of_form) h.formed;
-  plain = left_of (f is_declaration) (g is_declaration) h.plain;
-  own = left_of (f assigns_own_name) (g assigns_own_name) h.own;
+  asked = (or_parts (f (is_unasked asks)) (g (is_unasked asks)) h.asked).0;
+  formed = (or_parts (f scope_out_of_form) (g scope_out_of_form) h.formed).0;
+  plain = (or_parts (f is_declaration) (g is_declaration) h.plain).0;
+  own = (or_parts (f assigns_own_name) (g assigns_own_name) h.own).0;
 }
 
 pub clean_right : {asks : tree.Code → Bool} (f g : (Node → Bool) → Bool) → Clean asks (λ t. f t || g t) → Clean asks g
 clean_right {asks = asks} f g h = record {
-  asked = right_of (f (is_unasked asks)) (g (is_unasked asks)) h.asked;
-  formed = right_of (f scope_out_of_form) (g scope_out_of_form) h.formed;
-  plain = right_of (f is_declaration) (g is_declaration) h.plain;
-  own = right_of (f assigns_own_name) (g assigns_own_name) h.own;
+  asked = (or_parts (f (is_unasked asks)) (g (is_unasked asks)) h.asked).1;
+  formed = (or_parts (f scope_out_of_form) (g scope_out_of_form) h.formed).1;
+  plain = (or_parts (f is_declaration) (g is_declaration) h.plain).1;
+  own = (or_parts (f assigns_own_name) (g assigns_own_name) h.own).1;
 }
 
 pub left : {asks : tree.Code → Bool} {us : List Use} {fs : List Frame} (vs : List Use) (f g : (Node → Bool) → Bool) → Piece asks (λ t. f t || g t) (us ++ vs) fs → Piece asks f us fs

@@ -1,7 +1,8 @@
 -- A function or a catch clause of a script in form: what is asked of it holds, and its body is a piece of one in its frame.
 use Rattle.std.proofs.Common.{◌≡◌, ◌∙◌, refl, sym, ap, ℕ, Bool, true, false, ◌&&◌, ◌||◌, List, [], ◌∷◌, ◌++◌, Option, Some, None, bytes_eq, if◌then◌else◌}
-use Rattle.std.proofs.lemmas.Bool.{and_from, and_parts, not-true}
+use Rattle.std.proofs.lemmas.Bool.{and_from, and_parts, both_ways, not-false, not-true, or_parts}
 use Rattle.std.proofs.lemmas.Slice.Eq.{bytes_eq-Decides}
+use Rattle.std.proofs.Math.Bool.{and-false}
 use Rattle.js_core.specs.Tree as tree
 use Rattle.js_core.specs.Tree.{assign, code, expr, func, function, literal, name, no_declarators, one_catch, one_expr, then_declarator, then_stmt, var}
 use Rattle.js_grammar.specs.Syntax.{AreStmts}
@@ -12,14 +13,14 @@ use Rattle.scope_analysis.specs.Identifiers.{is_reserved}
 use Rattle.scope_analysis.specs.Names.{bound_names, declared_names, is_among, maybe_name, own_name}
 use Rattle.scope_analysis.specs.Nodes.{catch_any, declarators_any, clause, expr_any, expression, fields_any, maybe_expr_any, statement, stmt_any, stmts_any}
 use Rattle.scope_analysis.specs.Uses.{Use, catch_uses, expr_uses, fields_uses, is_assigned, is_captured, leaving_function, stmt_uses, stmts_uses}
-use Rattle.instrumenter.proofs.Callers.{Among, Each, Leaving, Missing, Staying, all_pass, each_always, each_parts, each_so, leaving_from, leaving_to, left_of, missing_both, missing_parts, name_is_own, never_both, same_name, staying_to}
+use Rattle.instrumenter.proofs.Callers.{Among, Each, Leaving, Missing, Staying, all_pass, each_always, each_parts, each_so, leaving_from, leaving_to, missing_both, missing_parts, name_is_own, same_name, staying_to}
 use Rattle.scope_chains.proofs.Callers.{entry_bound}
 use Rattle.heap_relations.specs.Naming.{Absent, Frame, Place, Sealed, resolve, resolved}
 use Rattle.heap_relations.specs.Scope.{own_frame}
 use Rattle.agreement.specs.Formed.{absent_kept, finds_needs, formed, held_kept, is_found_so, is_held, is_unbound, seals_name}
 use Rattle.agreement.specs.Opened.{are_sure, begins_with_set, clause_frame, declares_none, frames_round, function_frame, is_bound, is_sealed, may_use}
 use Rattle.agreement.specs.Trees.{bound_where}
-use Rattle.agreement.proofs.FormNames.{Formed, and_false, assigned_each, box_is_plain, captured_each, captured_is, holds, names_are_sure, no_functions, none_is_set, none_is_set_later, not_false, only_first, opening_is_plain, or_else, seals, setting_is_unbound, unassigned_each, uncaptured_each}
+use Rattle.agreement.proofs.FormNames.{Formed, assigned_each, box_is_plain, captured_each, captured_is, holds, names_are_sure, no_functions, none_is_set, none_is_set_later, only_first, opening_is_plain, or_else, seals, setting_is_unbound, unassigned_each, uncaptured_each}
 use Rattle.agreement.proofs.FormPieces.{Allowed, Clean, Piece, Sets, clean_left, clean_right}
 use Rattle.agreement.proofs.StandsScopes.{each_pair}
 
@@ -178,7 +179,7 @@ function_sets asks n formals (then_stmt (expr (assign None (name x) (literal es)
     let body : tree.Stmts = then_stmt (expr (assign None (name x) (literal es))) ss in
     let constant = and_parts (is_bound formals body x) (seals body x) (and_parts (holds formals body x) (declares_none (functions_of ss)) begins).0 in
     let captured = (and_parts (is_reserved x) (is_captured x (stmts_uses body)) constant.1).1 in
-    absurd (never_both (is_among x (formals ++ declared_names body)) (sym (entry_bound formals body [] is x) ∙ constant.0) (setting_is_unbound formals x es ss form captured))
+    absurd (both_ways (is_among x (formals ++ declared_names body)) (setting_is_unbound formals x es ss form captured) (sym (entry_bound formals body [] is x) ∙ constant.0))
 function_sets asks n formals body is fs form clean read out begins = absurd (cc begins)
 
 -- what is asked of a function in the frames right round it, and its body
@@ -242,12 +243,12 @@ module _ (x : Option (List ℕ)) (formals : List (List ℕ)) (body : tree.Stmts)
   pub expression_is : {asks : tree.Code → Bool} {n : ℕ} (c : Bool) → AreStmts true body
       → Piece asks (λ t. expr_any t c (func (code x formals body))) (expr_uses (func (code x formals body))) fs → Expression asks n fs x formals body
   expression_is {asks = asks} {n = n} c is h =
-      let form = and_parts (are_variables_in_form (code x formals body) (stmts_uses body)) (is_not_captured own (stmts_uses body)) (not_false _ (left_of _ _ h.clean.formed)) in
+      let form = and_parts (are_variables_in_form (code x formals body) (stmts_uses body)) (is_not_captured own (stmts_uses body)) (not-false _ (or_parts _ _ h.clean.formed).0) in
       let body_clean = clean_right (λ t. t (expression c (func (code x formals body)))) (λ t. stmts_any t body) h.clean in
       let out : Each (Outside round (formals ++ declared_names body)) (stmts_uses body) =
       each_pair Kinds (Leaving (Allowed fs) names) (Outside round (formals ++ declared_names body)) use_out (stmts_uses body)
       (each_pair (λ u. u.assigns ≡ true → Missing u.name (maybe_name own)) (λ u. u.crosses ≡ true → Missing u.name (maybe_name own)) Kinds (λ u a b. (a, b)) (stmts_uses body)
-      (unassigned own (stmts_uses body) (left_of _ _ h.clean.own)) (uncaptured own (stmts_uses body) form.1))
+      (unassigned own (stmts_uses body) (or_parts _ _ h.clean.own).0) (uncaptured own (stmts_uses body) form.1))
       (leaving_to (Allowed fs) names (stmts_uses body) h.allowed) in
       record {
         needs = and_from _ _ (seals_round x fs) (needs_found h.allowed);
@@ -285,11 +286,11 @@ module _ (asks : tree.Code → Bool) (n : ℕ) (x : List ℕ) (ss : tree.Stmts) 
   clause_use u stays captures spares = (
     (λ assigns.
         assigned_in (is_among u.name (x ∷ [])) (seals ss x) 0 (resolve fs u.name) (spares assigns)
-        (λ b. (stays (left_of (bytes_eq u.name x) false b)).0 assigns)),
+        (λ b. (stays (or_parts (bytes_eq u.name x) false b).0).0 assigns)),
     (λ crosses.
         found_in (is_reserved u.name) (is_among u.name (x ∷ [])) (seals ss x) (is_held fs u.name) (is_unbound fs u.name)
         (λ b. named (bytes_eq u.name x) refl b (captures crosses))
-        (λ b. (stays (left_of (bytes_eq u.name x) false b)).1 crosses)),
+        (λ b. (stays (or_parts (bytes_eq u.name x) false b).0).1 crosses)),
   )
     where
       named : (b : Bool) → bytes_eq u.name x ≡ b → (b || false) ≡ true → is_captured u.name (stmts_uses ss) ≡ true → (is_reserved u.name ≡ true) × (seals ss x ≡ true)
@@ -323,7 +324,7 @@ clause_sets asks n x (then_stmt (expr (assign None (name y) (literal es))) ss) f
     let allowed : Each (Allowed (clause_frame (formed asks) [] n x body ∷ fs)) later =
     block_allowed asks n x body fs form later out.1 (captured_each (stmts_uses body)).1
     (each_so (λ u. u.assigns ≡ true → Missing u.name (x ∷ [])) (Spares asks n x body fs form)
-    (λ u none assigns there. absurd (never_both (is_among u.name (x ∷ [])) there (none assigns))) later (unassigned_each x later unset)) in
+    (λ u none assigns there. absurd (both_ways (is_among u.name (x ∷ [])) (none assigns) there)) later (unassigned_each x later unset)) in
     let parts = each_parts (Allowed (clause_frame (formed asks) [] n x body ∷ fs)) (fields_uses es) (stmts_uses ss) allowed in
     let first = clean_left (λ t. stmt_any t (expr (assign None (name y) (literal es)))) (λ t. stmts_any t ss) clean in
     let assigning = clean_right (λ t. t (statement (expr (assign None (name y) (literal es))))) (λ t. expr_any t false (assign None (name y) (literal es))) first in
@@ -344,14 +345,14 @@ clause_sets asks n x (then_stmt (expr (assign None (name y) (literal es))) ss) f
         };
       },
     )
-clause_sets asks n x (then_stmt (expr (assign None (name y) e)) ss) fs form clean read out boxed once = absurd (and_false (bytes_eq y x) boxed)
+clause_sets asks n x (then_stmt (expr (assign None (name y) e)) ss) fs form clean read out boxed once = absurd (both_ways (bytes_eq y x && false) (and-false (bytes_eq y x)) boxed)
 clause_sets asks n x ss fs form clean read out boxed once = absurd (cc boxed)
 
 pub clause_is : {asks : tree.Code → Bool} {n : ℕ} {fs : List Frame} (x : List ℕ) (ss : tree.Stmts)
     → Piece asks (λ t. catch_any t (one_catch x ss)) (catch_uses (one_catch x ss)) fs → Clause asks n fs x ss
 clause_is {asks = asks} {n = n} {fs = fs} x ss h =
     let us : List Use = stmts_uses ss in
-    let form : is_parameter_in_form x ss us ≡ true = not_false _ (left_of _ _ h.clean.formed) in
+    let form : is_parameter_in_form x ss us ≡ true = not-false _ (or_parts _ _ h.clean.formed).0 in
     let clean = clean_right (λ t. t (clause x ss)) (λ t. stmts_any t ss) h.clean in
     let out : Each (Staying (Allowed fs) x) us = staying_to (Allowed fs) x us h.allowed in
     record {

@@ -5,7 +5,7 @@ use Rattle.agreement.specs.Acts.{StoreRel}
 use Rattle.page_meaning.specs.Act.{Calls}
 use Rattle.instrumenter.specs.Around.{literal_fields, next_number}
 use Rattle.std.proofs.lemmas.List.Folds.{list_any-append}
-use Rattle.std.proofs.lemmas.Bool.{and_parts, lt-ltb}
+use Rattle.std.proofs.lemmas.Bool.{and_parts, both_ways, false_from_ne_true, lt-ltb}
 use Rattle.code_table.specs.Declarations.{functions_of, variables_of}
 use Rattle.js_core.specs.Tree as tree
 use Rattle.js_core.specs.Tree.{code}
@@ -75,13 +75,6 @@ none_of : {A : Type 0} (o : Option A) → is_some o ≡ false → o ≡ None
 none_of None e = refl
 none_of (Some a) e = absurd (cc e)
 
-false_of : (b : Bool) → (b ≡ true → ⊥) → b ≡ false
-false_of true h = absurd (h refl)
-false_of false h = refl
-
-never : {A : Type 0} (b : Bool) → b ≡ true → b ≡ false → A
-never b e f = let wrong : true ≡ false = sym e ∙ f in absurd (cc wrong)
-
 module _ (n : ℕ) (gs : List Frame) (y : List ℕ) (ys : List (List ℕ)) (x : Option (List ℕ)) (formals : List (List ℕ)) (body : tree.Stmts) (a : Asked n gs (own_name (code x formals body)) (y ∷ ys) formals body) where
   abbrev own_names : List (List ℕ)
   own_names = maybe_name (own_name (code x formals body))
@@ -93,16 +86,16 @@ module _ (n : ℕ) (gs : List Frame) (y : List ℕ) (ys : List (List ℕ)) (x : 
   whole = whole_body n gs (y ∷ ys) x formals body
 
   not_formal : (z : List ℕ) → is_bound formals body z ≡ false → is_among z formals ≡ false
-  not_formal z h = false_of (is_among z formals) (λ e. never (is_bound formals body z) (formal_bound formals body z e) h)
+  not_formal z h = false_from_ne_true (is_among z formals) (λ e. absurd (both_ways (is_bound formals body z) h (formal_bound formals body z e)))
 
   not_declared : (z : List ℕ) → is_bound formals body z ≡ false → is_among z (declared_names body) ≡ false
-  not_declared z h = false_of (is_among z (declared_names body)) (λ e. never (is_bound formals body z) (a.declared z e) h)
+  not_declared z h = false_from_ne_true (is_among z (declared_names body)) (λ e. absurd (both_ways (is_bound formals body z) h (a.declared z e)))
 
   not_own : (z : List ℕ) → is_bound formals body z ≡ true → is_among z own_names ≡ false
   not_own z h =
-      false_of (is_among z own_names)
-      (λ e. never (is_among z (bound_names (code x formals body))) (list_any-append (bytes_eq z) formals (declared_names body) ∙ bound_declared formals body z h)
-      (own_apart x (bound_names (code x formals body)) z e))
+      false_from_ne_true (is_among z own_names)
+      (λ e. absurd (both_ways (is_among z (bound_names (code x formals body))) (own_apart x (bound_names (code x formals body)) z e)
+      (list_any-append (bytes_eq z) formals (declared_names body) ∙ bound_declared formals body z h)))
 
   argument_none : (ws : List Value) (z : List ℕ) → is_among z formals ≡ false → value_of (with_arguments formals ws) z ≡ None
   argument_none ws z h = none_of (value_of (with_arguments formals ws) z) (arguments_bind formals ws z ∙ h)
@@ -111,8 +104,8 @@ module _ (n : ℕ) (gs : List Frame) (y : List ℕ) (ys : List (List ℕ)) (x : 
   own_unbound : (ws : List Value) (z : List ℕ) → is_scope_name z ≡ false → is_bound formals body z ≡ false → value_of (entry_names formals whole ws) z ≡ None
   own_unbound ws z plain h =
       let declared = not_declared z h in
-      let fns = false_of (is_among z (function_names (functions_of body))) (λ e. never (is_among z (declared_names body)) (functions_declared z body e) declared) in
-      let vars = false_of (is_among z (variables_of body)) (λ e. never (is_among z (declared_names body)) (stmts_declared z body e) declared) in
+      let fns = false_from_ne_true (is_among z (function_names (functions_of body))) (λ e. absurd (both_ways (is_among z (declared_names body)) declared (functions_declared z body e))) in
+      let vars = false_from_ne_true (is_among z (variables_of body)) (λ e. absurd (both_ways (is_among z (declared_names body)) declared (stmts_declared z body e))) in
       let inner = body_avoid z (inside_of n gs (y ∷ ys) (code x formals body)) (next_number (y ∷ ys) n) body fns vars in
       others_value n gs (y ∷ ys) x formals body ws z
       ∙ (λ i. first_some (argument_none ws z (not_formal z h) i) (heap.not_scope_name z n plain i || inner i))
@@ -165,7 +158,7 @@ module _ (n : ℕ) (gs : List Frame) (y : List ℕ) (ys : List (List ℕ)) (x : 
         by_case : (b : Bool) → is_bound formals body z ≡ b → Found es k z
         by_case false b = let o = own_found z i b in record { env = o.1.0; value = o.0; is = o.1.1.0 }
         by_case true b =
-            let formal : is_among z formals ≡ true = either_among z formals own_names v (λ q. q) (λ q. never (is_among z own_names) q (not_own z b)) in
+            let formal : is_among z formals ≡ true = either_among z formals own_names v (λ q. q) (λ q. absurd (both_ways (is_among z own_names) (not_own z b) q)) in
             let w = some_of (value_of (with_arguments formals ws) z) (arguments_bind formals ws z ∙ formal) in
             record { env = k; value = w.0; is = argument_found z w.0 w.1 }
           where
@@ -182,7 +175,7 @@ module _ (n : ℕ) (gs : List Frame) (y : List ℕ) (ys : List (List ℕ)) (x : 
       where
         with_argument : {o p : Option Value} → Maybe (ValueRel (named W)) o p → value_of (with_arguments formals vs) z ≡ o → value_of (with_arguments formals ws) z ≡ p → is_among z formals ≡ true
             → EntryRel (named W) (known_of r z) Kept.Captured (value_of names z) any (Some (value_in es k valued z))
-        with_argument none one two formal = never (is_some (value_of (with_arguments formals vs) z)) (arguments_bind formals vs z ∙ formal) (ap is_some one)
+        with_argument none one two formal = absurd (both_ways (is_some (value_of (with_arguments formals vs) z)) (ap is_some one) (arguments_bind formals vs z ∙ formal))
         with_argument (some {a = v} {b = w} q) one two formal =
             let left : value_of names z ≡ Some v = entry_value formals body vs z ∙ ap (λ o. first_some o (is_among z (function_names (functions_of body)) || is_among z (variables_of body))) one in
             let right : value_in es k valued z ≡ w =

@@ -13,7 +13,7 @@ use Rattle.instrumenter.specs.Opening.{open_function, open_tops}
 use Rattle.instrumenter.specs.Fields.{expression_fields}
 use Rattle.instrumenter.specs.Around.{Around, opened_fields}
 use Rattle.agreement.specs.Opened.{Demand, HasTrees, HereRel, IsOpening, are_plain, expr_stands, function_stands, name_frame, opened_code, stmt_stands, stmts_stand, opened_at}
-use Rattle.std.proofs.lemmas.Bool.{and_parts, and_from, lt-ltb}
+use Rattle.std.proofs.lemmas.Bool.{and_parts, and_from, lt-ltb, not-true, both_ways}
 use Rattle.code_table.specs.Declarations.{functions_of}
 use Rattle.js_core.specs.Tree as tree
 use Rattle.js_core.specs.Tree.{code, function, no_stmts, then_stmt}
@@ -35,7 +35,7 @@ use Rattle.heap_relations.specs.Related as related
 use Rattle.heap_relations.specs.Related.{ChangeRel, Each, Maybe, PropRel, ValueRel, entry, no_entries, none, page, some, undefined}
 use Rattle.agreement.proofs.Acts.{also_rel, asking_rel, bind_rel, choose_rel, on_built_ins}
 use Rattle.agreement.proofs.Constants.{not_done, kept_function, kept_opened, older_now, ready_up, set_up}
-use Rattle.agreement.proofs.Entries.{Enters, enters, bound_rel, enters_round, enters_up, one_name_same, opened_rel, own_name_free, never_opens}
+use Rattle.agreement.proofs.Entries.{Enters, enters, bound_rel, enters_round, enters_up, one_name_same, opened_rel, own_name_free}
 use Rattle.agreement.proofs.EqualTrees.{trees_up}
 use Rattle.agreement.proofs.Heap.{define_at_rel, named_up, own_rel, value_up}
 use Rattle.agreement.proofs.Made.{made_rel, object_place}
@@ -91,11 +91,7 @@ all_older h W l s t g = older_now g.kept (ready_up l h)
 -- ---- function expressions
 
 pub plain_one : (x : List ℕ) → are_plain true (x ∷ []) ≡ true → is_reserved true x ≡ false
-plain_one x e = by_case (is_reserved true x) e
-  where
-    by_case : (b : Bool) → (not b && true) ≡ true → b ≡ false
-    by_case true e = absurd (cc e)
-    by_case false e = refl
+plain_one x e = not-true (is_reserved true x) (and_parts (not (is_reserved true x)) true e).0
 
 pub not_reserved : (opens : Bool) (x : List ℕ) → are_plain opens (x ∷ []) ≡ true → is_reserved opens x ≡ false
 not_reserved true x e = plain_one x e
@@ -222,7 +218,7 @@ close_over_rel {V = V} around n fs (Some x) formals body a b h f =
     by_case true o {opened = opened} same stands = own_rel_opened n fs x formals body opened a.env b.env h.trees same h.round h.ready own stands
     by_case false o {opened = opened} same stands =
         let closed : V.opens ≡ false = h.trees.opens ∙ names_closed h.trees.demand h.trees.opening (sym o) in
-        bind_rel (opened_rel (λ y. is_among y (x ∷ [])) (λ y. false) fs a.env b.env ((x, Undefined) ∷ []) ((x, Undefined) ∷ []) (never_opens closed) h.round h.ready (entry undefined no_entries) (one_name_same x Undefined)) (λ W l p q m.
+        bind_rel (opened_rel (λ y. is_among y (x ∷ [])) (λ y. false) fs a.env b.env ((x, Undefined) ∷ []) ((x, Undefined) ∷ []) (λ e. absurd (both_ways _ closed e)) h.round h.ready (entry undefined no_entries) (one_name_same x Undefined)) (λ W l p q m.
         bind_rel (make_function_rel n (frame_of (x ∷ []) ∷ fs) (Some x) formals body opened (Some p) (Some q) (trees_up l h.trees) same (enters_round m) (free_older x m) stands) (λ X j k u v.
         bind_rel (bound_rel x (ap (λ q. is_reserved q x) (sym (larger_more l j).opens ∙ closed)) (enters_up j m) (own_name_free x) (object_value_rel k u v)) (λ Y i z w r. give_rel (object_value_rel k u (named_up i v)))))
 

@@ -1,6 +1,6 @@
 -- References to names of both pages (sections 8.7 and 10.2.2.1).
 use Rattle.std.proofs.Common.{◌≡◌, refl, sym, ap, subst, ◌∙◌, ℕ, ◌<◌, Bool, true, false, not, List, Option, Some, None, arith}
-use Rattle.std.proofs.lemmas.Bool.{and_parts}
+use Rattle.std.proofs.lemmas.Bool.{and_parts, not-true}
 use Rattle.js_values.specs.declared.ids.EnvId.{EnvId}
 use Rattle.js_values.specs.declared.throw.Throw.TheVariants.{NotDefined}
 use Rattle.js_values.specs.declared.value.Value.{Value}
@@ -84,11 +84,7 @@ global_rel x = asking_rel {R = λ W. Maybe (ValueRel (named W))} (λ W l s t g. 
 pub own_name : {V : World} {k : Around} {fs : List Frame} {a b : Here} (assigns : Bool) (x : List ℕ) (h : HereRel V k fs a b) → name_stands h.trees.demand assigns fs x ≡ true → is_reserved V.opens x ≡ false
 own_name {fs = fs} assigns x h f =
     ap (λ o. is_reserved o x) h.trees.opens
-    ∙ not_true (is_reserved h.trees.demand.opens x) (and_parts (not (is_reserved h.trees.demand.opens x)) (may_use h.trees.demand.opens assigns (resolve fs x)) f).0
-  where
-    not_true : (b : Bool) → not b ≡ true → b ≡ false
-    not_true true e = absurd (cc e)
-    not_true false e = refl
+    ∙ not-true (is_reserved h.trees.demand.opens x) (and_parts (not (is_reserved h.trees.demand.opens x)) (may_use h.trees.demand.opens assigns (resolve fs x)) f).0
 
 pub used : (d : Demand) (fs : List Frame) (assigns : Bool) (x : List ℕ) → name_stands d assigns fs x ≡ true → may_use d.opens assigns (resolve fs x) ≡ true
 used d fs assigns x f = (and_parts (not (is_reserved d.opens x)) (may_use d.opens assigns (resolve fs x)) f).1

@@ -1,5 +1,5 @@
 -- The constructor `Object`, what it has, and what its prototype has, in both pages (section 15.2).
-use Rattle.std.proofs.Common.{◌≡◌, refl, ap, subst, ◌∙◌, ℕ, zero, suc, Bool, true, false, not, cond, ◌&&◌, List, [], ◌∷◌, ◌++◌, Option, filter, codes}
+use Rattle.std.proofs.Common.{◌≡◌, refl, ap, subst, ℕ, zero, suc, Bool, true, false, not, cond, ◌&&◌, List, [], ◌∷◌, ◌++◌, Option, filter, codes}
 use Rattle.std.specs.Fmt.{decimal}
 use Rattle.std.specs.List.{list_all}
 use Rattle.std.specs.Map.{keys_of}
@@ -218,18 +218,15 @@ sealing_rel = record { value = none; writable = refl; enumerable = refl; configu
 pub freezing_rel : {V : World} → ChangeRel (named V) freezing freezing
 freezing_rel = record { value = none; writable = refl; enumerable = refl; configurable = refl }
 
-and_same : {a b c d : Bool} → a ≡ b → c ≡ d → (a && c) ≡ (b && d)
-and_same {b = b} {c = c} e f = ap (λ x. x && c) e ∙ ap (λ x. b && x) f
-
 all_same : {V : World} {xs ys : Props} (f : Prop → Bool) → ((p q : Prop) → PropRel (named V) p q → f p ≡ f q) → Entries (PropRel (named V)) xs ys → list_all (λ e. f e.1) xs ≡ list_all (λ e. f e.1) ys
 all_same f h no_entries = refl
-all_same f h (entry {a = p} {b = q} k r) = and_same (h p q k) (all_same f h r)
+all_same f h (entry {a = p} {b = q} k r) = λ i. h p q k i && all_same f h r i
 
 pub is_sealed_same : (W : World) (o p : heap.Object) → ObjectRel (named W) o p → is_sealed o ≡ is_sealed p
-is_sealed_same W o p r = and_same (ap not r.extensible) (all_same (λ p. not p.configurable) (λ p q k. ap not k.configurable) r.props)
+is_sealed_same W o p r = λ i. not (r.extensible i) && all_same (λ p. not p.configurable) (λ p q k. ap not k.configurable) r.props i
 
 pub is_frozen_same : (W : World) (o p : heap.Object) → ObjectRel (named W) o p → is_frozen o ≡ is_frozen p
-is_frozen_same W o p r = and_same (ap not r.extensible) (all_same (λ p. not p.configurable && not p.writable) (λ p q k. and_same (ap not k.configurable) (ap not k.writable)) r.props)
+is_frozen_same W o p r = λ i. not (r.extensible i) && all_same (λ p. not p.configurable && not p.writable) (λ p q k j. not (k.configurable j) && not (k.writable j)) r.props i
 
 pub extensible_same : (W : World) (o p : heap.Object) → ObjectRel (named W) o p → o.extensible ≡ p.extensible
 extensible_same W o p r = r.extensible

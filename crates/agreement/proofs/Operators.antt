@@ -1,5 +1,5 @@
 -- Operators on values that are related (sections 11.4 to 11.9).
-use Rattle.std.proofs.Common.{◌≡◌, refl, ap, subst, ◌∙◌, ℕ, zero, suc, ℤ, pos, ◌<◌, nat_eq, nat_le, Bool, true, false, not, List, ◌++◌, length, Option, Some, Result, Ok, Err, if◌then◌else◌, codes, arith}
+use Rattle.std.proofs.Common.{◌≡◌, refl, ap, subst, ◌∙◌, ℕ, zero, suc, ℤ, pos, ◌<◌, nat_le, Bool, true, false, not, List, ◌++◌, length, Option, Some, Result, Ok, Err, if◌then◌else◌, codes, arith}
 use Rattle.std.specs.Option.{ForSome}
 use Rattle.js_core.specs.declared.operators.BinaryOp.{BinaryOp}
 use Rattle.js_core.specs.declared.operators.BinaryOp.TheVariants.{Mul, Div, Rem, Add, Sub, Shl, Shr, Ushr, Less, Greater, LessEq, GreaterEq, InstanceOf, Within, Equal as IsEqual, Unequal, Same, NotSame, BitAnd, BitXor, BitOr}
@@ -240,12 +240,6 @@ give_same_rel f h k = on_one_to_one (λ W l o. give_rel (truth_same (ap f (same_
 
 -- ---- chains of prototypes and of targets
 
-either_same : (b c : Bool) {x y : Bool} → b ≡ c → x ≡ y → (if b then true else x) ≡ (if c then true else y)
-either_same true true e h = refl
-either_same true false e h = absurd (cc e)
-either_same false true e h = absurd (cc e)
-either_same false false e h = h
-
 -- the bounds differ on both sides, since the ages do
 module _ {L : Links} {os ps : List heap.Object} (r : ObjectsRel L os ps) where
   module _ (left : AreOlder os) (right : AreOlder ps) where
@@ -258,9 +252,10 @@ module _ {L : Links} {os ps : List heap.Object} (r : ObjectsRel L os ps) where
     stands_above_same zero (suc m) k l _ _ h (some {a = a} i) f g = absurd (omega (arith, f a refl))
     stands_above_same (suc n) zero k l _ _ h (some {b = b} i) f g = absurd (omega (arith, g b refl))
     stands_above_same (suc n) (suc m) k l _ _ h (some {a = a} {b = b} i) f g =
-        either_same (nat_eq k a.0) (nat_eq l b.0) (r.one_to_one.same k l a.0 b.0 h i.linked)
-        (stands_above_same n m k l (object_at os a.0).proto (object_at ps b.0).proto h (r.at a.0 b.0 i.linked).proto
-        (λ c e. omega (arith, left a.0 c e, f a refl)) (λ d e. omega (arith, right b.0 d e, g b refl)))
+        let above =
+        stands_above_same n m k l (object_at os a.0).proto (object_at ps b.0).proto h (r.at a.0 b.0 i.linked).proto
+        (λ c e. omega (arith, left a.0 c e, f a refl)) (λ d e. omega (arith, right b.0 d e, g b refl)) in
+        λ j. if r.one_to_one.same k l a.0 b.0 h i.linked j then true else above j
 
   -- what comes of the target, if there is one
   next_target_rel : {c d : Class} (f g : ObjId) (x y : ObjId → ObjId) → ClassRel L c d → L.object f.0 g.0

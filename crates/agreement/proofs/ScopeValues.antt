@@ -1,6 +1,6 @@
 -- What a new scope object has (section 10.5): the formals and the function's own name with their values, the other variables without.
 use Rattle.std.proofs.Common.{◌≡◌, refl, sym, ap, subst, ◌∙◌, ℕ, Bool, true, false, ◌||◌, cond, List, [], ◌∷◌, ◌++◌, Option, Some, None, bytes_eq, if◌then◌else◌}
-use Rattle.std.proofs.lemmas.Bool.{or_parts}
+use Rattle.std.proofs.lemmas.Bool.{or_parts, or_right}
 use Rattle.std.proofs.lemmas.Slice.Eq.{bytes_eq-Decides}
 use Rattle.js_core.specs.Tree.{name}
 use Rattle.js_values.specs.declared.ids.EnvId.{EnvId}
@@ -45,11 +45,7 @@ literal_has d this es k valued (z ∷ zs) ages found =
     field (by_case (is_among z valued) refl) (literal_has d this es k valued zs ages (λ y i v. found y (later y i) v))
   where
     later : (y : List ℕ) → is_among y zs ≡ true → is_among y (z ∷ zs) ≡ true
-    later y i = ap (λ b. bytes_eq y z || b) i ∙ or_true (bytes_eq y z)
-      where
-        or_true : (b : Bool) → (b || true) ≡ true
-        or_true true = refl
-        or_true false = refl
+    later y i = or_right (bytes_eq y z) (is_among y zs) i
 
     by_case : (b : Bool) → is_among z valued ≡ b → (t : Store) (n : ℕ) → t.heap.environments ≡ es
         → (eval d (record { env = Some k; this = this }) (if b then name z else void_zero)).run t n ≡ Ended (signal.Value (if b then held (look_in es (Some k) z) else Undefined)) t n
@@ -91,11 +87,7 @@ values_fresh es k valued (z ∷ zs) props none once =
     )
   where
     later : (y : List ℕ) → is_among y zs ≡ true → is_among y (z ∷ zs) ≡ true
-    later y i = ap (λ b. bytes_eq y z || b) i ∙ or_true (bytes_eq y z)
-      where
-        or_true : (b : Bool) → (b || true) ≡ true
-        or_true true = refl
-        or_true false = refl
+    later y i = or_right (bytes_eq y z) (is_among y zs) i
 
     apart : (y : List ℕ) → is_among y zs ≡ true → is_among z zs ≡ false → bytes_eq y z ≡ false
     apart y i out = by_case (bytes_eq y z) refl

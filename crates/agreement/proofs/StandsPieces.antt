@@ -1,6 +1,6 @@
 -- What holds of a piece of a plain script and of the frames round it, of its parts, too.
 use Rattle.std.proofs.Common.{◌≡◌, refl, ℕ, ◌+◌, ◌<◌, ◌≤◌, ◌^◌, Bool, true, false, not, ◌&&◌, ◌||◌, cond, nat_eq, nat_lt, List, [], ◌∷◌, ◌++◌, arith}
-use Rattle.std.proofs.lemmas.Bool.{and_from, and_parts, lt-ltb, ltb-true, not_from_false}
+use Rattle.std.proofs.lemmas.Bool.{and_from, and_parts, lt-ltb, ltb-true, not_from_false, or_parts}
 use Rattle.js_core.specs.Tree as tree
 use Rattle.js_core.specs.Tree.{name, one_expr, no_expr}
 use Rattle.scope_analysis.specs.EarlyRules.{assigns_own_name, deletes_name}
@@ -8,7 +8,7 @@ use Rattle.scope_analysis.specs.Form.{has_reserved_identifier}
 use Rattle.scope_analysis.specs.Identifiers as identifiers
 use Rattle.scope_analysis.specs.Nodes.{Node}
 use Rattle.scope_analysis.specs.Uses.{Use, declarator_uses, expr_uses, maybe_expr_uses, target_uses}
-use Rattle.instrumenter.proofs.Callers.{Each, each_parts, left_of, right_of}
+use Rattle.instrumenter.proofs.Callers.{Each, each_parts}
 use Rattle.heap_relations.specs.Naming.{Frame, are_below, is_scope_name, resolve}
 use Rattle.agreement.specs.Opened.{may_use}
 
@@ -57,9 +57,9 @@ plain_name x h = not_from_false (is_scope_name x) (no_scope_name x h)
 
 pub left : {us : List Use} {k n : ℕ} {fs : List Frame} (vs : List Use) (m : ℕ) (f g : (Node → Bool) → Bool) → Piece (λ t. f t || g t) (us ++ vs) (k + m) n fs → Piece f us k n fs
 left {us = us} {k = k} {n = n} {fs = fs} vs m f g h = record {
-  plain = left_of (f has_reserved_identifier) (g has_reserved_identifier) h.plain;
-  deletes = left_of (f deletes_name) (g deletes_name) h.deletes;
-  own = left_of (f assigns_own_name) (g assigns_own_name) h.own;
+  plain = (or_parts (f has_reserved_identifier) (g has_reserved_identifier) h.plain).0;
+  deletes = (or_parts (f deletes_name) (g deletes_name) h.deletes).0;
+  own = (or_parts (f assigns_own_name) (g assigns_own_name) h.own).0;
   allowed = (each_parts (Allowed fs) us vs h.allowed).0;
   read = h.read;
   below = h.below;
@@ -68,9 +68,9 @@ left {us = us} {k = k} {n = n} {fs = fs} vs m f g h = record {
 
 pub right : {vs : List Use} {m n : ℕ} {fs : List Frame} (us : List Use) (k : ℕ) (f g : (Node → Bool) → Bool) → Piece (λ t. f t || g t) (us ++ vs) (k + m) n fs → Piece g vs m (n + k) fs
 right {vs = vs} {m = m} {n = n} {fs = fs} us k f g h = record {
-  plain = right_of (f has_reserved_identifier) (g has_reserved_identifier) h.plain;
-  deletes = right_of (f deletes_name) (g deletes_name) h.deletes;
-  own = right_of (f assigns_own_name) (g assigns_own_name) h.own;
+  plain = (or_parts (f has_reserved_identifier) (g has_reserved_identifier) h.plain).1;
+  deletes = (or_parts (f deletes_name) (g deletes_name) h.deletes).1;
+  own = (or_parts (f assigns_own_name) (g assigns_own_name) h.own).1;
   allowed = (each_parts (Allowed fs) us vs h.allowed).1;
   read = h.read;
   below = still_below n (n + k) fs (omega arith) h.below;
@@ -80,9 +80,9 @@ right {vs = vs} {m = m} {n = n} {fs = fs} us k f g h = record {
 -- what stands in a node
 pub inner : {us : List Use} {k n : ℕ} {fs : List Frame} (f g : (Node → Bool) → Bool) → Piece (λ t. f t || g t) us k n fs → Piece g us k n fs
 inner f g h = record {
-  plain = right_of (f has_reserved_identifier) (g has_reserved_identifier) h.plain;
-  deletes = right_of (f deletes_name) (g deletes_name) h.deletes;
-  own = right_of (f assigns_own_name) (g assigns_own_name) h.own;
+  plain = (or_parts (f has_reserved_identifier) (g has_reserved_identifier) h.plain).1;
+  deletes = (or_parts (f deletes_name) (g deletes_name) h.deletes).1;
+  own = (or_parts (f assigns_own_name) (g assigns_own_name) h.own).1;
   allowed = h.allowed;
   read = h.read;
   below = h.below;

@@ -1,7 +1,7 @@
 -- A function or a catch clause of a plain script may be opened, and its body is a piece of one in its frame.
 use Rattle.std.proofs.Common.{◌≡◌, ◌∙◌, refl, ℕ, suc, ◌+◌, ◌<◌, ◌^◌, Bool, true, false, not, ◌&&◌, ◌||◌, nat_lt, List, [], ◌∷◌, ◌++◌, Option, Some, None, bytes_eq, is_some, arith, if◌then◌else◌}
 use Rattle.std.specs.List.{list_any}
-use Rattle.std.proofs.lemmas.Bool.{and_from, false_from_ne_true, lt-ltb, not_from_false, or_from, or_left, or_parts, or_right}
+use Rattle.std.proofs.lemmas.Bool.{and_from, both_ways, false_from_ne_true, lt-ltb, not_from_false, or_left, or_parts, or_right}
 use Rattle.js_core.specs.Tree as tree
 use Rattle.js_core.specs.Tree.{code, func, function, one_catch}
 use Rattle.js_grammar.specs.Syntax.{AreStmts}
@@ -10,16 +10,17 @@ use Rattle.scope_analysis.specs.Form.{has_reserved_identifier}
 use Rattle.scope_analysis.specs.Identifiers as identifiers
 use Rattle.scope_analysis.specs.Names.{bound_names, declared_names, is_among, maybe_name, own_name}
 use Rattle.scope_analysis.specs.Nodes.{Node, catch_any, expr_any, stmt_any, stmts_any}
-use Rattle.scope_analysis.specs.Uses.{Use, catch_uses, expr_uses, is_assigned, is_captured, stmt_uses, stmts_uses}
+use Rattle.scope_analysis.specs.Uses.{Use, catch_uses, expr_uses, is_captured, stmt_uses, stmts_uses}
 use Rattle.instrumenter.specs.Around.{next_number}
 use Rattle.instrumenter.specs.Counting.{catch_scopes, count_of, expr_scopes, stmt_scopes, stmts_scopes}
 use Rattle.instrumenter.specs.Fields.{clause_fields, declaration_fields, expression_fields, fields_in}
-use Rattle.instrumenter.proofs.Callers.{Among, Each, Fails, Leaving, Missing, Staying, all_pass, among_left, among_right, each_among, each_at, each_both, each_fails, each_field, each_parts, each_so, fields_apart, leaving_to, left_of, missing_both, missing_parts, name_is_own, never_both, own_is_name, right_of, staying_to, stmts_undeclared}
+use Rattle.instrumenter.proofs.Callers.{Among, Each, Fails, Leaving, Missing, Staying, all_pass, among_left, among_right, each_among, each_at, each_both, each_fails, each_field, each_parts, each_so, fields_apart, leaving_to, missing_both, missing_parts, name_is_own, own_is_name, staying_to, stmts_undeclared}
 use Rattle.scope_chains.proofs.Callers.{entry_bound}
 use Rattle.heap_relations.specs.Naming.{Absent, Frame, Place, Sealed, are_below, is_scope_name, resolve, resolved}
 use Rattle.heap_relations.specs.Scope.{own_frame}
 use Rattle.agreement.proofs.Unset.{unset_clause, unset_frame}
 use Rattle.agreement.specs.Opened.{are_plain, clause_may_open, frames_round, is_bound, is_numbered, is_round, is_sealed, kept_in, may_open, may_use, number_in, opened_at, scope_frame}
+use Rattle.agreement.proofs.FormNames.{unassigned_each}
 use Rattle.agreement.proofs.StandsPieces.{Allowed, Piece, inner, plain_name, still_below, with_uses}
 
 pub each_pair : (P Q R : Use → Type 0) → ((u : Use) → P u → Q u → R u) → (us : List Use) → Each P us → Each Q us → Each R us
@@ -77,13 +78,7 @@ Unassigned own u = u.assigns ≡ true → Missing u.name (maybe_name own)
 unassigned : (own : Option (List ℕ)) (us : List Use) → assigns_maybe own us ≡ false → Each (Unassigned own) us
 unassigned own [] h = tt
 unassigned None (u ∷ us) h = ((λ e. refl), unassigned None us refl)
-unassigned (Some x) (u ∷ us) h =
-    let parts = or_parts (u.assigns && bytes_eq u.name x) (is_assigned x us) h in
-    (by u.assigns (bytes_eq u.name x) parts.0, unassigned (Some x) us parts.1)
-  where
-    by : (a b : Bool) → (a && b) ≡ false → a ≡ true → (b || false) ≡ false
-    by true b h e = or_from b false h refl
-    by false b h e = cc e
+unassigned (Some x) us h = unassigned_each x us h
 
 module _ (fs : List Frame) (z : List ℕ) where
   round_named : (y : List ℕ) → Among y (z ∷ []) → is_round (own_frame z ∷ fs) y ≡ true
@@ -162,14 +157,14 @@ module _ (own x : Option (List ℕ)) (formals : List (List ℕ)) (body : tree.St
       (each_among (λ z. Among z names) (maybe_name own) (λ z there. among_left z (maybe_name own) (formals ++ declared_names body) there))
       (each_among (λ z. Among z names) formals (λ z there. among_right z (maybe_name own) (formals ++ declared_names body) (among_left z formals (declared_names body) there)))
       (each_among (λ z. Among z names) (declared_names body) (λ z there. among_right z (maybe_name own) (formals ++ declared_names body) (among_right z formals (declared_names body) there))) in
-      false_from_ne_true (is_among y fields) (λ there. never_both (is_among y names) (each_at (λ z. Among z names) fields y named there) away)
+      false_from_ne_true (is_among y fields) (λ there. both_ways (is_among y names) away (each_at (λ z. Among z names) fields y named there))
 
   use_allowed : (u : Use) → Leaving (Allowed fs) names u → Unassigned own u → Allowed (unset_frame fields n formals body ∷ fs) u
   use_allowed u leaves kept assigns =
       assigned_in (is_among u.name fields) (is_bound formals body u.name) (number_in fields n) (resolve fs u.name) (λ e.
       let free : Missing u.name (formals ++ declared_names body) =
       false_from_ne_true (is_among u.name (formals ++ declared_names body)) (λ there.
-      never_both (is_bound formals body u.name) (each_at Binds (formals ++ declared_names body) u.name all_bound there) e) in
+      both_ways (is_bound formals body u.name) e (each_at Binds (formals ++ declared_names body) u.name all_bound there)) in
       let away : Missing u.name names = missing_both u.name (maybe_name own) (formals ++ declared_names body) (kept assigns) free in
       (no_field u.name away, leaves away assigns))
 
@@ -227,7 +222,7 @@ module _ (x : Option (List ℕ)) (formals : List (List ℕ)) (body : tree.Stmts)
       let before : List (List ℕ) = maybe_name x ++ bound_names (code x formals body) in
       let after : List (List ℕ) = maybe_name own ++ bound_names (code x formals body) in
       let round : List Frame = frames_round true x fs in
-      let node = identifiers_plain (left_of _ _ h.plain) in
+      let node = identifiers_plain (or_parts _ _ h.plain).0 in
       let names_in : (y : List ℕ) → Among y (maybe_name own) → Among y (maybe_name x) = own_is_name x formals body in
       let leave : Each (Leaving (Allowed round) after) (stmts_uses body) =
       each_so (Leaving (Allowed fs) before) (Leaving (Allowed round) after)
@@ -239,10 +234,10 @@ module _ (x : Option (List ℕ)) (formals : List (List ℕ)) (body : tree.Stmts)
       record {
         plain = all_pass (λ y. not (is_scope_name y)) (maybe_name x) node.0;
         opens = opens own x formals body is n round (numbered (expression_fields (code x formals body)) n (stmts_scopes body) round outer.few outer.below)
-            (each_among Plain (maybe_name own) (λ y there. each_at Plain (maybe_name x) y node.0 (names_in y there))) node.1 (names_plain (right_of _ _ h.plain))
+            (each_among Plain (maybe_name own) (λ y there. each_at Plain (maybe_name x) y node.0 (names_in y there))) node.1 (names_plain (or_parts _ _ h.plain).1)
             (λ y there. round_at x fs y (names_in y there)) (λ y there. unopened_at x fs y (names_in y there));
         piece = inside (λ t. stmts_any t body) (expression_fields (code x formals body)) (is_bound formals body) (stmts_uses body)
-            (body_allowed own x formals body is n round leave (left_of _ _ h.own)) outer;
+            (body_allowed own x formals body is n round leave (or_parts _ _ h.own).0) outer;
       }
 
   -- a function declaration, of which the name is not its own
@@ -250,11 +245,11 @@ module _ (x : Option (List ℕ)) (formals : List (List ℕ)) (body : tree.Stmts)
       → Piece (λ t. stmt_any t (function (code x formals body))) (stmt_uses (function (code x formals body))) (stmt_scopes (function (code x formals body))) n fs
       → Opens n fs x None (declaration_fields (code x formals body)) formals body
   declaration_opens {n = n} {fs = fs} is h =
-      let node = identifiers_plain (left_of _ _ h.plain) in
+      let node = identifiers_plain (or_parts _ _ h.plain).0 in
       record {
         plain = all_pass (λ y. not (is_scope_name y)) (maybe_name x) node.0;
         opens = opens None x formals body is n fs (numbered (declaration_fields (code x formals body)) n (stmts_scopes body) fs h.few h.below)
-            tt node.1 (names_plain (right_of _ _ h.plain)) (λ y there. cc there) (λ y there. cc there);
+            tt node.1 (names_plain (or_parts _ _ h.plain).1) (λ y there. cc there) (λ y there. cc there);
         piece = inside (λ t. stmts_any t body) (declaration_fields (code x formals body)) (is_bound formals body) (stmts_uses body)
             (body_allowed None x formals body is n fs (leaving_to (Allowed fs) (bound_names (code x formals body)) (stmts_uses body) h.allowed) refl) (inner _ (λ t. stmts_any t body) h);
       }
@@ -269,7 +264,7 @@ pub clause_opens : (x : List ℕ) (ss : tree.Stmts) {n : ℕ} {fs : List Frame}
     → Piece (λ t. catch_any t (one_catch x ss)) (catch_uses (one_catch x ss)) (catch_scopes (one_catch x ss)) n fs → ClauseOpens n fs x ss
 clause_opens x ss {n = n} {fs = fs} h = record {
   opens = and_from _ _ (numbered (clause_fields x ss) n (stmts_scopes ss) fs h.few h.below)
-      (and_from _ true (plain_name x (left_of (identifiers.is_reserved x) false (left_of _ _ h.plain))) refl);
+      (and_from _ true (plain_name x (or_parts (identifiers.is_reserved x) false (or_parts _ _ h.plain).0).0) refl);
   piece = inside (λ t. stmts_any t ss) (clause_fields x ss) (λ y. is_among y (x ∷ [])) (stmts_uses ss)
       (each_so (Staying (Allowed fs) x) (Allowed (unset_clause (clause_fields x ss) n x ∷ fs)) stays (stmts_uses ss) (staying_to (Allowed fs) x (stmts_uses ss) h.allowed))
       (inner _ (λ t. stmts_any t ss) h);
@@ -282,4 +277,4 @@ clause_opens x ss {n = n} {fs = fs} h = record {
     stays : (u : Use) → Staying (Allowed fs) x u → Allowed (unset_clause (clause_fields x ss) n x ∷ fs) u
     stays u out assigns =
         assigned_in (is_among u.name (clause_fields x ss)) (is_among u.name (x ∷ [])) (number_in (clause_fields x ss) n) (resolve fs u.name)
-        (λ e. (no_other (is_captured x (stmts_uses ss)) u.name e, out (left_of (bytes_eq u.name x) false e) assigns))
+        (λ e. (no_other (is_captured x (stmts_uses ss)) u.name e, out (or_parts (bytes_eq u.name x) false e).0 assigns))

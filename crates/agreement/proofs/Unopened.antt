@@ -1,5 +1,7 @@
 -- Where scopes are not opened, a tree stays as it is, and equal trees are a case of opened ones.
 use Rattle.std.proofs.Common.{◌≡◌, refl, sym, ap, ◌∙◌, ℕ, ◌+◌, Bool, true, false, not, ◌&&◌, List, [], ◌∷◌, ◌++◌, Option, Some, None, is_some, if◌then◌else◌}
+use Rattle.std.proofs.Math.Bool.{and-true}
+use Rattle.std.proofs.lemmas.Bool.{false≢true}
 use Rattle.instrumenter.specs.Counting.{stmt_scopes}
 use Rattle.js_core.specs.declared.operators.UnaryOp.{UnaryOp}
 use Rattle.js_core.specs.declared.operators.UnaryOp.TheVariants.{Delete}
@@ -69,12 +71,8 @@ no_field : {a : Around} (t : tree.Expr) → IsClosed a → target_is_field a t �
 no_field (name x) h = ap is_some (h.fields x)
 no_field t h = refl
 
-and_true : (b : Bool) → (b && true) ≡ b
-and_true true = refl
-and_true false = refl
-
 declared_same : {a : Around} (declared : Bool) (t : tree.Expr) → IsClosed a → (declared && not (target_is_field a t)) ≡ declared
-declared_same declared t h = ap (λ b. declared && not b) (no_field t h) ∙ and_true declared
+declared_same declared t h = ap (λ b. declared && not b) (no_field t h) ∙ and-true declared
 
 no_fields_opened : {a : Around} (fields : List (List ℕ)) → IsClosed a → opened_fields a.opens fields ≡ []
 no_fields_opened fields h = ap (λ o. opened_fields o fields) h.opens
@@ -336,15 +334,12 @@ code_same n fs (code x formals body) =
     let h : IsClosed (around_of false fs) = record { opens = refl; fields = λ y. refl; own = λ y. refl } in
     ap (λ b. code x formals b) (sym (body_same n _ x formals body [] h refl (stmts_same n body (closed_function n _ (code x formals body) h))))
 
-pub never : {A : Type 0} → false ≡ true → A
-never e = absurd (cc e)
-
 abbrev pub equal_trees : {W : World} → HasEqualTrees W → HasTrees W
 equal_trees h = record {
   demand = equal;
   opens = h.opens;
   opened = λ n fs c. h.opened n fs c ∙ code_same n fs c;
   fits = λ n fs c. h.fits n fs c ∙ function_use n fs c;
-  bases = λ e. never e;
-  opening = λ e. never e;
+  bases = λ e. absurd (false≢true e);
+  opening = λ e. absurd (false≢true e);
 }

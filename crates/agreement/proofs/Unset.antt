@@ -1,6 +1,7 @@
 -- Where no name is a constant, no statement sets one.
 use Rattle.std.proofs.Common.{◌≡◌, refl, ap, ◌∙◌, Bool, true, false, ◌&&◌, List, [], ◌∷◌, ◌++◌, None, ℕ}
 use Rattle.std.specs.List.{list_all}
+use Rattle.std.proofs.Math.Bool.{and-false}
 use Rattle.code_table.specs.Declarations.{functions_of}
 use Rattle.js_core.specs.Tree as tree
 use Rattle.js_core.specs.Tree.{assign, expr, literal, name, no_declarators, no_stmts, one_expr, then_declarator, then_stmt, var}
@@ -19,11 +20,7 @@ none_sets (then_stmt s ss) = ap (λ b. b && declares_none (functions_of (then_st
 
 -- nor bound and constant
 pub never_sets : (b : List ℕ → Bool) (body : tree.Stmts) → begins_with_set (λ x. b x && false) body ≡ false
-never_sets b body = ap (λ f. begins_with_set f body) (λ i x. and_false (b x) i) ∙ none_sets body
-  where
-    and_false : (c : Bool) → (c && false) ≡ false
-    and_false true = refl
-    and_false false = refl
+never_sets b body = ap (λ f. begins_with_set f body) (λ i x. and-false (b x) i) ∙ none_sets body
 
 pub none_sure : (formals : List (List ℕ)) (body : tree.Stmts) → are_sure (λ x. false) formals body ≡ true
 none_sure formals body = all_true (formals ++ declared_names body)
