@@ -1,6 +1,6 @@
 -- The plan of a page at rest names only what already stands.
 use Rattle.std.proofs.Common.{◌≡◌, ◌⊎◌, inl, inr, refl, sym, ap, subst, ◌∙◌, ℕ, suc, ◌+◌, ◌<◌, ◌≤◌, Bool, true, false, ◌&&◌, nat_eq, nat_lt, List, [], ◌∷◌, ◌++◌, append_assoc, Option, Some, None, length, get_or, bytes_eq, arith}
-use Rattle.std.proofs.lemmas.Bool.{cases_eq, cases_lt, eq-eqb, eqb-true, lt-ltb}
+use Rattle.std.proofs.lemmas.Bool.{and_from, and_parts, cases_eq, cases_lt, eq-eqb, eqb-true, lt-ltb}
 use Rattle.std.proofs.lemmas.List.Folds.{list_all-append, list_any_at}
 use Rattle.std.proofs.lemmas.List.Kept.{AllPairs-from_increasing}
 use Rattle.std.proofs.lemmas.List.Quantifiers.{position-Some}
@@ -30,20 +30,6 @@ use Rattle.rebuild_plan.specs.declared.statement.Maker.TheVariants as made
 use Rattle.rebuild_plan.specs.declared.statement.Rebuild.{Rebuild}
 use Rattle.heap_walker.proofs.Callers.{all_of, links_in_walk, made_among, made_older, props_among, roots_in_walk}
 
--- ---- both
-
-both : (a b : Bool) → a ≡ true → b ≡ true → (a && b) ≡ true
-both true b x y = y
-both false b x y = cc x
-
-left_of : (a b : Bool) → (a && b) ≡ true → a ≡ true
-left_of true b h = refl
-left_of false b h = cc h
-
-right_of : (a b : Bool) → (a && b) ≡ true → b ≡ true
-right_of true b h = h
-right_of false b h = cc h
-
 -- ---- what refers to places that fit still does when it is moved
 
 -- the place that a reference gets is below n
@@ -64,14 +50,14 @@ module _ (things : List ℕ) (n : ℕ) where
   values_fit (v ∷ vs) h =
       let split = sym (list_all-append fits (value_links v) (values_links vs)) ∙ h in
       list_all-append (λ k. nat_lt k n) (value_links (moved_value things v)) (values_links (moved_values things vs))
-      ∙ both _ _ (value_fits v (left_of _ _ split)) (values_fit vs (right_of _ _ split))
+      ∙ and_from _ _ (value_fits v (and_parts _ _ split).0) (values_fit vs (and_parts _ _ split).1)
 
   needs_fit : (ns : List (List ℕ × Value)) → list_all fits (needs_links ns) ≡ true → all_below n (needs_links (moved_needs things ns)) ≡ true
   needs_fit [] h = refl
   needs_fit (m ∷ ns) h =
       let split = sym (list_all-append fits (value_links m.1) (needs_links ns)) ∙ h in
       list_all-append (λ k. nat_lt k n) (value_links (moved_value things m.1)) (needs_links (moved_needs things ns))
-      ∙ both _ _ (value_fits m.1 (left_of _ _ split)) (needs_fit ns (right_of _ _ split))
+      ∙ and_from _ _ (value_fits m.1 (and_parts _ _ split).0) (needs_fit ns (and_parts _ _ split).1)
 
   proto_fits : (proto : Option ObjId) → list_all fits (proto_links proto) ≡ true → all_below n (proto_links (moved_proto things proto)) ≡ true
   proto_fits None h = refl
@@ -81,19 +67,19 @@ module _ (things : List ℕ) (n : ℕ) where
   maker_fits s proto class.List h = refl
   maker_fits s proto class.Fault h = refl
   maker_fits s proto (class.Page c env) h =
-      needs_fit (needs_of s env c) (right_of _ _ (sym (list_all-append fits (proto_links proto) (needs_links (needs_of s env c))) ∙ h))
+      needs_fit (needs_of s env c) (and_parts _ _ (sym (list_all-append fits (proto_links proto) (needs_links (needs_of s env c))) ∙ h)).1
   maker_fits s proto (class.Bound target this args) h =
-      let own = right_of _ _ (sym (list_all-append fits (proto_links proto) (target.0 ∷ (value_links this ++ values_links args))) ∙ h) in
-      let split = sym (list_all-append fits (value_links this) (values_links args)) ∙ right_of _ _ own in
-      both _ _ (left_of _ _ own)
+      let own = (and_parts _ _ (sym (list_all-append fits (proto_links proto) (target.0 ∷ (value_links this ++ values_links args))) ∙ h)).1 in
+      let split = sym (list_all-append fits (value_links this) (values_links args)) ∙ (and_parts _ _ own).1 in
+      and_from _ _ (and_parts _ _ own).0
       (list_all-append (λ k. nat_lt k n) (value_links (moved_value things this)) (values_links (moved_values things args))
-      ∙ both _ _ (value_fits this (left_of _ _ split)) (values_fit args (right_of _ _ split)))
-  maker_fits s proto class.Plain h = proto_fits proto (left_of _ _ (sym (list_all-append fits (proto_links proto) []) ∙ h))
-  maker_fits s proto (class.Native which) h = proto_fits proto (left_of _ _ (sym (list_all-append fits (proto_links proto) []) ∙ h))
-  maker_fits s proto class.Math h = proto_fits proto (left_of _ _ (sym (list_all-append fits (proto_links proto) []) ∙ h))
-  maker_fits s proto class.Window h = proto_fits proto (left_of _ _ (sym (list_all-append fits (proto_links proto) []) ∙ h))
-  maker_fits s proto (class.Node m) h = proto_fits proto (left_of _ _ (sym (list_all-append fits (proto_links proto) []) ∙ h))
-  maker_fits s proto (class.Event parts) h = proto_fits proto (left_of _ _ (sym (list_all-append fits (proto_links proto) []) ∙ h))
+      ∙ and_from _ _ (value_fits this (and_parts _ _ split).0) (values_fit args (and_parts _ _ split).1))
+  maker_fits s proto class.Plain h = proto_fits proto (and_parts _ _ (sym (list_all-append fits (proto_links proto) []) ∙ h)).0
+  maker_fits s proto (class.Native which) h = proto_fits proto (and_parts _ _ (sym (list_all-append fits (proto_links proto) []) ∙ h)).0
+  maker_fits s proto class.Math h = proto_fits proto (and_parts _ _ (sym (list_all-append fits (proto_links proto) []) ∙ h)).0
+  maker_fits s proto class.Window h = proto_fits proto (and_parts _ _ (sym (list_all-append fits (proto_links proto) []) ∙ h)).0
+  maker_fits s proto (class.Node m) h = proto_fits proto (and_parts _ _ (sym (list_all-append fits (proto_links proto) []) ∙ h)).0
+  maker_fits s proto (class.Event parts) h = proto_fits proto (and_parts _ _ (sym (list_all-append fits (proto_links proto) []) ∙ h)).0
 
 -- ---- places
 
@@ -167,7 +153,7 @@ makes_stand s things (k ∷ ks) n rest each h =
     makes_stand s things ks (suc n) rest (λ i inside. subst (λ m. list_all (fits things (built_in_count + m)) (made_links s (object_at s.heap.objects (get_or ks i 0))) ≡ true) (moved_on n i) (each (suc i) (omega (arith, inside))))
     (subst (λ m. standing m rest ≡ true) long h)
     in
-    both _ _ (both _ _ (eq-eqb n n refl) (maker_fits things (built_in_count + n) s o.proto o.class first)) others
+    and_from _ _ (and_from _ _ (eq-eqb n n refl) (maker_fits things (built_in_count + n) s o.proto o.class first)) others
   where
     moved_on : (a b : ℕ) → a + suc b ≡ suc a + b
     moved_on a b = omega arith
@@ -175,7 +161,7 @@ makes_stand s things (k ∷ ks) n rest each h =
 -- ---- properties are defined
 
 name_fits : (things : List ℕ) (n : ℕ) (at : ObjId) (v : Value) → nat_lt at.0 n ≡ true → list_all (fits things n) (value_links v) ≡ true → all_below n (at.0 ∷ value_links (moved_value things v)) ≡ true
-name_fits things n at v stands h = both _ _ stands (value_fits things n v h)
+name_fits things n at v stands h = and_from _ _ stands (value_fits things n v h)
 
 defines_stand : (things : List ℕ) (n : ℕ) (a b : Bool) (at : ObjId) (props : Props) (rest : List Rebuild)
     → nat_lt at.0 (built_in_count + n) ≡ true → list_all (fits things (built_in_count + n)) (props_links props) ≡ true → standing n rest ≡ true
@@ -183,20 +169,20 @@ defines_stand : (things : List ℕ) (n : ℕ) (a b : Bool) (at : ObjId) (props :
 defines_stand things n a b at [] rest stands h after = after
 defines_stand things n a b at (e ∷ es) rest stands h after =
     let split = sym (list_all-append (fits things (built_in_count + n)) (value_links e.1.value) (props_links es)) ∙ h in
-    let others : standing n (defines a b at (moved_props things es) ++ rest) ≡ true = defines_stand things n a b at es rest stands (right_of _ _ split) after in
-    let named : all_below (built_in_count + n) (at.0 ∷ value_links (moved_value things e.1.value)) ≡ true = name_fits things (built_in_count + n) at e.1.value stands (left_of _ _ split) in
+    let others : standing n (defines a b at (moved_props things es) ++ rest) ≡ true = defines_stand things n a b at es rest stands (and_parts _ _ split).1 after in
+    let named : all_below (built_in_count + n) (at.0 ∷ value_links (moved_value things e.1.value)) ≡ true = name_fits things (built_in_count + n) at e.1.value stands (and_parts _ _ split).0 in
     by (a && bytes_eq e.0 length_name) refl (b && bytes_eq e.0 prototype_name) refl others named
   where
     by : (c : Bool) → (a && bytes_eq e.0 length_name) ≡ c → (d : Bool) → (b && bytes_eq e.0 prototype_name) ≡ d → standing n (defines a b at (moved_props things es) ++ rest) ≡ true
         → all_below (built_in_count + n) (at.0 ∷ value_links (moved_value things e.1.value)) ≡ true
         → standing n (defines a b at (moved_props things (e ∷ es)) ++ rest) ≡ true
     by true is d other others named = rw is others
-    by false is true other others named = rw (is, other) (both _ _ named others)
-    by false is false other others named = rw (is, other) (both _ _ named others)
+    by false is true other others named = rw (is, other) (and_from _ _ named others)
+    by false is false other others named = rw (is, other) (and_from _ _ named others)
 
 own_fits : (things : List ℕ) (n : ℕ) (props : Props) (x : List ℕ) (p : Prop) → list_all (fits things n) (props_links props) ≡ true → own_property (moved_props things props) x ≡ Some p → all_below n (value_links p.value) ≡ true
 own_fits things n [] x p h found = cc found
-own_fits things n (e ∷ es) x p h found = by (bytes_eq x e.0) refl (λ g. own_fits things n es x p (right_of _ _ split) g)
+own_fits things n (e ∷ es) x p h found = by (bytes_eq x e.0) refl (λ g. own_fits things n es x p (and_parts _ _ split).1 g)
   where
     split : (list_all (fits things n) (value_links e.1.value) && list_all (fits things n) (props_links es)) ≡ true
     split = sym (list_all-append (fits things n) (value_links e.1.value) (props_links es)) ∙ h
@@ -204,12 +190,12 @@ own_fits things n (e ∷ es) x p h found = by (bytes_eq x e.0) refl (λ g. own_f
     by : (b : Bool) → bytes_eq x e.0 ≡ b → (own_property (moved_props things es) x ≡ Some p → all_below n (value_links p.value) ≡ true) → all_below n (value_links p.value) ≡ true
     by true same later =
         let is : moved_prop things e.1 ≡ p = cc (rw same at found) in
-        subst (λ q. all_below n (value_links q.value) ≡ true) is (value_fits things n e.1.value (left_of _ _ split))
+        subst (λ q. all_below n (value_links q.value) ≡ true) is (value_fits things n e.1.value (and_parts _ _ split).0)
     by false other later = later (rw other at found)
 
 length_stands : (n : ℕ) (m : Maker) (at : ObjId) (own : Option Prop) (rest : List Rebuild) → nat_lt at.0 (built_in_count + n) ≡ true
     → ((p : Prop) → own ≡ Some p → all_below (built_in_count + n) (value_links p.value) ≡ true) → standing n rest ≡ true → standing n (define_length m at own ++ rest) ≡ true
-length_stands n made.List at (Some p) rest stands h after = both _ _ (both _ _ stands (h p refl)) after
+length_stands n made.List at (Some p) rest stands h after = and_from _ _ (and_from _ _ stands (h p refl)) after
 length_stands n made.List at None rest stands h after = after
 length_stands n (made.Plain proto) at own rest stands h after = after
 length_stands n (made.Fault kind) at own rest stands h after = after
@@ -242,7 +228,7 @@ prevents_stand s things (j ∷ ks) n k few = by (object_at s.heap.objects j).ext
   where
     by : (b : Bool) → (object_at s.heap.objects j).extensible ≡ b → standing n (prevents (suc k) (things_at s things ks)) ≡ true → nat_lt (built_in_count + k) (built_in_count + n) ≡ true → standing n (prevents k (things_at s things (j ∷ ks))) ≡ true
     by true is others stands = rw is others
-    by false is others stands = rw is (both _ _ (both _ _ stands refl) others)
+    by false is others stands = rw is (and_from _ _ (and_from _ _ stands refl) others)
 
 -- ---- the whole plan
 
