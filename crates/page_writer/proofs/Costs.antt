@@ -2,6 +2,7 @@
 use Rattle.std.proofs.Common.{◌≡◌, refl, sym, ap, ◌∙◌, ℕ, suc, ◌+◌, ◌*◌, ◌≤◌, Bool, true, false, ◌&&◌, List, [], ◌∷◌, ◌++◌, length, Option, Some, None, bytes_eq, arith}
 use Rattle.std.specs.Prelude.{if◌then◌else◌}
 use Rattle.std.proofs.lemmas.Slice.Eq.{bytes_eq-Decides}
+use Rattle.std.proofs.lemmas.Bool.{and_parts}
 use Rattle.heap_walker.specs.Things.{globals_of, needs_of}
 use Rattle.heap_walker.specs.Weight.{arguments_load, class_load, has_made_length, load_of, needs_load, props_load, things_load, value_units, written, written_of}
 use Rattle.js_print.specs.Lexemes.{expr_lexemes}
@@ -25,7 +26,6 @@ use Rattle.rebuild_plan.specs.declared.statement.Maker.TheVariants as made
 use Rattle.rebuild_plan.specs.declared.statement.Rebuild.{Rebuild}
 use Rattle.rebuild_plan.specs.declared.statement.Rebuild.TheVariants.{Make, Define, DefinePrototype, DefineLength, Prevent}
 use Rattle.page_writer.specs.Statements.{reference}
-use Rattle.page_writer.proofs.Fitness.{right_of}
 use Rattle.page_writer.proofs.Lined.{bytes, maker_load}
 use Rattle.page_writer.proofs.Spelled.{thing_at_narrow, window_narrow}
 use Rattle.page_writer.proofs.Widths.{wide}
@@ -209,7 +209,7 @@ defines_cost a b at things (e ∷ es) few =
         ≤ bytes (props_load (written a (e ∷ es)))
     by true is d other others = rw is others
     by false is true other others =
-        let same : bytes_eq e.0 prototype_name ≡ true = right_of b (bytes_eq e.0 prototype_name) other in
+        let same : bytes_eq e.0 prototype_name ≡ true = (and_parts b (bytes_eq e.0 prototype_name) other).1 in
         let first = defined_same at e.0 prototype_name things e.1.value few same in
         rw (is, other) (omega (arith, first, others))
     by false is false other others =

@@ -1,7 +1,7 @@
 -- What fits into a statement: places of what is built in or of 75,000 things, and numbers in range.
-use Rattle.std.proofs.Common.{◌≡◌, refl, sym, ◌∙◌, ℕ, ◌<◌, ◌≤◌, Bool, true, false, ◌&&◌, nat_lt, List, [], ◌∷◌, ◌++◌, All, arith}
+use Rattle.std.proofs.Common.{◌≡◌, refl, sym, ◌∙◌, ℕ, ◌<◌, ◌≤◌, true, ◌&&◌, nat_lt, List, [], ◌∷◌, ◌++◌, All, arith}
 use Rattle.std.specs.Prelude.{⊤}
-use Rattle.std.proofs.lemmas.Bool.{lt-ltb, ltb-true}
+use Rattle.std.proofs.lemmas.Bool.{and_parts, lt-ltb, ltb-true}
 use Rattle.std.proofs.lemmas.List.Elements.{All-head, All-tail}
 use Rattle.std.proofs.lemmas.List.Folds.{list_all-append}
 use Rattle.heap_walker.specs.Things.{needs_links}
@@ -12,16 +12,6 @@ use Rattle.rebuild_plan.specs.declared.statement.Maker.{Maker}
 use Rattle.rebuild_plan.specs.declared.statement.Maker.TheVariants as made
 use Rattle.page_writer.specs.Literals.{IsLiteral, maker_values, need_values}
 
--- ---- both
-
-pub left_of : (a b : Bool) → (a && b) ≡ true → a ≡ true
-left_of true b h = refl
-left_of false b h = cc h
-
-pub right_of : (a b : Bool) → (a && b) ≡ true → b ≡ true
-right_of true b h = h
-right_of false b h = cc h
-
 -- ---- places
 
 -- the places of what is built in and of as many things as a page may have
@@ -29,25 +19,25 @@ abbrev pub AreLow : List ℕ → Type 0
 AreLow ks = all_below 75093 ks ≡ true
 
 pub low_first : (k : ℕ) (ks : List ℕ) → AreLow (k ∷ ks) → k < 75093
-low_first k ks low = ltb-true k 75093 (left_of (nat_lt k 75093) (all_below 75093 ks) low)
+low_first k ks low = ltb-true k 75093 (and_parts (nat_lt k 75093) (all_below 75093 ks) low).0
 
 pub low_others : (k : ℕ) (ks : List ℕ) → AreLow (k ∷ ks) → AreLow ks
-low_others k ks low = right_of (nat_lt k 75093) (all_below 75093 ks) low
+low_others k ks low = (and_parts (nat_lt k 75093) (all_below 75093 ks) low).1
 
 low_parts : (js ks : List ℕ) → AreLow (js ++ ks) → AreLow js × AreLow ks
 low_parts js ks low =
     let split : (all_below 75093 js && all_below 75093 ks) ≡ true =
     sym (list_all-append (λ k. nat_lt k 75093) js ks) ∙ low in
-    let first : AreLow js = left_of (all_below 75093 js) (all_below 75093 ks) split in
-    let others : AreLow ks = right_of (all_below 75093 js) (all_below 75093 ks) split in
+    let first : AreLow js = (and_parts (all_below 75093 js) (all_below 75093 ks) split).0 in
+    let others : AreLow ks = (and_parts (all_below 75093 js) (all_below 75093 ks) split).1 in
     (first, others)
 
 pub below_more : (m n : ℕ) (ks : List ℕ) → m ≤ n → all_below m ks ≡ true → all_below n ks ≡ true
 below_more m n [] more low = refl
 below_more m n (k ∷ ks) more low =
-    let first : nat_lt k m ≡ true = left_of (nat_lt k m) (all_below m ks) low in
+    let first : nat_lt k m ≡ true = (and_parts (nat_lt k m) (all_below m ks) low).0 in
     let here : nat_lt k n ≡ true = lt-ltb k n (omega (arith, ltb-true k m first, more)) in
-    rw here (below_more m n ks more (right_of (nat_lt k m) (all_below m ks) low))
+    rw here (below_more m n ks more (and_parts (nat_lt k m) (all_below m ks) low).1)
 
 -- ---- values
 

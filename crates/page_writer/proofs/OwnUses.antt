@@ -1,7 +1,7 @@
 -- The reserved names that the statements of a saved page use are `$$`, and no function inside uses it.
 use Rattle.std.proofs.Common.{◌≡◌, refl, sym, ap, ◌∙◌, ℕ, ℤ, pos, negsuc, ◌-◌, Bool, true, false, not, ◌&&◌, ◌||◌, All, List, [], ◌∷◌, ◌++◌, Option, Some, None, codes, bytes_eq, if◌then◌else◌}
 use Rattle.std.specs.List.{list_all, list_any}
-use Rattle.std.proofs.lemmas.Bool.{and_from, and_parts, not-true, not_from_false, or_from, or_parts}
+use Rattle.std.proofs.lemmas.Bool.{and_from, and_parts, not-true, not_from_false, or_from, or_left, or_parts}
 use Rattle.std.proofs.lemmas.List.{append-nil}
 use Rattle.std.proofs.lemmas.List.Elements.{All-head, All-tail}
 use Rattle.std.proofs.lemmas.List.Folds.{list_all-append}
@@ -50,12 +50,8 @@ own_none = record { each = refl }
 own_both : {us vs : List Use} → Own us → Own vs → Own (us ++ vs)
 own_both {us = us} {vs = vs} h k = record { each = list_all-append is_own us vs ∙ and_from (list_all is_own us) (list_all is_own vs) h.each k.each }
 
-or_true : (a b : Bool) → a ≡ true → (a || b) ≡ true
-or_true true b e = refl
-or_true false b e = cc e
-
 unreserved_is_own : (u : Use) → is_reserved u.name ≡ false → is_own u ≡ true
-unreserved_is_own u e = or_true (not (is_reserved u.name)) (not u.crosses && bytes_eq u.name list_name) (not_from_false (is_reserved u.name) e)
+unreserved_is_own u e = or_left (not (is_reserved u.name)) (not u.crosses && bytes_eq u.name list_name) (not_from_false (is_reserved u.name) e)
 
 own_name : (x : List ℕ) → is_reserved x ≡ false → Own (read x ∷ [])
 own_name x e = record { each = and_from (is_own (read x)) true (unreserved_is_own (read x) e) refl }

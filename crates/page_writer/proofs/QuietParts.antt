@@ -45,18 +45,15 @@ pub record IsQuiet (t : Node → Bool) : Type 0 where
   pub at_throw : (e : tree.Expr) → t (statement (throw e)) ≡ false
   pub at_try : (ss : tree.Stmts) (c : tree.MaybeCatch) (l : tree.MaybeStmts) → t (statement (try ss c l)) ≡ false
 
-nor : {x y : Bool} → x ≡ false → y ≡ false → (x || y) ≡ false
-nor {x = x} {y = y} e f = or_from x y e f
-
 module _ (t : Node → Bool) (q : IsQuiet t) where
   -- ---- references
 
   thing_quiet : (b : Bool) (n : ℕ) → expr_any t b (thing_expr n) ≡ false
-  thing_quiet b n = nor (q.at_index b (name (codes "$$")) (number_expr n)) (nor (q.at_name false (codes "$$") refl) (q.at_num false (Some (pos n))))
+  thing_quiet b n = or_from _ _ (q.at_index b (name (codes "$$")) (number_expr n)) (or_from _ _ (q.at_name false (codes "$$") refl) (q.at_num false (Some (pos n))))
 
   path_from_quiet : (e : tree.Expr) (xs : List (List ℕ)) → ((b : Bool) → expr_any t b e ≡ false) → (b : Bool) → expr_any t b (path_from e xs) ≡ false
   path_from_quiet e [] quiet b = quiet b
-  path_from_quiet e (x ∷ xs) quiet b = path_from_quiet (member e x) xs (λ c. nor (q.at_member c e x) (quiet false)) b
+  path_from_quiet e (x ∷ xs) quiet b = path_from_quiet (member e x) xs (λ c. or_from _ _ (q.at_member c e x) (quiet false)) b
 
   path_quiet : (xs : List (List ℕ)) → begins_common xs ≡ true → (b : Bool) → expr_any t b (path_expr xs) ≡ false
   path_quiet [] e b = cc (e, none_begin)
@@ -74,10 +71,10 @@ module _ (t : Node → Bool) (q : IsQuiet t) where
   whole_quiet : (n : Option ℤ) (b : Bool) → expr_any t b (whole_expr n) ≡ false
   whole_quiet None b = q.at_name b (codes "NaN") refl
   whole_quiet (Some (pos n)) b = q.at_num b (Some (pos n))
-  whole_quiet (Some (negsuc n)) b = nor (q.at_minus b _) (q.at_num false _)
+  whole_quiet (Some (negsuc n)) b = or_from _ _ (q.at_minus b _) (q.at_num false _)
 
   value_quiet : (v : Value) (b : Bool) → expr_any t b (value_expr v) ≡ false
-  value_quiet value.Undefined b = nor (q.at_void b _) (q.at_num false _)
+  value_quiet value.Undefined b = or_from _ _ (q.at_void b _) (q.at_num false _)
   value_quiet value.Null b = q.at_null b
   value_quiet (value.Bool c) b = q.at_bool b c
   value_quiet (value.Num n) b = whole_quiet n b
@@ -86,7 +83,7 @@ module _ (t : Node → Bool) (q : IsQuiet t) where
 
   values_quiet : (vs : List Value) → exprs_any t (value_exprs vs) ≡ false
   values_quiet [] = refl
-  values_quiet (v ∷ vs) = nor (value_quiet v false) (values_quiet vs)
+  values_quiet (v ∷ vs) = or_from _ _ (value_quiet v false) (values_quiet vs)
 
   proto_quiet : (proto : Option ObjId) → expr_any t false (proto_expr proto) ≡ false
   proto_quiet None = q.at_null false
@@ -94,65 +91,65 @@ module _ (t : Node → Bool) (q : IsQuiet t) where
 
   needs_quiet : (ns : List (List ℕ × Value)) → exprs_any t (need_exprs ns) ≡ false
   needs_quiet [] = refl
-  needs_quiet (n ∷ ns) = nor (value_quiet n.1 false) (needs_quiet ns)
+  needs_quiet (n ∷ ns) = or_from _ _ (value_quiet n.1 false) (needs_quiet ns)
 
   -- ---- what makes a thing, where the functions have no node that passes
 
   module _ (each : (c : tree.Code) (needs : List (List ℕ × Value)) → IsFormFunction c needs → NonePass t c needs) where
     function_quiet : (c : tree.Code) (ns : List (List ℕ × Value)) → NonePass t c ns → expr_any t false (function_expr c ns) ≡ false
     function_quiet c [] none = none.1
-    function_quiet c (n ∷ ns) none = nor (q.at_call false _ _) (nor none.0 (needs_quiet (n ∷ ns)))
+    function_quiet c (n ∷ ns) none = or_from _ _ (q.at_call false _ _) (or_from _ _ none.0 (needs_quiet (n ∷ ns)))
 
     object_quiet : (x : List ℕ) → expr_any t true (member (name (codes "Object")) x) ≡ false
-    object_quiet x = nor (q.at_member true (name (codes "Object")) x) (q.at_name false (codes "Object") refl)
+    object_quiet x = or_from _ _ (q.at_member true (name (codes "Object")) x) (q.at_name false (codes "Object") refl)
 
     maker_quiet : (m : Maker) → MakesInForm m → expr_any t false (maker_expr m) ≡ false
-    maker_quiet (made.Plain proto) h = nor (q.at_call false _ _) (nor (object_quiet (codes "create")) (nor (proto_quiet proto) refl))
-    maker_quiet made.List h = nor (q.at_list false) refl
+    maker_quiet (made.Plain proto) h = or_from _ _ (q.at_call false _ _) (or_from _ _ (object_quiet (codes "create")) (or_from _ _ (proto_quiet proto) refl))
+    maker_quiet made.List h = or_from _ _ (q.at_list false) refl
     maker_quiet (made.Fault kind) h =
-        nor (q.at_construct false _ _) (nor (q.at_name false (kind_name kind) (common_is_unrestricted (kind_name kind) (kind_is_common kind))) refl)
+        or_from _ _ (q.at_construct false _ _) (or_from _ _ (q.at_name false (kind_name kind) (common_is_unrestricted (kind_name kind) (kind_is_common kind))) refl)
     maker_quiet (made.Func c needs) h = function_quiet c needs (each c needs h)
     maker_quiet (made.Bind target this args) h =
-        nor (q.at_call false _ _)
-        (nor (nor (q.at_member true (reference target) (codes "bind")) (reference_quiet target false))
-        (nor (value_quiet this false) (values_quiet args)))
+        or_from _ _ (q.at_call false _ _)
+        (or_from _ _ (or_from _ _ (q.at_member true (reference target) (codes "bind")) (reference_quiet target false))
+        (or_from _ _ (value_quiet this false) (values_quiet args)))
 
     -- ---- statements
 
     whole_descriptor_quiet : (p : Prop) → expr_any t false (whole_descriptor p) ≡ false
     whole_descriptor_quiet p =
-        nor (q.at_literal false _ refl)
-        (nor (value_quiet p.value false)
-        (nor (q.at_bool false p.writable) (nor (q.at_bool false p.enumerable) (nor (q.at_bool false p.configurable) refl))))
+        or_from _ _ (q.at_literal false _ refl)
+        (or_from _ _ (value_quiet p.value false)
+        (or_from _ _ (q.at_bool false p.writable) (or_from _ _ (q.at_bool false p.enumerable) (or_from _ _ (q.at_bool false p.configurable) refl))))
 
     short_quiet : (v : Value) (writable : Bool) → expr_any t false (short_descriptor v writable) ≡ false
-    short_quiet v writable = nor (q.at_literal false _ refl) (nor (value_quiet v false) (nor (q.at_bool false writable) refl))
+    short_quiet v writable = or_from _ _ (q.at_literal false _ refl) (or_from _ _ (value_quiet v false) (or_from _ _ (q.at_bool false writable) refl))
 
     define_quiet : (at : ObjId) (x : List ℕ) (descriptor : tree.Expr) → expr_any t false descriptor ≡ false
         → expr_any t false (define_expr at x descriptor) ≡ false
     define_quiet at x descriptor quiet =
-        nor (q.at_call false _ _)
-        (nor (object_quiet (codes "defineProperty")) (nor (reference_quiet at false) (nor (q.at_text false x) (nor quiet refl))))
+        or_from _ _ (q.at_call false _ _)
+        (or_from _ _ (object_quiet (codes "defineProperty")) (or_from _ _ (reference_quiet at false) (or_from _ _ (q.at_text false x) (or_from _ _ quiet refl))))
 
     rebuild_quiet : (r : Rebuild) → IsInForm r → expr_any t false (rebuild_expr r) ≡ false
-    rebuild_quiet (Make number maker) h = nor (q.at_assign false _ _ _) (nor (thing_quiet false number) (maker_quiet maker h))
+    rebuild_quiet (Make number maker) h = or_from _ _ (q.at_assign false _ _ _) (or_from _ _ (thing_quiet false number) (maker_quiet maker h))
     rebuild_quiet (Define at x p) h = define_quiet at x (whole_descriptor p) (whole_descriptor_quiet p)
     rebuild_quiet (DefinePrototype at v writable) h = define_quiet at (codes "prototype") (short_descriptor v writable) (short_quiet v writable)
     rebuild_quiet (DefineLength at v writable) h = define_quiet at (codes "length") (short_descriptor v writable) (short_quiet v writable)
-    rebuild_quiet (Prevent at) h = nor (q.at_call false _ _) (nor (object_quiet (codes "preventExtensions")) (nor (reference_quiet at false) refl))
+    rebuild_quiet (Prevent at) h = or_from _ _ (q.at_call false _ _) (or_from _ _ (object_quiet (codes "preventExtensions")) (or_from _ _ (reference_quiet at false) refl))
 
     statements_quiet : (rs : List Rebuild) → All IsInForm rs → stmts_any t (statements rs) ≡ false
     statements_quiet [] all = refl
     statements_quiet (r ∷ rs) all =
-        nor (nor (q.at_expr (rebuild_expr r)) (rebuild_quiet r (All-head IsInForm r rs all))) (statements_quiet rs (All-tail IsInForm r rs all))
+        or_from _ _ (or_from _ _ (q.at_expr (rebuild_expr r)) (rebuild_quiet r (All-head IsInForm r rs all))) (statements_quiet rs (All-tail IsInForm r rs all))
 
     -- no node of the whole script passes, if the catch clause does not
     pub script_quiet : (rs : List Rebuild) → All IsInForm rs → t (clause (codes "$$") (statements rs)) ≡ false → stmts_any t (saved_script rs) ≡ false
     script_quiet rs all caught =
         let strict : (t (statement (expr (text (codes "use strict")))) || t (expression false (text (codes "use strict")))) ≡ false =
-        nor (q.at_expr _) (q.at_text false _)
+        or_from _ _ (q.at_expr _) (q.at_text false _)
         in
         let thrown : (t (statement (throw (list no_holes))) || (t (expression false (list no_holes)) || false)) ≡ false =
-        nor (q.at_throw _) (nor (q.at_list false) refl)
+        or_from _ _ (q.at_throw _) (or_from _ _ (q.at_list false) refl)
         in
-        nor strict (nor (nor (q.at_try _ _ _) (nor (nor thrown refl) (nor (nor caught (statements_quiet rs all)) refl))) refl)
+        or_from _ _ strict (or_from _ _ (or_from _ _ (q.at_try _ _ _) (or_from _ _ (or_from _ _ thrown refl) (or_from _ _ (or_from _ _ caught (statements_quiet rs all)) refl))) refl)

@@ -1,6 +1,6 @@
 -- A saved page takes no more bytes than its things and their texts pay for.
 use Rattle.std.proofs.Common.{◌≡◌, refl, ℕ, suc, ◌+◌, ◌<◌, ◌≤◌, Bool, true, ◌&&◌, nat_eq, List, [], ◌∷◌, ◌++◌, length, All, arith}
-use Rattle.std.proofs.lemmas.Bool.{eqb-true}
+use Rattle.std.proofs.lemmas.Bool.{and_parts, eqb-true}
 use Rattle.std.proofs.lemmas.List.{length-append}
 use Rattle.std.proofs.lemmas.List.Elements.{All-head, All-tail}
 use Rattle.object_shapes.specs.Links.{all_below, built_in_count, value_links}
@@ -26,7 +26,7 @@ use Rattle.page_writer.specs.Page.{line, lines, page_head, page_tail}
 use Rattle.page_writer.specs.Statements.{statement}
 use Rattle.page_writer.proofs.Costs.{cost, few_things, makes_in, makes_in_plan, most, plan_cost}
 use Rattle.page_writer.proofs.Lined.{define_wide, make_wide, prevent_wide, short_fields, short_fields_wide, whole_fields, whole_fields_wide}
-use Rattle.page_writer.proofs.Fitness.{AreLow, Fits, MakerFits, below_more, left_of, low_others, maker_fits, right_of}
+use Rattle.page_writer.proofs.Fitness.{AreLow, Fits, MakerFits, below_more, low_others, maker_fits}
 use Rattle.page_writer.proofs.Widths.{text_within, wide}
 
 -- ---- each line
@@ -103,46 +103,46 @@ lines_short n (Make number m ∷ rs) stands few whole =
     let r : Rebuild = Make number m in
     let counted : Bool = nat_eq number n in
     let low : Bool = all_below (built_in_count + n) (maker_names m) in
-    let here : (counted && low) ≡ true = left_of (counted && low) (standing (suc n) rs) stands in
-    let same : number ≡ n = eqb-true number n (left_of counted low here) in
+    let here : (counted && low) ≡ true = (and_parts (counted && low) (standing (suc n) rs) stands).0 in
+    let same : number ≡ n = eqb-true number n (and_parts counted low here).0 in
     let names : AreLow (maker_names m) =
-    low_names n (maker_names m) (omega (arith, few)) (right_of counted low here) in
+    low_names n (maker_names m) (omega (arith, few)) (and_parts counted low here).1 in
     let fits : MakerFits m = maker_fits m names (All-head HasLiterals r rs whole) in
     let next : standing (suc n) rs ≡ true =
-    right_of (counted && low) (standing (suc n) rs) stands in
+    (and_parts (counted && low) (standing (suc n) rs) stands).1 in
     one_more r rs (make_short number m (omega (arith, same, few)) fits)
     (lines_short (suc n) rs next (omega (arith, few)) (All-tail HasLiterals r rs whole))
 lines_short n (Define at x p ∷ rs) stands few whole =
     let r : Rebuild = Define at x p in
     let low : Bool = all_below (built_in_count + n) (at.0 ∷ value_links p.value) in
-    let here : low ≡ true = left_of low (standing n rs) stands in
+    let here : low ≡ true = (and_parts low (standing n rs) stands).0 in
     let fits : Fits p.value =
     value_fits n at p.value (omega (arith, few)) here (All-tail IsLiteral (Text x) (p.value ∷ []) (All-head HasLiterals r rs whole)) in
-    let next : standing n rs ≡ true = right_of low (standing n rs) stands in
+    let next : standing n rs ≡ true = (and_parts low (standing n rs) stands).1 in
     let others : length (lines rs) ≤ cost rs = lines_short n rs next few (All-tail HasLiterals r rs whole) in
     one_more r rs (define_short at x p fits) others
 lines_short n (DefinePrototype at v writable ∷ rs) stands few whole =
     let r : Rebuild = DefinePrototype at v writable in
     let low : Bool = all_below (built_in_count + n) (at.0 ∷ value_links v) in
-    let here : low ≡ true = left_of low (standing n rs) stands in
+    let here : low ≡ true = (and_parts low (standing n rs) stands).0 in
     let fits : Fits v =
     value_fits n at v (omega (arith, few)) here (All-head HasLiterals r rs whole) in
-    let next : standing n rs ≡ true = right_of low (standing n rs) stands in
+    let next : standing n rs ≡ true = (and_parts low (standing n rs) stands).1 in
     let others : length (lines rs) ≤ cost rs = lines_short n rs next few (All-tail HasLiterals r rs whole) in
     one_more r rs (prototype_short at v writable fits) others
 lines_short n (DefineLength at v writable ∷ rs) stands few whole =
     let r : Rebuild = DefineLength at v writable in
     let low : Bool = all_below (built_in_count + n) (at.0 ∷ value_links v) in
-    let here : low ≡ true = left_of low (standing n rs) stands in
+    let here : low ≡ true = (and_parts low (standing n rs) stands).0 in
     let fits : Fits v =
     value_fits n at v (omega (arith, few)) here (All-head HasLiterals r rs whole) in
-    let next : standing n rs ≡ true = right_of low (standing n rs) stands in
+    let next : standing n rs ≡ true = (and_parts low (standing n rs) stands).1 in
     let others : length (lines rs) ≤ cost rs = lines_short n rs next few (All-tail HasLiterals r rs whole) in
     one_more r rs (length_short at v writable fits) others
 lines_short n (Prevent at ∷ rs) stands few whole =
     let r : Rebuild = Prevent at in
     let low : Bool = all_below (built_in_count + n) (at.0 ∷ []) in
-    let next : standing n rs ≡ true = right_of low (standing n rs) stands in
+    let next : standing n rs ≡ true = (and_parts low (standing n rs) stands).1 in
     let others : length (lines rs) ≤ cost rs = lines_short n rs next few (All-tail HasLiterals r rs whole) in
     one_more r rs (prevent_short at) others
 
