@@ -1,6 +1,6 @@
 -- The properties of an array are defined one after another, and then its length.
 use Rattle.std.proofs.Common.{◌≡◌, refl, sym, ap, subst, ◌∙◌, ℕ, ◌+◌, ◌≤◌, Bool, true, false, ◌&&◌, nat_eq, nat_le, nat_lt, List, [], ◌∷◌, ◌++◌, append_assoc, Option, Some, None, length, bytes_eq, arith}
-use Rattle.std.proofs.lemmas.Bool.{and_right, le-leb, lt-ltb, ltb-true}
+use Rattle.std.proofs.lemmas.Bool.{and_parts, and_right, cond-false, cond-true, le-leb, lt-ltb, ltb-true}
 use Rattle.std.proofs.lemmas.List.{append-nil}
 use Rattle.std.specs.List.{IsDistinct, list_all}
 use Rattle.std.specs.Map.{keys_of}
@@ -26,7 +26,6 @@ use Rattle.rebuilding.proofs.Defining.{open_for}
 use Rattle.rebuilding.proofs.Going.{Allowed, Going, define_next}
 use Rattle.rebuilding.proofs.WindowStays.{is_built}
 use Rattle.rebuilding.proofs.PropertyNames.{apart_from_first, distinct_rest, flipped, is_new, one_more}
-use Rattle.rebuilding.proofs.Basics.{left, left_of, right_of, taken}
 use Rattle.object_shapes.specs.Shapes.{made_property}
 
 -- the array with this length, which can be written or not, and these elements
@@ -49,16 +48,16 @@ module _ (o : Object) (count l : ℕ) (ps : Props) (x : List ℕ) (change : Chan
 
   indexed : define_own (array_of o l true ps) x change ≡ define_indexed CannotDefine (array_of o l true ps) x change (index_of x)
   indexed =
-      left (is_closed_at (array_of o l true ps) x) _ _ (open_for (array_of o l true ps) x closed new_here)
-      ∙ taken (is_list o.class) _ _ array
-      ∙ left (bytes_eq x length_name) _ _ far
+      cond-false (is_closed_at (array_of o l true ps) x) _ _ (open_for (array_of o l true ps) x closed new_here)
+      ∙ cond-true (is_list o.class) _ _ array
+      ∙ cond-false (bytes_eq x length_name) _ _ far
 
   within : (i : ℕ) → index_of x ≡ Some i → nat_lt i l ≡ true → Joins o count l ps x change
   within i is low = record {
     new = l;
     small = small;
     defined =
-        indexed ∙ ap (define_indexed CannotDefine (array_of o l true ps) x change) is ∙ taken (nat_lt i l) _ _ low
+        indexed ∙ ap (define_indexed CannotDefine (array_of o l true ps) x change) is ∙ cond-true (nat_lt i l) _ _ low
         ∙ ordinary_new (array_of o l true ps) x change new_here extensible;
   }
 
@@ -106,13 +105,13 @@ module _ (c : Scene) (End : Contents → List ℕ → Type 0) (sites : List ℕ)
       let first : Joins o count l ps e.0 (whole_change sites e.1) =
       joins o count l ps e.0 (whole_change sites e.1) closed extensible array far
       (is_new ps e.0 (keys_of es) (distinct_rest length_name (keys_of ps ++ e.0 ∷ keys_of es) distinct)) small
-      (left_of (is_below count (index_of e.0)) (list_all (λ q. is_below count (index_of q.0)) es) below)
+      (and_parts (is_below count (index_of e.0)) (list_all (λ q. is_below count (index_of q.0)) es) below).0
       in
       define_next c End sites g h at e.0 e.1 (defines false false at es ++ rs) (array_of o l true ps)
       (array_of o first.new true (ps ++ last)) going allowed
       (and_right (is_list o.class) (bytes_eq e.0 length_name) far) (ap (λ b. b && is_built e.0) off) first.defined
       (λ i now more. elements_succeed es i first.new (ps ++ last) rs now first.small
-      (right_of (is_below count (index_of e.0)) (list_all (λ q. is_below count (index_of q.0)) es) below)
+      (and_parts (is_below count (index_of e.0)) (list_all (λ q. is_below count (index_of q.0)) es) below).1
       (subst (λ ks. IsDistinct bytes_eq (length_name ∷ ks)) (sym (one_more ps e.0 (sited_prop sites e.1) (keys_of es))) distinct) more
       (λ j m less most. later j m less
       (subst (λ (qs : Props). Going c g j sites (site sites at.0) (array_of o m true qs)) (append_assoc ps last (sited_props sites es)) most)))
@@ -126,11 +125,11 @@ pub length_defined : (o : Object) (l n : ℕ) (ps : Props) (writable : Bool) →
 length_defined o l n ps writable closed array window more small =
     let a : Object = array_of o l true ps in
     let change : Change = record { value = Some (number n); writable = Some writable; enumerable = None; configurable = None } in
-    let valid : valid_length (number n) ≡ Some n = taken (nat_lt n 4294967296) (Some n) None (lt-ltb n 4294967296 (omega (arith, small))) in
-    left (is_closed_at a length_name) _ _ (open_at a length_name closed window)
-    ∙ taken (is_list o.class) _ _ array
+    let valid : valid_length (number n) ≡ Some n = cond-true (nat_lt n 4294967296) (Some n) None (lt-ltb n 4294967296 (omega (arith, small))) in
+    cond-false (is_closed_at a length_name) _ _ (open_at a length_name closed window)
+    ∙ cond-true (is_list o.class) _ _ array
     ∙ ap (define_length_as CannotDefine a change) valid
-    ∙ taken (nat_le l n) _ _ (le-leb l n more)
+    ∙ cond-true (nat_le l n) _ _ (le-leb l n more)
 
 -- what holds of an array whose length is written so
 pub array_has : (count : ℕ) (writable : Bool) (others ps : Props) → ps ≡ (length_name, made_property (number count) writable) ∷ others → IsArray ps
@@ -143,6 +142,5 @@ array_has count writable others ps are a =
     ap (λ (q : Props). list_all (λ e. is_below (number_in a.length.value) (index_of e.0)) q) (sym are) ∙ a.above
     in (
       subst (λ n. n ≤ index_end) value a.is_length.small,
-      right_of (is_below count (index_of length_name)) (list_all (λ e. is_below count (index_of e.0)) others)
-          (subst (λ n. list_all (λ e. is_below n (index_of e.0)) ((length_name, made_property (number count) writable) ∷ others) ≡ true) value above),
+      (and_parts (is_below count (index_of length_name)) (list_all (λ e. is_below count (index_of e.0)) others) (subst (λ n. list_all (λ e. is_below n (index_of e.0)) ((length_name, made_property (number count) writable) ∷ others) ≡ true) value above)).1,
     )

@@ -1,35 +1,9 @@
--- Tests, choices and lists of numbers.
-use Rattle.std.proofs.Common.{◌≡◌, refl, ℕ, zero, suc, ◌<◌, arith, Bool, true, false, not, ◌&&◌, if◌then◌else◌, is_some, List, [], ◌∷◌, Option, Some, None, length}
-use Rattle.std.proofs.lemmas.Bool.{ne_eqb}
+-- A value that is not there, and lists of numbers.
+use Rattle.std.proofs.Common.{◌≡◌, refl, ℕ, zero, suc, ◌<◌, arith, Bool, true, false, is_some, List, [], ◌∷◌, Option, Some, None, length}
+use Rattle.std.proofs.lemmas.Bool.{and_parts, ne_eqb}
 use Rattle.std.specs.List.{list_all, list_any, position_or_len}
 use Rattle.heap_walker.specs.Things.{is_in}
 use Rattle.rebuilding.specs.Rebuilt.{nth}
-
--- ---- tests
-
-pub both : (a b : Bool) → a ≡ true → b ≡ true → (a && b) ≡ true
-both true b x y = y
-both false b x y = cc x
-
-pub left_of : (a b : Bool) → (a && b) ≡ true → a ≡ true
-left_of true b h = refl
-left_of false b h = cc h
-
-pub right_of : (a b : Bool) → (a && b) ≡ true → b ≡ true
-right_of true b h = h
-right_of false b h = cc h
-
-pub is_false : (b : Bool) → not b ≡ true → b ≡ false
-is_false true h = cc h
-is_false false h = refl
-
-pub taken : {A : Type 0} (b : Bool) (x y : A) → b ≡ true → (if b then x else y) ≡ x
-taken true x y e = refl
-taken false x y e = cc e
-
-pub left : {A : Type 0} (b : Bool) (x y : A) → b ≡ false → (if b then x else y) ≡ y
-left true x y e = cc e
-left false x y e = refl
 
 pub nothing : {A : Type 0} (o : Option A) → is_some o ≡ false → o ≡ None
 nothing None h = refl
@@ -40,8 +14,8 @@ nothing (Some a) h = cc h
 -- what holds of all holds at each place
 pub all_at : (p : ℕ → Bool) (ks : List ℕ) (n : ℕ) → list_all p ks ≡ true → n < length ks → p (nth ks n) ≡ true
 all_at p [] n h inside = absurd (omega (arith, inside))
-all_at p (k ∷ ks) zero h inside = left_of _ _ h
-all_at p (k ∷ ks) (suc n) h inside = all_at p ks n (right_of _ _ h) (omega (arith, inside))
+all_at p (k ∷ ks) zero h inside = (and_parts _ _ h).0
+all_at p (k ∷ ks) (suc n) h inside = all_at p ks n (and_parts _ _ h).1 (omega (arith, inside))
 
 pub found_below : (p : ℕ → Bool) (xs : List ℕ) → list_any p xs ≡ true → position_or_len p xs < length xs
 found_below p [] h = cc h

@@ -3,6 +3,8 @@ use Rattle.std.proofs.Common.{◌≡◌, refl, sym, ap, subst, ◌∙◌, ℕ, B
 use Rattle.std.proofs.lemmas.List.{append-nil}
 use Rattle.std.specs.List.{IsDistinct, list_all}
 use Rattle.std.specs.Map.{keys_of}
+use Rattle.std.proofs.lemmas.Bool.{and_parts, and_right, cond-false, not-true}
+use Rattle.std.proofs.Math.Bool.{and-false}
 use Rattle.js_core.specs.GlobalNames.{names_global}
 use Rattle.js_values.specs.declared.ids.ObjId.{ObjId}
 use Rattle.js_values.specs.declared.throw.Throw.TheVariants.{CannotDefine}
@@ -26,7 +28,6 @@ use Rattle.rebuilding.specs.Sites.{site, sited_prop, sited_props}
 use Rattle.rebuilding.proofs.Going.{Allowed, Going, define_next}
 use Rattle.rebuilding.proofs.PropertyNames.{distinct_next, is_new}
 use Rattle.rebuilding.proofs.WindowStays.{is_built}
-use Rattle.rebuilding.proofs.Basics.{is_false, left, left_of, right_of}
 use Rattle.object_shapes.specs.Shapes.{made_property}
 
 -- what is not the global object may have any names
@@ -34,17 +35,12 @@ pub all_own : (b : Bool) (es : Props) → b ≡ false → list_all (λ e. not (b
 all_own b [] off = refl
 all_own b (e ∷ es) off = rw off (all_own b es off)
 
-neither : (a b : Bool) → (a && (b && false)) ≡ false
-neither true true = refl
-neither true false = refl
-neither false b = refl
-
 -- a name that the object does not have is open
 pub open_for : (o : Object) (x : List ℕ) → o.closed ≡ false → own_property o.props x ≡ None → is_closed_at o x ≡ false
 open_for o x closed none =
     ap (λ b. b || (is_window o.class && (names_global x && is_some (own_property o.props x)))) closed
     ∙ ap (λ (p : Option Prop). is_window o.class && (names_global x && is_some p)) none
-    ∙ neither (is_window o.class) (names_global x)
+    ∙ and_right (is_window o.class) _ (and-false (names_global x))
 
 -- the object, with these properties behind its own
 abbrev pub and_props : Object → Props → Object
@@ -68,11 +64,11 @@ module _ (c : Scene) (End : Contents → List ℕ → Type 0) (sites : List ℕ)
       let none : own_property o.props e.0 ≡ None = is_new o.props e.0 (keys_of es) distinct in
       define_next c End sites g h at e.0 e.1 (defines false false at es ++ rs) o (and_props o last) going allowed
       (ap (λ b. b && bytes_eq e.0 length_name) ordinary)
-      (is_false (nat_eq at.0 window.0 && is_built e.0) (left_of _ (list_all (λ q. not (nat_eq at.0 window.0 && is_built q.0)) es) own))
+      (not-true (nat_eq at.0 window.0 && is_built e.0) (and_parts _ (list_all (λ q. not (nat_eq at.0 window.0 && is_built q.0)) es) own).0)
       (define_new o e.0 (whole_change sites e.1) (open_for o e.0 closed none) ordinary none extensible)
       (λ i now more. defines_succeed es i at (and_props o last) rs now closed extensible ordinary
       (distinct_next o.props e.0 (sited_prop sites e.1) (keys_of es) distinct)
-      (right_of (not (nat_eq at.0 window.0 && is_built e.0)) (list_all (λ q. not (nat_eq at.0 window.0 && is_built q.0)) es) own) more
+      (and_parts (not (nat_eq at.0 window.0 && is_built e.0)) (list_all (λ q. not (nat_eq at.0 window.0 && is_built q.0)) es) own).1 more
       (λ j most. later j
       (subst (λ ps. Going c g j sites (site sites at.0) (with_props o ps)) (append_assoc o.props last (sited_props sites es)) most)))
 
@@ -84,7 +80,7 @@ pub prototype_defined : (o : Object) (first : Prop) (old v : Value) (writable : 
     ≡ done (with_props o ((length_name, first) ∷ (prototype_name, made_property v writable) ∷ []))
 prototype_defined o first old v writable closed ordinary window props =
     let change : Change = record { value = Some v; writable = Some writable; enumerable = None; configurable = None } in
-    left (is_closed_at o prototype_name) _ _ (open_at o prototype_name closed window)
-    ∙ left (is_list o.class) _ _ ordinary
+    cond-false (is_closed_at o prototype_name) _ _ (open_at o prototype_name closed window)
+    ∙ cond-false (is_list o.class) _ _ ordinary
     ∙ ap (λ (ps : Props). defined_over CannotDefine o prototype_name change (own_property ps prototype_name)) props
     ∙ ap (λ (ps : Props). done (with_props o (with_property ps prototype_name (updated (lasting old) change)))) props

@@ -1,6 +1,6 @@
 -- A phase goes through all things, where its statements succeed for each.
 use Rattle.std.proofs.Common.{◌≡◌, ◌⊎◌, inl, inr, sym, ap, subst, ◌∙◌, ℕ, suc, ◌+◌, ◌<◌, ◌≤◌, nat_lt, List, [], ◌∷◌, ◌++◌, append_assoc, length, arith, if◌then◌else◌}
-use Rattle.std.proofs.lemmas.Bool.{cases_lt, le-ltb, lt-ltb}
+use Rattle.std.proofs.lemmas.Bool.{cases_lt, cond-false, cond-true, le-ltb, lt-ltb}
 use Rattle.object_heap.specs.Chain.{object_at}
 use Rattle.object_heap.specs.Heap.{Contents}
 use Rattle.object_heap.specs.Object.{Object}
@@ -11,7 +11,6 @@ use Rattle.rebuild_plan.specs.declared.statement.Rebuild.{Rebuild}
 use Rattle.rebuilding.specs.Rebuilt.{Succeeds, nth}
 use Rattle.rebuilding.specs.Scene.{IsRunning, Scene}
 use Rattle.rebuilding.proofs.Going.{Allowed, Going}
-use Rattle.rebuilding.proofs.Basics.{left, taken}
 use Rattle.rebuilding.proofs.Phase.{Phase, phase_next, phase_same}
 
 -- the first n things have become what they are to be
@@ -19,10 +18,10 @@ abbrev pub mixed : (ℕ → Object) → (ℕ → Object) → ℕ → ℕ → Obj
 mixed before after n m = if nat_lt m n then after m else before m
 
 mixed_last : (before after : ℕ → Object) (n m : ℕ) → m < n → after m ≡ mixed before after n m
-mixed_last before after n m low = sym (taken (nat_lt m n) (after m) (before m) (lt-ltb m n low))
+mixed_last before after n m low = sym (cond-true (nat_lt m n) (after m) (before m) (lt-ltb m n low))
 
 mixed_first : (before after : ℕ → Object) (n m : ℕ) → n ≤ m → mixed before after n m ≡ before m
-mixed_first before after n m high = left (nat_lt m n) (after m) (before m) (le-ltb m n high)
+mixed_first before after n m high = cond-false (nat_lt m n) (after m) (before m) (le-ltb m n high)
 
 mixed_other : (before after : ℕ → Object) (n m : ℕ) → (m ≡ n → ⊥) → mixed before after (suc n) m ≡ mixed before after n m
 mixed_other before after n m other = by (cases_lt m n)

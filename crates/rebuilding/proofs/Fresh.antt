@@ -1,6 +1,6 @@
 -- A maker leaves a thing as it says.
 use Rattle.std.proofs.Common.{◌≡◌, refl, sym, ap, subst, ◌∙◌, ℕ, suc, ◌+◌, ◌-◌, true, false, nat_lt, List, [], ◌∷◌, ◌++◌, Option, Some, length}
-use Rattle.std.proofs.lemmas.Bool.{eq-eqb}
+use Rattle.std.proofs.lemmas.Bool.{and_parts, eq-eqb}
 use Rattle.std.specs.Prelude.{codes}
 use Rattle.code_table.specs.Declarations.{name_of}
 use Rattle.heap_walker.specs.Things.{IsWalk, class_links, is_in, needs_of}
@@ -35,7 +35,6 @@ use Rattle.rebuilding.proofs.Placed.{array_low, error_low, function_low, needs_s
 use Rattle.rebuilding.proofs.Stages.{IsFresh, MadeProps}
 use Rattle.rebuilding.proofs.Lasting.{bound_same, proto_is}
 use Rattle.object_shapes.specs.Shapes.{HasBoundLength, HasShape}
-use Rattle.rebuilding.proofs.Basics.{left_of}
 use Rattle.object_shapes.specs.Links.{built_in_count, all_below}
 
 -- ---- what is bound
@@ -63,7 +62,7 @@ pub can_make : (s : Store) (things : List ℕ) (h : Contents) (sites : List ℕ)
     → CanMake h sites (maker_as s things o.proto a)
 can_make s things h sites o (class.Page body env) made stands kept = tt
 can_make s things h sites o (class.Bound target this args) made stands kept =
-    let target_stands : IsKept s things h sites target = kept target (target_in s target this args) made.2 (left_of _ _ stands) in
+    let target_stands : IsKept s things h sites target = kept target (target_in s target this args) made.2 (and_parts _ _ stands).0 in
     (target_stands.class, target_stands.bind)
 can_make s things h sites o class.Plain made stands kept = tt
 can_make s things h sites o class.List made stands kept = tt
@@ -171,7 +170,7 @@ module _ (c : Scene) (s : Store) (things : List ℕ) (h i : Contents) (sites : L
   begun o made class.Fault was stands kept is = begun_fault o made was.kind was.is is
   begun o made (class.Page body env) was stands kept is = begun_page o made body env was.0 stands is
   begun o made (class.Bound target this args) was stands kept is =
-      begun_bound o made target this args was.0 stands was.1 (kept target (target_in s target this args) was.2 (left_of _ _ stands)).length is
+      begun_bound o made target this args was.0 stands was.1 (kept target (target_in s target this args) was.2 (and_parts _ _ stands).0).length is
   begun o made (class.Native which) was stands kept is = absurd was
   begun o made class.Math was stands kept is = absurd was
   begun o made class.Window was stands kept is = absurd was

@@ -2,6 +2,7 @@
 use Rattle.std.proofs.Common.{◌≡◌, refl, sym, ap, subst, ◌∙◌, ℕ, ◌+◌, Bool, true, false, ◌&&◌, nat_eq, List, [], ◌∷◌, length, bytes_eq, arith}
 use Rattle.std.proofs.lemmas.List.Elements.{All-head, All-tail}
 use Rattle.std.specs.List.{All}
+use Rattle.std.proofs.lemmas.Bool.{and_parts}
 use Rattle.js_values.specs.declared.ids.ObjId.{ObjId}
 use Rattle.js_values.specs.declared.value.Value.{Value}
 use Rattle.js_values.specs.declared.value.Value.TheVariants.{Text}
@@ -22,7 +23,6 @@ use Rattle.rebuilding.specs.Running.{HasChanged, Stays, short_change, whole_chan
 use Rattle.rebuilding.specs.Scene.{IsRunning, Scene}
 use Rattle.rebuilding.specs.Sites.{site}
 use Rattle.rebuilding.proofs.WindowStays.{is_built}
-use Rattle.rebuilding.proofs.Basics.{left_of, right_of}
 use Rattle.object_shapes.specs.Links.{built_in_count, value_links, all_below}
 
 -- ---- what statements may name and write
@@ -85,7 +85,7 @@ module _ (c : Scene) (End : Contents → List ℕ → Type 0) (sites : List ℕ)
   unfolding is_built
   define_next h at x p rs o next going allowed other own does later = (
     record {
-      stands = left_of (all_below (built_in_count + length sites) (at.0 ∷ value_links p.value)) (standing (length sites) rs) allowed.stands;
+      stands = (and_parts (all_below (built_in_count + length sites) (at.0 ∷ value_links p.value)) (standing (length sites) rs) allowed.stands).0;
       in_range = All-head IsLiteral p.value [] (All-tail IsLiteral (Text x) (p.value ∷ []) (range_first (Define at x p) rs allowed.in_range));
       other = ap (λ (q : Object). is_list q.class && bytes_eq x length_name) going.object ∙ other;
       own = own;
@@ -94,7 +94,7 @@ module _ (c : Scene) (End : Contents → List ℕ → Type 0) (sites : List ℕ)
     λ i after running ran. subst (λ l. Succeeds c End i l rs) (sym ran.same) (later i
         (changed_next c g h i sites after (site sites at.0) o _ next going running ran
         (ap (λ (q : Object). (define_own q x (whole_change sites p)).after) going.object ∙ ap (λ (a : Attempt Object). a.after) does))
-        (record { stands = right_of _ (standing (length sites) rs) allowed.stands; in_range = range_rest (Define at x p) rs allowed.in_range })),
+        (record { stands = (and_parts _ (standing (length sites) rs) allowed.stands).1; in_range = range_rest (Define at x p) rs allowed.in_range })),
   )
 
   pub prototype_next : (h : Contents) (at : ObjId) (v : Value) (writable : Bool) (rs : List Rebuild) (o next : Object)
@@ -106,7 +106,7 @@ module _ (c : Scene) (End : Contents → List ℕ → Type 0) (sites : List ℕ)
   unfolding is_built
   prototype_next h at v writable rs o next going allowed ordinary off does later = (
     record {
-      stands = left_of (all_below (built_in_count + length sites) (at.0 ∷ value_links v)) (standing (length sites) rs) allowed.stands;
+      stands = (and_parts (all_below (built_in_count + length sites) (at.0 ∷ value_links v)) (standing (length sites) rs) allowed.stands).0;
       in_range = All-head IsLiteral v [] (range_first (DefinePrototype at v writable) rs allowed.in_range);
       other = ap (λ (q : Object). is_list q.class && bytes_eq prototype_name length_name) going.object
           ∙ ap (λ b. b && bytes_eq prototype_name length_name) ordinary;
@@ -119,7 +119,7 @@ module _ (c : Scene) (End : Contents → List ℕ → Type 0) (sites : List ℕ)
         (ap (λ (q : Object). (define_own q prototype_name (short_change sites v writable)).after) going.object
         ∙ ap (λ (a : Attempt Object). a.after) does))
         (record {
-          stands = right_of _ (standing (length sites) rs) allowed.stands;
+          stands = (and_parts _ (standing (length sites) rs) allowed.stands).1;
           in_range = range_rest (DefinePrototype at v writable) rs allowed.in_range;
         })),
   )
@@ -132,7 +132,7 @@ module _ (c : Scene) (End : Contents → List ℕ → Type 0) (sites : List ℕ)
       → Succeeds c End h sites (DefineLength at (number n) writable ∷ rs)
   length_next h at n writable rs o next going allowed does later = (
     record {
-      stands = left_of (all_below (built_in_count + length sites) (at.0 ∷ [])) (standing (length sites) rs) allowed.stands;
+      stands = (and_parts (all_below (built_in_count + length sites) (at.0 ∷ [])) (standing (length sites) rs) allowed.stands).0;
       count = n;
       is = refl;
       in_range = All-head IsLiteral (number n) [] (range_first (DefineLength at (number n) writable) rs allowed.in_range);
@@ -144,7 +144,7 @@ module _ (c : Scene) (End : Contents → List ℕ → Type 0) (sites : List ℕ)
         (ap (λ (q : Object). (define_own q length_name (short_change sites (number n) writable)).after) going.object
         ∙ ap (λ (a : Attempt Object). a.after) does))
         (record {
-          stands = right_of _ (standing (length sites) rs) allowed.stands;
+          stands = (and_parts _ (standing (length sites) rs) allowed.stands).1;
           in_range = range_rest (DefineLength at (number n) writable) rs allowed.in_range;
         })),
   )
@@ -155,11 +155,11 @@ module _ (c : Scene) (End : Contents → List ℕ → Type 0) (sites : List ℕ)
       → Succeeds c End h sites (Prevent at ∷ rs)
   prevent_next h at rs o next going allowed does later = (
     record {
-      stands = left_of (all_below (built_in_count + length sites) (at.0 ∷ [])) (standing (length sites) rs) allowed.stands;
+      stands = (and_parts (all_below (built_in_count + length sites) (at.0 ∷ [])) (standing (length sites) rs) allowed.stands).0;
       done = ap (λ (q : Object). (prevented q).thrown) going.object ∙ ap (λ (a : Attempt Object). a.thrown) does;
     },
     λ i after running ran. subst (λ l. Succeeds c End i l rs) (sym ran.same) (later i
         (changed_next c g h i sites after (site sites at.0) o _ next going running ran
         (ap (λ (q : Object). (prevented q).after) going.object ∙ ap (λ (a : Attempt Object). a.after) does))
-        (record { stands = right_of _ (standing (length sites) rs) allowed.stands; in_range = range_rest (Prevent at) rs allowed.in_range })),
+        (record { stands = (and_parts _ (standing (length sites) rs) allowed.stands).1; in_range = range_rest (Prevent at) rs allowed.in_range })),
   )

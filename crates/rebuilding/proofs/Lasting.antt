@@ -1,6 +1,7 @@
 -- A thing that is as its maker left it stays so while others are made.
 use Rattle.std.proofs.Common.{◌≡◌, sym, ap, subst, ◌∙◌, ℕ, ◌+◌, ◌<◌, ◌≤◌, true, List, [], ◌∷◌, ◌++◌, Option, Some, length, nat_lt, arith}
 use Rattle.std.proofs.lemmas.List.Folds.{list_all-append}
+use Rattle.std.proofs.lemmas.Bool.{and_parts}
 use Rattle.code_table.specs.Declarations.{name_of}
 use Rattle.heap_walker.specs.Things.{IsWalk, needs_of}
 use Rattle.js_values.specs.declared.ids.EnvId.{EnvId}
@@ -20,7 +21,6 @@ use Rattle.rebuilding.specs.Sites.{site, sited, sited_proto, sited_value, sited_
 use Rattle.rebuilding.proofs.Placed.{array_low, error_low, function_low, needs_stay, proto_built_in, proto_stays, site_stays, value_stays, values_stay}
 use Rattle.rebuilding.proofs.Stages.{IsFresh}
 use Rattle.object_shapes.specs.Links.{built_in_count, value_links, values_links, all_below}
-use Rattle.rebuilding.proofs.Basics.{left_of, right_of}
 use Rattle.object_shapes.specs.Shapes.{HasShape}
 
 -- ---- prototypes
@@ -62,16 +62,16 @@ pub bound_same : (things sites : List ℕ) (place : ℕ) (target : ObjId) (this 
 bound_same things sites place target this args stands =
     let split =
     sym (list_all-append (λ k. nat_lt k (built_in_count + length sites)) (value_links (moved_value things this))
-    (values_links (moved_values things args))) ∙ right_of _ _ stands
+    (values_links (moved_values things args))) ∙ (and_parts _ _ stands).1
     in
     let at : site (sites ++ place ∷ []) (moved things target).0 ≡ site sites (moved things target).0 =
-    site_stays sites place (moved things target).0 (left_of _ _ stands)
+    site_stays sites place (moved things target).0 (and_parts _ _ stands).0
     in
     let own : sited_value (sites ++ place ∷ []) (moved_value things this) ≡ sited_value sites (moved_value things this) =
-    value_stays sites place (moved_value things this) (left_of _ _ split)
+    value_stays sites place (moved_value things this) (and_parts _ _ split).0
     in
     let given : sited_values (sites ++ place ∷ []) (moved_values things args) ≡ sited_values sites (moved_values things args) =
-    values_stay sites place (moved_values things args) (right_of _ _ split)
+    values_stay sites place (moved_values things args) (and_parts _ _ split).1
     in
     (λ i. class.Bound (record { 0 = at i }) (own i) (given i))
 

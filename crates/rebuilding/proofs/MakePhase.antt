@@ -1,6 +1,6 @@
 -- The phase of makes: the things are made one after another, and each is as its maker left it.
-use Rattle.std.proofs.Common.{◌≡◌, ◌⊎◌, inl, inr, refl, sym, ap, subst, ◌∙◌, ℕ, zero, suc, ◌+◌, ◌<◌, ◌≤◌, Bool, true, false, ◌||◌, nat_eq, List, [], ◌∷◌, ◌++◌, length, length-append, arith}
-use Rattle.std.proofs.lemmas.Bool.{cases_lt, eqb-true, ltb-true, not-true}
+use Rattle.std.proofs.Common.{◌≡◌, ◌⊎◌, inl, inr, refl, sym, ap, subst, ◌∙◌, ℕ, zero, suc, ◌+◌, ◌<◌, ◌≤◌, Bool, true, false, nat_eq, List, [], ◌∷◌, ◌++◌, length, length-append, arith}
+use Rattle.std.proofs.lemmas.Bool.{and_parts, cases_lt, eqb-true, ltb-true, not-true, or_right}
 use Rattle.std.proofs.lemmas.List.Elements.{All-head, All-tail}
 use Rattle.std.proofs.lemmas.List.Folds.{list_any-append}
 use Rattle.std.specs.List.{All}
@@ -27,7 +27,7 @@ use Rattle.rebuilding.proofs.Stages.{IsFresh, Made}
 use Rattle.rebuilding.proofs.Lasting.{fresh_stays}
 use Rattle.rebuilding.proofs.Targets.{target_kept}
 use Rattle.object_shapes.specs.Shapes.{HasShape, built_in_at}
-use Rattle.rebuilding.proofs.Basics.{all_at, left_of, right_of}
+use Rattle.rebuilding.proofs.Basics.{all_at}
 use Rattle.object_shapes.specs.Links.{built_in_count, proto_links, all_below}
 
 -- ---- what holds of each maker
@@ -39,11 +39,11 @@ names_stand : (s : Store) (things ks : List ℕ) (n i : ℕ) (rest : List Rebuil
 names_stand s things [] n i rest h inside = absurd (omega (arith, inside))
 names_stand s things (k ∷ ks) n zero rest h inside =
     let none : n ≡ n + 0 = omega arith in
-    subst (λ m. all_below (built_in_count + m) (maker_names (maker_at s things k)) ≡ true) none (right_of _ _ (left_of _ _ h))
+    subst (λ m. all_below (built_in_count + m) (maker_names (maker_at s things k)) ≡ true) none (and_parts _ _ (and_parts _ _ h).0).1
 names_stand s things (k ∷ ks) n (suc i) rest h inside =
     let on : suc n + i ≡ n + suc i = omega arith in
     subst (λ m. all_below (built_in_count + m) (maker_names (maker_at s things (nth ks i))) ≡ true) on
-    (names_stand s things ks (suc n) i rest (right_of _ _ h) (omega (arith, inside)))
+    (names_stand s things ks (suc n) i rest (and_parts _ _ h).1 (omega (arith, inside)))
 
 -- each number that it writes is one of the language
 abbrev AreSmall : List Rebuild → Type 0
@@ -99,11 +99,7 @@ class_among : (s : Store) (k j : ℕ) → is_in j (class_links s (object_at s.he
 class_among s k j h =
     let o : Object = object_at s.heap.objects k in
     list_any-append (nat_eq j) (proto_links o.proto) (class_links s o.class)
-    ∙ any_right (is_in j (proto_links o.proto)) (is_in j (class_links s o.class)) h
-  where
-    any_right : (a b : Bool) → b ≡ true → (a || b) ≡ true
-    any_right true b e = refl
-    any_right false b e = e
+    ∙ or_right (is_in j (proto_links o.proto)) (is_in j (class_links s o.class)) h
 
 -- ---- one more thing
 
@@ -153,9 +149,9 @@ module _ (c : Scene) (s : Store) (things : List ℕ) (known : IsSaved s things) 
 
     site_same : (j : ℕ) → j < length sites → object_at i.objects (nth sites j) ≡ object_at h.objects (nth sites j)
     site_same j inside =
-        let rest = right_of _ _ (all_at (is_site c h) sites j front.running.stand inside) in
-        stays.objects (nth sites j) (ltb-true (nth sites j) (length h.objects) (left_of _ _ rest))
-        (not_list (nth sites j) (not-true (nat_eq (nth sites j) c.list) (right_of _ _ rest)))
+        let rest = (and_parts _ _ (all_at (is_site c h) sites j front.running.stand inside)).1 in
+        stays.objects (nth sites j) (ltb-true (nth sites j) (length h.objects) (and_parts _ _ rest).0)
+        (not_list (nth sites j) (not-true (nat_eq (nth sites j) c.list) (and_parts _ _ rest).1))
 
     far : (k : ℕ) → 0 < k → nat_eq 0 k ≡ false
     far k young = by (nat_eq 0 k) refl

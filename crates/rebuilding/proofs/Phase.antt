@@ -1,6 +1,6 @@
 -- What the statements of a phase did to each thing, one thing after another.
 use Rattle.std.proofs.Common.{◌≡◌, ◌⊎◌, inl, inr, sym, ap, ◌∙◌, ℕ, ◌<◌, ◌≤◌, true, not, ◌&&◌, nat_eq, nat_le, nat_lt, List, length, arith}
-use Rattle.std.proofs.lemmas.Bool.{cases_eq, cases_order, leb-true, ltb-true}
+use Rattle.std.proofs.lemmas.Bool.{and_parts, cases_eq, cases_order, leb-true, ltb-true}
 use Rattle.std.proofs.lemmas.List.Kept.{AllPairs-from_increasing}
 use Rattle.std.specs.List.Sorted.{IsStrictlyIncreasing}
 use Rattle.object_heap.specs.Chain.{object_at}
@@ -12,7 +12,7 @@ use Rattle.page_meaning.specs.Places.{window}
 use Rattle.rebuilding.specs.Rebuilt.{nth}
 use Rattle.rebuilding.specs.Scene.{IsRunning, Scene, is_site}
 use Rattle.rebuilding.proofs.Going.{Going}
-use Rattle.rebuilding.proofs.Basics.{all_at, left_of, not_in, right_of}
+use Rattle.rebuilding.proofs.Basics.{all_at, not_in}
 use Rattle.rebuilding.proofs.Placed.{some_built_in}
 use Rattle.object_shapes.specs.Links.{built_in_count}
 
@@ -24,9 +24,9 @@ site_there c h sites n running inside =
     let k : ℕ = nth sites n in
     let is : is_site c h k ≡ true = all_at (is_site c h) sites n running.stand inside in
     let others : (nat_lt k (length h.objects) && not (nat_eq k c.list))
-    ≡ true = right_of (nat_le built_in_count k) (nat_lt k (length h.objects) && not (nat_eq k c.list)) is in (
-      leb-true built_in_count k (left_of (nat_le built_in_count k) (nat_lt k (length h.objects) && not (nat_eq k c.list)) is),
-      ltb-true k (length h.objects) (left_of (nat_lt k (length h.objects)) (not (nat_eq k c.list)) others),
+    ≡ true = (and_parts (nat_le built_in_count k) (nat_lt k (length h.objects) && not (nat_eq k c.list)) is).1 in (
+      leb-true built_in_count k (and_parts (nat_le built_in_count k) (nat_lt k (length h.objects) && not (nat_eq k c.list)) is).0,
+      ltb-true k (length h.objects) (and_parts (nat_lt k (length h.objects)) (not (nat_eq k c.list)) others).0,
     )
 
 sites_differ : (sites : List ℕ) (m n : ℕ) → IsStrictlyIncreasing sites → m < length sites → n < length sites → (m ≡ n → ⊥) → nth sites m

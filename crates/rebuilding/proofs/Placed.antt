@@ -2,7 +2,7 @@
 use Rattle.std.proofs.Common.{◌≡◌, refl, sym, ap, ◌∙◌, ℕ, zero, suc, ◌+◌, ◌-◌, ◌<◌, ◌≤◌, Bool, true, false, nat_eq, nat_lt, List, [], ◌∷◌, ◌++◌, Option, Some, None, length, arith}
 use Rattle.std.proofs.Math.ListN.{get_or-append}
 use Rattle.std.proofs.Math.Seq.{get_or-append_seam}
-use Rattle.std.proofs.lemmas.Bool.{eq-eqb, eqb-true, leb-true, le-ltb, lt-ltb, ltb-false, ltb-true}
+use Rattle.std.proofs.lemmas.Bool.{eq-eqb, eqb-true, leb-true, le-ltb, lt-ltb, ltb-false, ltb-true, and_parts, and_from}
 use Rattle.std.proofs.lemmas.List.Folds.{list_all-append, list_any_at}
 use Rattle.std.proofs.lemmas.List.Quantifiers.{position-Some}
 use Rattle.std.specs.List.{list_all, position, position_or_len}
@@ -20,21 +20,21 @@ use Rattle.rebuild_plan.specs.Compact.{moved_proto, place_of, placed}
 use Rattle.heap_walker.proofs.Callers.{thing_of}
 use Rattle.rebuilding.specs.Rebuilt.{nth}
 use Rattle.rebuilding.specs.Sites.{site, sited_needs, sited_proto, sited_value, sited_values}
-use Rattle.rebuilding.proofs.Basics.{both, found_below, left_of, right_of}
+use Rattle.rebuilding.proofs.Basics.{found_below}
 use Rattle.object_shapes.specs.Links.{built_in_count, is_thing, proto_links, value_links, values_links, all_below}
 
 -- ---- lists
 
 pub at_or : (p : Object → Bool) (os : List Object) (k : ℕ) → list_all p os ≡ true → p no_object ≡ true → p (object_at os k) ≡ true
 at_or p [] k all none = none
-at_or p (o ∷ os) zero all none = left_of _ _ all
-at_or p (o ∷ os) (suc k) all none = at_or p os k (right_of _ _ all) none
+at_or p (o ∷ os) zero all none = (and_parts _ _ all).0
+at_or p (o ∷ os) (suc k) all none = at_or p os k (and_parts _ _ all).1 none
 
 pub below_more : (a b : ℕ) (ks : List ℕ) → a ≤ b → all_below a ks ≡ true → all_below b ks ≡ true
 below_more a b [] more h = refl
 below_more a b (k ∷ ks) more h =
-    let low : k < a = ltb-true k a (left_of _ _ h) in
-    both _ _ (lt-ltb k b (omega (arith, low, more))) (below_more a b ks more (right_of _ _ h))
+    let low : k < a = ltb-true k a (and_parts _ _ h).0 in
+    and_from _ _ (lt-ltb k b (omega (arith, low, more))) (below_more a b ks more (and_parts _ _ h).1)
 
 -- ---- places
 
@@ -72,7 +72,7 @@ place_built_in s things k walk low = by (position (nat_eq k) things) refl
     by (Some i) is =
         let found = position-Some (nat_eq k) things i 0 is in
         let same : k ≡ nth things i = eqb-true k (nth things i) found.1 in
-        let high : built_in_count ≤ nth things i = leb-true built_in_count (nth things i) (left_of _ _ (is_thing_at s things i walk found.0)) in
+        let high : built_in_count ≤ nth things i = leb-true built_in_count (nth things i) (and_parts _ _ (is_thing_at s things i walk found.0)).0 in
         absurd (omega (arith, low, same, high))
 
 -- the place of a thing, which has this number
@@ -130,7 +130,7 @@ module _ (sites : List ℕ) (place : ℕ) where
   site_stays k h = site_more sites place k (ltb-true k (built_in_count + length sites) h)
 
   pub value_stays : (v : Value) → stand (value_links v) ≡ true → sited_value after v ≡ sited_value sites v
-  value_stays (value.Object at) h = ap (λ n. value.Object (record { 0 = n })) (site_stays at.0 (left_of _ _ h))
+  value_stays (value.Object at) h = ap (λ n. value.Object (record { 0 = n })) (site_stays at.0 (and_parts _ _ h).0)
   value_stays value.Undefined h = refl
   value_stays value.Null h = refl
   value_stays (value.Bool b) h = refl
@@ -141,18 +141,18 @@ module _ (sites : List ℕ) (place : ℕ) where
   values_stay [] h = refl
   values_stay (v ∷ vs) h =
       let split = sym (list_all-append (λ k. nat_lt k (built_in_count + length sites)) (value_links v) (values_links vs)) ∙ h in
-      let here = value_stays v (left_of _ _ split) in
-      let others = values_stay vs (right_of _ _ split) in
+      let here = value_stays v (and_parts _ _ split).0 in
+      let others = values_stay vs (and_parts _ _ split).1 in
       (λ i. here i ∷ others i)
 
   pub needs_stay : (ns : List (List ℕ × Value)) → stand (needs_links ns) ≡ true → sited_needs after ns ≡ sited_needs sites ns
   needs_stay [] h = refl
   needs_stay (n ∷ ns) h =
       let split = sym (list_all-append (λ k. nat_lt k (built_in_count + length sites)) (value_links n.1) (needs_links ns)) ∙ h in
-      let here = value_stays n.1 (left_of _ _ split) in
-      let others = needs_stay ns (right_of _ _ split) in
+      let here = value_stays n.1 (and_parts _ _ split).0 in
+      let others = needs_stay ns (and_parts _ _ split).1 in
       (λ i. (n.0, here i) ∷ others i)
 
   pub proto_stays : (proto : Option ObjId) → stand (proto_links proto) ≡ true → sited_proto after proto ≡ sited_proto sites proto
   proto_stays None h = refl
-  proto_stays (Some at) h = ap (λ n. Some (record { 0 = n })) (site_stays at.0 (left_of _ _ h))
+  proto_stays (Some at) h = ap (λ n. Some (record { 0 = n })) (site_stays at.0 (and_parts _ _ h).0)

@@ -1,6 +1,6 @@
 -- The plan of a page at rest rebuilds it.
 use Rattle.std.proofs.Common.{◌≡◌, refl, sym, ap, subst, ◌∙◌, ℕ, suc, ◌+◌, ◌<◌, false, nat_lt, List, [], ◌∷◌, ◌++◌, length, arith}
-use Rattle.std.proofs.lemmas.Bool.{le-ltb}
+use Rattle.std.proofs.lemmas.Bool.{and_parts, cond-false, le-ltb}
 use Rattle.std.proofs.lemmas.List.{append-nil}
 use Rattle.heap_walker.specs.Still.{Still}
 use Rattle.heap_walker.specs.Things.{IsWalk, globals_of}
@@ -28,7 +28,6 @@ use Rattle.rebuilding.proofs.Phase.{Phase, phase_begins, phase_same}
 use Rattle.rebuilding.proofs.Prevents.{finished, finished_rebuilt, prevent_step, prevent_thing}
 use Rattle.rebuilding.proofs.Stages.{Made}
 use Rattle.rebuilding.proofs.EachThing.{each_succeeds, mixed}
-use Rattle.rebuilding.proofs.Basics.{left, right_of}
 use Rattle.rebuilding.proofs.Placed.{is_thing_at}
 
 -- ---- what comes after the makers may be run
@@ -40,7 +39,7 @@ after_makes [] n rest allowed =
 after_makes (t ∷ ts) n rest allowed =
     let long : suc n + length ts ≡ n + length (t ∷ ts) = omega arith in
     subst (λ m. Allowed m rest) long (after_makes ts (suc n) rest (record {
-      stands = right_of _ (standing (suc n) (makes (suc n) ts ++ rest)) allowed.stands;
+      stands = (and_parts _ (standing (suc n) (makes (suc n) ts ++ rest)) allowed.stands).1;
       in_range = range_rest (Make n t.maker) (makes (suc n) ts ++ rest) allowed.in_range;
     }))
 
@@ -71,7 +70,7 @@ module _ (c : Scene) (s : Store) (things sites : List ℕ) (h : Contents) (still
   }
 
   same_from : (before after : ℕ → Object) (n : ℕ) → mixed before after 0 n ≡ before n
-  same_from before after n = left (nat_lt n 0) (after n) (before n) (le-ltb n 0 (omega arith))
+  same_from before after n = cond-false (nat_lt n 0) (after n) (before n) (le-ltb n 0 (omega arith))
 
   prevents_left : (i : Contents) → Phase c h i sites own (filled h s things sites) → Allowed (length sites) (prevents 0 ts)
       → Succeeds c (IsRebuilt c s things) i sites (prevents 0 ts)

@@ -1,6 +1,6 @@
 -- Things that get no new properties are prevented from them, and then all are as they were saved.
 use Rattle.std.proofs.Common.{◌≡◌, refl, sym, ap, subst, ℕ, ◌<◌, ◌≤◌, Bool, true, false, ◌||◌, List, [], ◌∷◌, ◌++◌, length, if◌then◌else◌}
-use Rattle.std.proofs.lemmas.Bool.{or_from}
+use Rattle.std.proofs.lemmas.Bool.{cond-false, or_from}
 use Rattle.js_values.specs.declared.throw.Throw.TheVariants.{CannotDefine}
 use Rattle.object_heap.specs.Attempt.{done, throws}
 use Rattle.object_heap.specs.Chain.{object_at}
@@ -20,7 +20,6 @@ use Rattle.rebuilding.proofs.FillSteps.{class_window, filled}
 use Rattle.rebuilding.proofs.Going.{Allowed, Going, going_begins, prevent_next}
 use Rattle.rebuilding.proofs.Lasting.{round_stays}
 use Rattle.rebuilding.proofs.Stages.{IsFresh}
-use Rattle.rebuilding.proofs.Basics.{left}
 use Rattle.rebuilding.proofs.Placed.{site_thing}
 use Rattle.rebuilding.proofs.EachThing.{StepSucceeds}
 
@@ -33,7 +32,7 @@ prevent_thing n t = prevent (thing_place n) t
 
 prevents : (o : Object) → o.closed ≡ false → is_window o.class ≡ false → prevented o ≡ done (not_extensible o)
 prevents o closed window =
-    left (o.closed || is_window o.class) (throws o CannotDefine) (done (not_extensible o)) (or_from o.closed (is_window o.class) closed window)
+    cond-false (o.closed || is_window o.class) (throws o CannotDefine) (done (not_extensible o)) (or_from o.closed (is_window o.class) closed window)
 
 module _ (c : Scene) (End : Contents → List ℕ → Type 0) (sites : List ℕ) (h : Contents) (n : ℕ) (o : Object) (rs : List Rebuild)
     (closed : o.closed ≡ false) (window : is_window o.class ≡ false) (extensible : o.extensible ≡ true)

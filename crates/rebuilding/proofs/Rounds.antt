@@ -3,6 +3,7 @@ use Rattle.std.proofs.Common.{◌≡◌, refl, sym, ap, subst, ◌∙◌, ℕ, �
 use Rattle.std.proofs.lemmas.Slice.Eq.{bytes_eq-Decides}
 use Rattle.std.specs.List.{list_all}
 use Rattle.std.specs.Option.{ForSome}
+use Rattle.std.proofs.lemmas.Bool.{not-true}
 use Rattle.code_table.specs.Declarations.{name_of}
 use Rattle.js_core.specs.Tree.{Code, func}
 use Rattle.js_values.specs.declared.ids.EnvId.{EnvId}
@@ -24,7 +25,7 @@ use Rattle.rebuild_plan.specs.Compact.{moved_needs, moved_value}
 use Rattle.rebuilding.specs.Frames.{is_own, keeps_round, round_frame}
 use Rattle.rebuilding.specs.Scene.{bare, env_at, IsRoundOf, IsRunning, named as with_name, Scene}
 use Rattle.rebuilding.specs.Sites.{sited_needs, sited_value}
-use Rattle.rebuilding.proofs.Basics.{is_false, nothing}
+use Rattle.rebuilding.proofs.Basics.{nothing}
 use Rattle.rebuilding.proofs.Closures.{binding_there}
 use Rattle.rebuilding.proofs.Held.{IsFound, needed_found, not_held, own_found, round_unbound, some_found}
 use Rattle.rebuilding.proofs.Naming.{rebuilt_world}
@@ -45,7 +46,7 @@ kept_names p (y ∷ ys) = by (p y) refl (kept_names p ys)
 other_free : (c : Code) (x : List ℕ) → is_among x (other_names c) ≡ true → is_reserved x ≡ false
 other_free c x h =
     let names : List (List ℕ) = map (λ u. u.name) (expr_uses (func c)) in
-    is_false (is_reserved x) (all_names (λ y. not (is_reserved y)) (other_names c) x (kept_names (λ y. not (is_reserved y)) names) h)
+    not-true (is_reserved x) (all_names (λ y. not (is_reserved y)) (other_names c) x (kept_names (λ y. not (is_reserved y)) names) h)
 
 -- ---- environments
 
@@ -106,7 +107,7 @@ module _ (c : Scene) (s : Store) (h : Contents) (things sites others : List ℕ)
   other_absent x own none among =
       let left : look_in s.heap.environments env x ≡ None =
       nothing (look_in s.heap.environments env x)
-      (is_false (has_name s env x) (all_names (λ y. not (has_name s env y)) (other_names source) x rest.alone among))
+      (not-true (has_name s env x) (all_names (λ y. not (has_name s env y)) (other_names source) x rest.alone among))
       in
       let right : look_in h.environments round x ≡ None =
       round_unbound h.environments running.sound.environments c running.scope (sited_needs sites (moved_needs things (needs_of s env source))) j

@@ -1,7 +1,7 @@
 -- The sites are what can be reached in the page that was rebuilt.
 use Rattle.std.proofs.Common.{◌≡◌, inl, inr, refl, sym, ap, subst, ◌∙◌, ℕ, ◌<◌, ◌≤◌, true, nat_le, nat_lt, drop, map, List, [], ◌∷◌, ◌++◌, length, arith}
 use Rattle.std.proofs.Math.Seq.{drop-append_seam}
-use Rattle.std.proofs.lemmas.Bool.{and_parts, le-leb, leb-true, lt-ltb}
+use Rattle.std.proofs.lemmas.Bool.{and_from, and_parts, le-leb, leb-true, lt-ltb}
 use Rattle.std.proofs.lemmas.List.{map-append}
 use Rattle.object_heap.specs.Chain.{object_at}
 use Rattle.object_heap.specs.Environment.{AreInside}
@@ -22,7 +22,6 @@ use Rattle.rebuilding.specs.Rebuilt.{ClassIsRebuilt, IsRebuilt, IsRebuiltAs, nth
 use Rattle.rebuilding.specs.Scene.{Scene}
 use Rattle.rebuilding.specs.Sites.{site, sited_props}
 use Rattle.rebuilding.proofs.Agreeing.{site_parts}
-use Rattle.rebuilding.proofs.Basics.{both}
 use Rattle.rebuilding.proofs.Carried.{AreYoung, IsMadeOf, carried, carried_at, from_mapped, in_mapped, needs_carried, props_carried, proto_carried, value_carried, values_carried}
 use Rattle.rebuilding.proofs.Counterparts.{IsKnown, young_at}
 use Rattle.rebuilding.proofs.Globals.{counted}
@@ -96,7 +95,7 @@ module _ (c : Scene) (s : Store) (things : List ℕ) (h : Contents) (sites : Lis
       let m = at_site k found in
       let parts = site_parts c s things h sites still walk is m.0 m.1 in
       subst (λ j. is_thing t j ≡ true) (sym m.3)
-      (both _ _ (le-leb built_in_count (nth sites m.0) parts.0) (lt-ltb (nth sites m.0) (length h.objects) parts.1))
+      (and_from _ _ (le-leb built_in_count (nth sites m.0) parts.0) (lt-ltb (nth sites m.0) (length h.objects) parts.1))
 
   reached_again : (k : ℕ) → Reach s k → Reach t (to k)
   reached_again k (root thing found) =

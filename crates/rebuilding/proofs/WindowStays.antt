@@ -11,7 +11,7 @@ use Rattle.object_heap.specs.Property.{Props, created, may_update, own_property,
 use Rattle.object_heap.specs.declared.property.Change.{Change}
 use Rattle.object_heap.specs.declared.property.Prop.{Prop}
 use Rattle.page_meaning.specs.Places.{window}
-use Rattle.rebuilding.proofs.Basics.{left, nothing}
+use Rattle.rebuilding.proofs.Basics.{nothing}
 use Rattle.object_shapes.specs.Shapes.{IsWindow, built_in_at}
 
 -- the global object begins with a property of this name
@@ -89,7 +89,7 @@ module _ (w : Object) (x : List ℕ) (change : Change) (rest : IsWindow w) (othe
   closed_or_not : (b : Bool) → IsWindow (if b then throws w CannotDefine else define CannotDefine w x change).after
   closed_or_not true = rest
   closed_or_not false =
-      let same : define CannotDefine w x change ≡ define_ordinary CannotDefine w x change = left (is_list w.class) _ _ (ap is_list rest.class) in
+      let same : define CannotDefine w x change ≡ define_ordinary CannotDefine w x change = cond-false (is_list w.class) _ _ (ap is_list rest.class) in
       subst (λ (a : Attempt Object). IsWindow a.after) (sym same) (over (own_property w.props x))
 
   defined_window : IsWindow (define_own w x change).after

@@ -3,7 +3,7 @@
 use Rattle.std.proofs.Common.{◌≡◌, refl, sym, ap, subst, ◌∙◌, ℕ, Bool, true, false, true≢false, cond, not, ◌&&◌, ◌||◌, List, [], ◌∷◌, ◌++◌, Option, Some, None, IsTrue, bytes_eq, filter, map, if◌then◌else◌}
 use Rattle.std.specs.List.{find, list_all}
 use Rattle.std.proofs.Math.Bool.{or-false, or_assoc}
-use Rattle.std.proofs.lemmas.Bool.{and_parts, or_left, or_parts, or_right}
+use Rattle.std.proofs.lemmas.Bool.{and_parts, not-false, not-true, or_left, or_parts, or_right}
 use Rattle.std.proofs.lemmas.List.{append-nil}
 use Rattle.std.proofs.lemmas.List.Folds.{list_any-append}
 use Rattle.std.proofs.lemmas.Slice.Eq.{bytes_eq-Decides}
@@ -28,14 +28,6 @@ use Rattle.rebuilding.specs.Frames.{is_own}
 
 -- ---- no function is declared in it
 
-not_false : (b : Bool) → not b ≡ true → b ≡ false
-not_false true h = sym h
-not_false false h = refl
-
-not_true : (b : Bool) → not b ≡ false → b ≡ true
-not_true true h = refl
-not_true false h = sym h
-
 -- the wrapping function is called, and returns it
 wrapped_declares : (c : tree.Code) → has_inner_declaration (wrapped c) ≡ false → code_any is_declaration c ≡ false
 wrapped_declares c h =
@@ -50,7 +42,7 @@ declares_none x formals body h =
     let script = wrapped (code x formals body) in
     let front = (and_parts (not (has_open_reserved script) && not (has_inner_declaration script)) (not (stmts_any scope_out_of_form script)) h).0 in
     let inner = (and_parts (not (has_open_reserved script)) (not (has_inner_declaration script)) front).1 in
-    wrapped_declares (code x formals body) (not_false (has_inner_declaration script) inner)
+    wrapped_declares (code x formals body) (not-true (has_inner_declaration script) inner)
 
 -- ---- it does not assign to its own name
 
@@ -235,7 +227,7 @@ round_in_form c h =
     let p = or_parts _ _ h in
     let q = or_parts _ _ p.0 in
     let r = or_parts _ _ q.0 in
-    (and_parts _ _ (not_true _ r.0)).0
+    (and_parts _ _ (not-false _ r.0)).0
 
 constant : (c : tree.Code) (uses : List Use) (y : List ℕ) → fits_round c uses y ≡ true → is_captured y uses ≡ true
     → is_among y (needed_variables c) ≡ true → is_assigned y uses ≡ false
@@ -247,7 +239,7 @@ constant c uses y fits captured needed =
         → is_assigned y uses ≡ false
     by_case false b e f k = absurd (true≢false (sym e))
     by_case true false e f k = absurd (true≢false (sym f))
-    by_case true true e f k = not_false (is_assigned y uses) (and_parts _ _ (and_parts (is_reserved y) (is_constant [] uses y) k).1).0
+    by_case true true e f k = not-true (is_assigned y uses) (and_parts _ _ (and_parts (is_reserved y) (is_constant [] uses y) k).1).0
 
 -- it assigns nothing that it needs
 pub needed_unassigned : (c : tree.Code) → IsTrue (in_form (wrapped c)) → (y : List ℕ) → is_among y (needed_variables c) ≡ true
@@ -255,7 +247,7 @@ pub needed_unassigned : (c : tree.Code) → IsTrue (in_form (wrapped c)) → (y 
 needed_unassigned c h y needed =
     let script = wrapped c in
     let front = and_parts (not (has_open_reserved script) && not (has_inner_declaration script)) (not (stmts_any scope_out_of_form script)) h in
-    let all = round_in_form c (not_false (stmts_any scope_out_of_form script) front.1) in
+    let all = round_in_form c (not-true (stmts_any scope_out_of_form script) front.1) in
     let all_same = subst (λ us. list_all (fits_round c us) (needed_variables c ++ []) ≡ true) (append-nil (expr_uses (func c))) all in
     let all_needed = subst (λ xs. list_all (fits_round c (expr_uses (func c))) xs ≡ true) (append-nil (needed_variables c)) all_same in
     constant c (expr_uses (func c)) y (all_names (fits_round c (expr_uses (func c))) (needed_variables c) y all_needed needed)
