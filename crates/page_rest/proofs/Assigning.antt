@@ -1,16 +1,17 @@
 -- In a script in form no function assigns to a reserved name that it leaves to the scopes round it: what of that holds of a piece holds of its parts.
 use Rattle.std.proofs.Common.{◌≡◌, refl, sym, ap, ◌∙◌, ℕ, Bool, true, false, not, ◌&&◌, ◌||◌, List, [], ◌∷◌, ◌++◌, Option, Some, None, bytes_eq, if◌then◌else◌}
 use Rattle.std.specs.List.{list_any}
-use Rattle.std.proofs.lemmas.Bool.{and_parts, not-true, or_from, or_parts}
+use Rattle.std.proofs.lemmas.Bool.{and_parts, and_right, not-false, not-true, or_from, or_parts}
 use Rattle.std.proofs.lemmas.List.Folds.{list_any-append}
 use Rattle.std.proofs.lemmas.Slice.Eq.{bytes_eq-Decides}
+use Rattle.std.proofs.Math.Bool.{or-false}
 use Rattle.js_core.specs.Tree as tree
 use Rattle.js_core.specs.Tree.{assign, code, expr, func, name, no_declarators, no_expr, one_expr, then_declarator, then_stmt, var}
 use Rattle.scope_analysis.specs.Form.{any_use_is_reserved, are_variables_in_form, boxes, can_be_rebuilt, is_assigned_once, is_clause_out_of_form, is_constant, is_expression_out_of_form, is_not_captured, is_once, is_opened, is_parameter_in_form, may_be_captured, opens_with}
 use Rattle.scope_analysis.specs.Identifiers.{is_reserved}
 use Rattle.scope_analysis.specs.Names.{code_body, declared_names, is_among, maybe_name, unless_among}
 use Rattle.scope_analysis.specs.Uses.{Use, assignment, crossing, declarator_uses, expr_uses, is_assigned, is_captured, leaving_clause, leaving_function, maybe_expr_uses, stmts_uses, target_uses}
-use Rattle.agreement.proofs.Callers.{all_names, not_false, or_else, same_name}
+use Rattle.agreement.proofs.Callers.{all_names, or_else, same_name}
 
 -- a function inside assigns to a reserved name
 abbrev assigns_outwards : Use → Bool
@@ -44,12 +45,8 @@ pub closed_calm : (us : List Use) → any_use_is_reserved us ≡ false → assig
 closed_calm [] h = refl
 closed_calm (u ∷ us) h =
     let parts = or_parts (is_reserved u.name) (any_use_is_reserved us) h in
-    or_from (assigns_outwards u) (assigns_round us) (by u.crosses u.assigns (is_reserved u.name) parts.0) (closed_calm us parts.1)
-  where
-    by : (a b c : Bool) → c ≡ false → (a && (b && c)) ≡ false
-    by true true c h = h
-    by true false c h = refl
-    by false b c h = refl
+    let inward = and_right u.crosses _ (and_right u.assigns (is_reserved u.name) parts.0) in
+    or_from (assigns_outwards u) (assigns_round us) inward (closed_calm us parts.1)
 
 -- ---- a name that no function inside assigns to
 
@@ -68,11 +65,7 @@ unassigned : (x : List ℕ) (us : List Use) → is_assigned x us ≡ false → a
 unassigned x [] h = refl
 unassigned x (u ∷ us) h =
     let parts = or_parts (u.assigns && bytes_eq u.name x) (is_assigned x us) h in
-    or_from (u.crosses && (u.assigns && bytes_eq u.name x)) (assigns_from_inside x us) (by u.crosses (u.assigns && bytes_eq u.name x) parts.0) (unassigned x us parts.1)
-  where
-    by : (a b : Bool) → b ≡ false → (a && b) ≡ false
-    by true b h = h
-    by false b h = refl
+    or_from (u.crosses && (u.assigns && bytes_eq u.name x)) (assigns_from_inside x us) (and_right u.crosses (u.assigns && bytes_eq u.name x) parts.0) (unassigned x us parts.1)
 
 -- the one assignment comes first, in the piece itself
 only_first : (x y : List ℕ) (us : List Use) → bytes_eq y x ≡ true → is_assigned_once x (assignment y ∷ us) ≡ true
@@ -123,13 +116,9 @@ own_calm : (x : Option (List ℕ)) (xs : List (List ℕ)) (y : List ℕ) (us : L
     → is_among y (maybe_name x) ≡ true → is_among y xs ≡ false → assigns_from_inside y us ≡ false
 own_calm None xs y us h own other = cc own
 own_calm (Some x) xs y us h own other =
-    let same : y ≡ x = (bytes_eq-Decides y x).0 ((or_false (bytes_eq y x)) ∙ own) in
+    let same : y ≡ x = (bytes_eq-Decides y x).0 (sym (or-false (bytes_eq y x)) ∙ own) in
     uncaptured y us (by (is_among x xs) (sym (ap (λ z. is_among z xs) same) ∙ other) same h)
   where
-    or_false : (b : Bool) → b ≡ (b || false)
-    or_false true = refl
-    or_false false = refl
-
     by : (b : Bool) → b ≡ false → y ≡ x → is_not_captured (if b then None else Some x) us ≡ true → is_captured y us ≡ false
     by true e same k = cc e
     by false e same k = ap (λ z. is_captured z us) same ∙ not-true (is_captured x us) k
@@ -147,11 +136,7 @@ bound_use u h = by u.crosses u.assigns (bytes_eq u.name u.name) (is_reserved u.n
     by false b c d e h = refl
 
 left_use : (u : Use) → (u.assigns && is_reserved u.name) ≡ false → assigns_outwards u ≡ false
-left_use u h = by u.crosses (u.assigns && is_reserved u.name) h
-  where
-    by : (a b : Bool) → b ≡ false → (a && b) ≡ false
-    by true b h = h
-    by false b h = refl
+left_use u h = and_right u.crosses (u.assigns && is_reserved u.name) h
 
 -- what a function binds and leaves has none, so its body has none
 body_calm : (xs : List (List ℕ)) (us : List Use) → ((x : List ℕ) → is_among x xs ≡ true → assigns_from_inside x us ≡ false)
@@ -201,7 +186,7 @@ function_calm (code x formals body) formed h = body_calm (maybe_name x ++ xs) us
     us = stmts_uses body
 
     parts : (are_variables_in_form (code x formals body) us ≡ true) × (is_not_captured (unless_among x xs) us ≡ true)
-    parts = and_parts (are_variables_in_form (code x formals body) us) (is_not_captured (unless_among x xs) us) (not_false _ formed)
+    parts = and_parts (are_variables_in_form (code x formals body) us) (is_not_captured (unless_among x xs) us) (not-false _ formed)
 
     either : (a b : Bool) → (a || b) ≡ true → b ≡ false → a ≡ true
     either true b e f = refl
@@ -226,7 +211,7 @@ clause_calm x ss formed h = block_calm x us (by (is_captured x us) refl) h
     by : (b : Bool) → is_captured x us ≡ b → assigns_from_inside x us ≡ false
     by false e = uncaptured x us e
     by true e =
-        let whole = or_else (is_captured x us) (is_reserved x && (boxes x ss && is_assigned_once x us)) (not_false (is_parameter_in_form x ss us) formed) e in
+        let whole = or_else (is_captured x us) (is_reserved x && (boxes x ss && is_assigned_once x us)) (not-false (is_parameter_in_form x ss us) formed) e in
         let parts = and_parts (boxes x ss) (is_assigned_once x us) (and_parts (is_reserved x) (boxes x ss && is_assigned_once x us) whole).1 in
         boxed_once x ss parts.0 parts.1
 

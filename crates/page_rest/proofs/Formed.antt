@@ -1,6 +1,6 @@
 -- In a script of a form page each function is in form and breaks no early rule, in a call that binds its needed variables.
 use Rattle.std.proofs.Common.{◌≡◌, refl, false, None}
-use Rattle.std.proofs.lemmas.Bool.{or_parts}
+use Rattle.std.proofs.lemmas.Bool.{or_from, or_parts}
 use Rattle.js_core.specs.Tree as tree
 use Rattle.js_core.specs.Tree.{code, func, function, no_stmts, then_stmt}
 use Rattle.scope_analysis.specs.EarlyRules.{has_stray_jump}
@@ -13,7 +13,7 @@ use Rattle.page_rest.proofs.Assigning.{assigns_round, closed_calm, left_calm, ri
 use Rattle.page_rest.proofs.FormParts.{FormParts, form_parts}
 use Rattle.scope_analysis.proofs.Callers.{KeepsRules, rules_are_kept}
 use Rattle.page_rest.proofs.Pieces.{expr_formed, stmt_formed}
-use Rattle.page_rest.proofs.Tests.{Deleted, Fields, Formals, Jumps, Own, Restricted, Scopes, Targets, Test, nor, test_of, unnamed}
+use Rattle.page_rest.proofs.Tests.{Deleted, Fields, Formals, Jumps, Own, Restricted, Scopes, Targets, Test, test_of, unnamed}
 use Rattle.page_rest.specs.Asks.{FunctionsAreFormed, is_unformed}
 
 -- ---- statements at the top of a script, which may be function declarations
@@ -28,7 +28,7 @@ stmts_at_top : (ss : tree.Stmts) → ((r : Test) → stmts_any (test_of r) ss �
 stmts_at_top no_stmts e i calm = refl
 stmts_at_top (then_stmt s ss) e i calm =
     let plain = or_parts (declares_inside s) (has_inner_declaration ss) i in
-    nor (stmt_at_top s (λ r. (or_parts (stmt_any (test_of r) s) (stmts_any (test_of r) ss) (e r)).0) plain.0 (left_calm (stmt_uses s) (stmts_uses ss) calm))
+    or_from _ _ (stmt_at_top s (λ r. (or_parts (stmt_any (test_of r) s) (stmts_any (test_of r) ss) (e r)).0) plain.0 (left_calm (stmt_uses s) (stmts_uses ss) calm))
     (stmts_at_top ss (λ r. (or_parts (stmt_any (test_of r) s) (stmts_any (test_of r) ss) (e r)).1) plain.1 (right_calm (stmt_uses s) (stmts_uses ss) calm))
 
 -- ---- scripts

@@ -1,7 +1,7 @@
 -- The needed variables of a function: each once, all reserved, and each reserved name that the function leaves to the scopes round it.
 use Rattle.std.proofs.Common.{◌≡◌, refl, sym, ap, ◌∙◌, ℕ, Bool, true, false, ◌||◌, ◌==◌, List, [], ◌∷◌, ◌++◌, bytes_eq, cond, filter, if◌then◌else◌, map}
 use Rattle.std.specs.List.{list_all, list_any}
-use Rattle.std.proofs.lemmas.Bool.{and_from, and_parts, eqb-true, or_from, or_parts}
+use Rattle.std.proofs.lemmas.Bool.{and_from, and_parts, eqb-true, or_from, or_left, or_parts, or_right}
 use Rattle.std.proofs.lemmas.List.{append-nil}
 use Rattle.std.proofs.lemmas.List.Folds.{list_all-append, list_any-append}
 use Rattle.std.proofs.lemmas.Slice.Eq.{bytes_eq-Decides}
@@ -26,14 +26,6 @@ turned x y e = by (bytes_eq y x) refl
     by : (b : Bool) → bytes_eq y x ≡ b → bytes_eq y x ≡ false
     by true is = let same : y ≡ x = (bytes_eq-Decides y x).0 is in cc (e, ap (bytes_eq x) same, same_name x)
     by false is = is
-
-pub or_left : (a b : Bool) → a ≡ true → (a || b) ≡ true
-or_left true b e = refl
-or_left false b e = cc e
-
-pub or_right : (a b : Bool) → b ≡ true → (a || b) ≡ true
-or_right true b e = refl
-or_right false b e = e
 
 module _ (ks : List (List ℕ)) (x : List ℕ) where
   stays : (y : List ℕ) → is_among y ks ≡ true → is_among y (insert_key bytes_eq ks x) ≡ true

@@ -1,7 +1,8 @@
 -- The tests of nodes that no node of a script of a form page passes, and what of them holds of the parts of a piece.
-use Rattle.std.proofs.Common.{◌≡◌, ℕ, Bool, true, false, not, ◌&&◌, ◌||◌, List, ◌++◌, Option, Some, None}
+use Rattle.std.proofs.Common.{◌≡◌, ap, ◌∙◌, ℕ, Bool, true, false, not, ◌&&◌, ◌||◌, List, ◌++◌, Option, Some, None}
 use Rattle.std.specs.List.{list_any}
 use Rattle.std.proofs.lemmas.Bool.{or_from, or_parts}
+use Rattle.std.proofs.Math.Bool.{and-true}
 use Rattle.js_core.specs.Tree as tree
 use Rattle.js_core.specs.Tree.{code, func, function, one_catch}
 use Rattle.scope_analysis.specs.EarlyRules.{assigns_own_name, deletes_name, has_bad_target, has_restricted_name, has_stray_jump, repeats_field, repeats_formal}
@@ -39,9 +40,6 @@ pub record Kept (any : (Node → Bool) → Bool) (uses : List Use) : Type 0 wher
   pub each : (r : Test) → any (test_of r) ≡ false
   pub plain : any is_declaration ≡ false
   pub calm : assigns_round uses ≡ false
-
-pub nor : {x y : Bool} → x ≡ false → y ≡ false → (x || y) ≡ false
-nor {x = x} {y = y} e f = or_from x y e f
 
 -- ---- parts
 
@@ -114,10 +112,6 @@ with_no_name (Some x) formals body e =
     let parts = or_parts (is_restricted x || restricted) (stmts_any has_restricted_name body) e in
     or_from restricted (stmts_any has_restricted_name body) (or_parts (is_restricted x) restricted parts.0).1 parts.1
 
-not_both : (b : Bool) → not b ≡ false → not (b && true) ≡ false
-not_both true e = e
-not_both false e = e
-
 unnamed_at : (r : Test) (x : Option (List ℕ)) (formals : List (List ℕ)) (body : tree.Stmts)
     → stmt_any (test_of r) (function (code x formals body)) ≡ false → expr_any (test_of r) false (func (code None formals body)) ≡ false
 unnamed_at Formals x formals body e = e
@@ -130,7 +124,7 @@ unnamed_at Own x formals body e = e
 unnamed_at Scopes x formals body e =
     let formed : Bool = are_variables_in_form (code x formals body) (stmts_uses body) in
     let parts = or_parts (not formed) (stmts_any scope_out_of_form body) e in
-    or_from (not (formed && true)) (stmts_any scope_out_of_form body) (not_both formed parts.0) parts.1
+    or_from (not (formed && true)) (stmts_any scope_out_of_form body) (ap not (and-true formed) ∙ parts.0) parts.1
 
 -- a declared function, as an expression without its name
 pub unnamed : (x : Option (List ℕ)) (formals : List (List ℕ)) (body : tree.Stmts)

@@ -1,7 +1,7 @@
 -- A function of which no node passes one of the tests is in form and breaks no early rule, in a call that binds its needed variables.
-use Rattle.std.proofs.Common.{◌≡◌, refl, ap, ◌∙◌, ℕ, Bool, true, false, not, ◌&&◌, ◌||◌, List, [], ◌∷◌, ◌++◌, None, bytes_eq, if◌then◌else◌}
+use Rattle.std.proofs.Common.{◌≡◌, refl, ap, ◌∙◌, ℕ, Bool, true, false, not, ◌&&◌, List, [], ◌∷◌, ◌++◌, None, bytes_eq, if◌then◌else◌}
 use Rattle.std.specs.List.{list_all}
-use Rattle.std.proofs.lemmas.Bool.{and_from, and_parts, not_from_false, or_from}
+use Rattle.std.proofs.lemmas.Bool.{and_from, and_parts, not_from_false, or_from, or_left, or_right}
 use Rattle.std.proofs.lemmas.List.{append-nil}
 use Rattle.js_core.specs.Tree as tree
 use Rattle.js_core.specs.Tree.{call, code, expr, func, no_exprs, no_stmts, one_expr, return, then_stmt}
@@ -17,8 +17,8 @@ use Rattle.agreement.proofs.Callers.{same_name}
 use Rattle.page_rest.proofs.Assigning.{assigns_round, never_assigned}
 use Rattle.page_rest.proofs.FormParts.{FormParts, from_parts}
 use Rattle.scope_analysis.proofs.Callers.{KeepsRules, none_is_broken}
-use Rattle.page_rest.proofs.NeededNames.{needed_are_all, needed_are_apart, needed_are_reserved, needed_are_unrestricted, or_left, or_right}
-use Rattle.page_rest.proofs.Tests.{Deleted, Fields, Formals, Jumps, Kept, Own, Restricted, Scopes, Targets, Test, nor, test_of}
+use Rattle.page_rest.proofs.NeededNames.{needed_are_all, needed_are_apart, needed_are_reserved, needed_are_unrestricted}
+use Rattle.page_rest.proofs.Tests.{Deleted, Fields, Formals, Jumps, Kept, Own, Restricted, Scopes, Targets, Test, test_of}
 use Rattle.page_rest.specs.Asks.{is_formed, is_no}
 
 -- the function that binds the needed variables and returns the function
@@ -35,14 +35,10 @@ outer c = then_stmt (expr (call (func (binder c)) no_exprs)) no_stmts
 assigns_none : (c : tree.Code) (x : List ℕ) → is_reserved x ≡ true → assigns_round (expr_uses (func c)) ≡ false → is_assigned x (expr_uses (func c)) ≡ false
 assigns_none (code y formals body) x reserved h = never_assigned (maybe_name y ++ bound_names (code y formals body)) (stmts_uses body) x reserved h
 
-may_be : (a b : Bool) → b ≡ true → (not a || b) ≡ true
-may_be true b e = e
-may_be false b e = refl
-
 module _ (formals : List (List ℕ)) (body : tree.Stmts) (us : List Use) (none : (x : List ℕ) → is_reserved x ≡ true → is_assigned x us ≡ false) where
   formal_in_form : (x : List ℕ) → is_reserved x ≡ true → is_among x formals ≡ true → may_be_captured formals [] body us x ≡ true
   formal_in_form x reserved among =
-      may_be (is_captured x us) (can_be_rebuilt formals [] body us x)
+      or_right (not (is_captured x us)) (can_be_rebuilt formals [] body us x)
       (and_from (is_reserved x) _ reserved (chosen (is_among x formals) among))
     where
       chosen : (b : Bool) → b ≡ true → (if b then is_constant [] us x else is_opened [] body us x) ≡ true
@@ -81,7 +77,7 @@ binder_in_form c calm =
 none_passes : (t : Node → Bool) (c : tree.Code) → t (statement (expr (call (func (binder c)) no_exprs))) ≡ false
     → t (expression false (call (func (binder c)) no_exprs)) ≡ false → t (expression true (func (binder c))) ≡ false
     → t (statement (return (one_expr (func c)))) ≡ false → expr_any t false (func c) ≡ false → stmts_any t (outer c) ≡ false
-none_passes t c a b d e f = nor (nor a (nor b (nor (nor d (nor (nor e f) refl)) refl))) refl
+none_passes t c a b d e f = or_from _ _ (or_from _ _ a (or_from _ _ b (or_from _ _ (or_from _ _ d (or_from _ _ (or_from _ _ e f) refl)) refl))) refl
 
 abbrev KeptFunction : tree.Code → Type 0
 KeptFunction c = Kept (λ t. expr_any t false (func c)) (expr_uses (func c))
