@@ -2,7 +2,7 @@
 use Rattle.std.proofs.Common.{◌≡◌, ◌∙◌, refl, sym, ap, subst, ℕ, ◌+◌, Bool, true, false, List, [], ◌∷◌}
 use Rattle.std.specs.Prelude.{◌||◌, ◌&&◌, bytes_eq, codes}
 use Rattle.std.specs.List.{list_all}
-use Rattle.std.proofs.lemmas.Bool.{and_parts, ltb-false, not-true}
+use Rattle.std.proofs.lemmas.Bool.{and_parts, ltb-false, not-true, or_left}
 use Rattle.js_core.specs.Height.{stmts_height}
 use Rattle.js_core.specs.Text.{utf16_of}
 use Rattle.js_core.specs.Tree as tree
@@ -35,13 +35,10 @@ begins_opened n ss h = cc h
 
 -- ---- a printed text has no control character, so none but LF
 
-free_is_lined : (b c : Bool) → b ≡ true → (b || c) ≡ true
-free_is_lined b c h = ap (λ (d : Bool). d || c) h
-
 all_lined : (us : List ℕ) → list_all is_free us ≡ true → list_all is_lined us ≡ true
 all_lined [] h = refl
 all_lined (u ∷ us) h =
-    ap (λ (d : Bool). d && list_all is_lined us) (free_is_lined (is_free u) _ (and_parts (is_free u) _ h).0) ∙ all_lined us (and_parts (is_free u) _ h).1
+    ap (λ (d : Bool). d && list_all is_lined us) (or_left (is_free u) _ (and_parts (is_free u) _ h).0) ∙ all_lined us (and_parts (is_free u) _ h).1
 
 lined_again : (script : tree.Stmts) (text : List ℕ) → ReadAgain script text → LinedAgain script text
 lined_again script text again = record {
