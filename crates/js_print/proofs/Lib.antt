@@ -8,6 +8,7 @@ pub mod LinedText
 pub mod Literals
 pub mod Neighbours
 pub mod Ordinary
+pub mod PlainNames
 pub mod PrintedBlocks
 pub mod PrintedDeclarations
 pub mod PrintedExpressions

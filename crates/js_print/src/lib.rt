@@ -4,6 +4,7 @@
 
 mod expressions;
 mod laws;
+mod lengths;
 mod lexeme;
 mod operators;
 mod place;
@@ -20,6 +21,7 @@ pub use laws::{
     law_printed_text_has_no_end_tag, law_printed_text_has_these_tokens, law_printed_text_is_ascii,
     law_syntax_is_what_tokens_have, law_tokens_can_be_written,
 };
+pub use lengths::{code_length, unnamed_length};
 pub use lexeme::Lexeme;
 pub use printing::{print, print_code, print_unnamed};
 pub use pushing::{push_keyword, push_lexeme, push_name, push_punct, push_text};

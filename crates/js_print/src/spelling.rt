@@ -35,8 +35,8 @@ fn push_each(lexemes: &[Lexeme], out: &mut Vec<u8>) -> Result<(), OutOfMemory>
     Ok(())
 }
 
-// Whether the lexeme begins and ends with an identifier character.
-fn is_word(lexeme: &Lexeme) -> bool
+/// Whether the lexeme begins and ends with an identifier character.
+pub fn is_word(lexeme: &Lexeme) -> bool
     ensures { result ≡ spec.is_word lexeme.now }
 {
     match lexeme {

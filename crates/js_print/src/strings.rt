@@ -47,7 +47,7 @@ fn push_unit(unit: u16, out: &mut Vec<u8>) -> Result<(), OutOfMemory>
     }
 }
 
-fn is_plain(unit: u16) -> bool
+pub fn is_plain(unit: u16) -> bool
     ensures value { result ≡ spec.is_plain unit }
 {
     matches!(unit, 0x20..=0x7E) && unit != 0x22 && unit != 0x5C && unit != 0x3C
