@@ -12,9 +12,11 @@ mod replay;
 mod save;
 mod saving;
 mod status;
+mod system;
 
 pub use command::{Command, Work};
 pub use laws::law_one_ending;
 pub use notes::write_note;
 pub use program::run;
 pub use status::Status;
+pub use system::run_on_system;

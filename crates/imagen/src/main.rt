@@ -1,62 +1,9 @@
 //! `imagen` takes a web page in the middle of a session and lets it go on in another session.
 #![tactic(auto)]
 
-ghost use Rattle.std.specs.Prelude.{◌≡◌, IsErr};
-ghost use Rattle.command_line.specs.Notes.{note_of, Noted};
-
-use command_line::{Status, run, write_note};
-use page_io::{Files, Keeper, MemoryKeeper, RealFiles, RealSink, Sink};
-use std::alloc::Global;
-use std::io;
-use std::io::ErrorKind;
+use command_line::run_on_system;
 use std::process::ExitCode;
-use std::rt::Env;
-
-// The words after the program's name.
-fn words_of<R: Env + AllocGlobal>(rt: &R) -> io::Result<Vec<String>> {
-    let mut words = Vec::new(rt.alloc());
-    for word in std::env::args(rt)?.skip(1) {
-        words.push(word)?;
-    }
-    Ok(words)
-}
-
-// Ends as the words say. Words that are no UTF-8 are no command line, as no words are; and want of memory for them has
-// its note too.
-fn ended<F: Files, O: Sink, N: Sink, K: Keeper>(
-    alloc: Global,
-    words: io::Result<Vec<String>>,
-    files: &mut F,
-    out: &mut O,
-    notes: &mut N,
-    keeper: &mut K,
-) -> Status
-    ensures note { Noted (note_of result) (N.seen notes.old) (N.seen notes.new) }
-    ensures untouched { IsErr words → (files.new ≡ files.old) × (out.new ≡ out.old) }
-{
-    match words {
-        Ok(words) => run(alloc, &words, files, out, notes, keeper),
-        Err(error) if error.kind() == ErrorKind::OutOfMemory => {
-            write_note(notes, Status::OutOfMemory);
-            Status::OutOfMemory
-        }
-        Err(_) => run(alloc, &[], files, out, notes, keeper),
-    }
-}
 
 fn main(rt: HostRuntime) -> ExitCode {
-    let words = words_of(&rt);
-    let mut files = RealFiles::new(&rt);
-    let mut out = RealSink::new(rt.stdout());
-    let mut notes = RealSink::new(rt.stderr());
-    let mut keeper = MemoryKeeper::new(rt.alloc(), Vec::new(rt.alloc()));
-    let status = ended(
-        rt.alloc(),
-        words,
-        &mut files,
-        &mut out,
-        &mut notes,
-        &mut keeper,
-    );
-    ExitCode::from(status.code())
+    run_on_system(&rt, rt.stdout(), rt.stderr())
 }
