@@ -15,7 +15,7 @@ use crate::needs::needs_of;
 use crate::reached::{Walked, walk};
 use code_table::FunctionCode;
 use js_core::{OutOfMemory, Units};
-use js_print::{print_code, print_unnamed};
+use js_print::{code_length, unnamed_length};
 use js_values::{EnvId, ObjId, Value};
 use object_heap::{Class, Prop};
 use page_state::{State, WINDOW, further};
@@ -242,22 +242,19 @@ fn add_function(
         (spec.together (spec.code_load code.now)
         (spec.needs_load (things.needs_of state.now env code.now)))) }
 {
-    let text = printed(state.alloc(), code)?;
-    weight.add_bytes(text.len() as u64);
+    let bytes = printed_length(state.alloc(), code)?;
+    weight.add_bytes(bytes);
     let needs = needs_of(state, code, env)?;
     weight.add_needs(needs.as_slice());
     Ok(())
 }
 
-/// The text of a function as an expression, with its name where it is held with it (section 13).
-pub fn printed(alloc: Global, code: &FunctionCode) -> Result<Vec<u8>, OutOfMemory>
-    ensures { IfOk result (λ text. text.items ≡ code_text code.now) }
+// How many bytes a function has as an expression, with its name where it is held with it (section 13).
+fn printed_length(alloc: Global, code: &FunctionCode) -> Result<u64, OutOfMemory>
+    ensures { IfOk result (λ bytes. bytes ≡ length (code_text code.now)) }
 {
-    let mut text = Vec::new(alloc);
     if code.name().is_some() {
-        print_code(alloc, code.source(), &mut text)?;
-        return Ok(text);
+        return code_length(alloc, code.source());
     }
-    print_unnamed(alloc, code.source(), &mut text)?;
-    Ok(text)
+    unnamed_length(alloc, code.source())
 }
