@@ -3,6 +3,9 @@
 75,000; a second page does the same and lets go of all, so that what is left over is the writing. It prints the milliseconds of each, the best of five
 runs less the best of the page that lets go, and their ratio, which stays near 10 where the cost is in proportion.
 
+Closures of one long code are more text than a saved page may have: of these the cost is that of finding it out. Behind it comes the
+same for as many closures of a code that is ten times as long, where the ratio would be near 1 if each code were measured once.
+
     bench/saving.py [PROGRAM]
 """
 import os
@@ -25,9 +28,15 @@ KINDS = {
     "chains": ("o=a[i]=Object.create(o);", 2),
     "numbers": ("a[i]=i;", 1),
 }
+TOO_LARGE = 6
+# How many closures of one code, and about how many characters the code has.
+LONG = {
+    "more closures": ((2_000, 10_000), (20_000, 10_000)),
+    "longer code": ((20_000, 1_000), (20_000, 10_000)),
+}
 
 
-def best(script, folder):
+def best(script, folder, status=0):
     page, events = f"{folder}/page.html", f"{folder}/events.json"
     with open(page, "w", encoding="ascii") as file:
         file.write(f'<html><body></body><script>"use strict";{script}</script></html>')
@@ -36,9 +45,15 @@ def best(script, folder):
     spent = []
     for _ in range(5):
         begun = time.perf_counter()
-        subprocess.run([PROGRAM, "save", page, events], stdout=subprocess.DEVNULL, check=True)
+        done = subprocess.run([PROGRAM, "save", page, events], stdout=subprocess.DEVNULL, stderr=subprocess.DEVNULL)
         spent.append(time.perf_counter() - begun)
+        if done.returncode != status:
+            sys.exit(f"{PROGRAM} ended with {done.returncode} in place of {status}")
     return min(spent)
+
+
+def tell(name, costs):
+    print(name, *[f"{cost * 1e3:.1f} ms" for cost in costs], f"{costs[1] / max(costs[0], 1e-9):.1f}")
 
 
 with tempfile.TemporaryDirectory() as folder:
@@ -47,4 +62,11 @@ with tempfile.TemporaryDirectory() as folder:
         for things in (7_400, 74_000):
             made = f"var a=[],i,o=null,f=function(){{}},g=function(n){{return function(){{n=n+1;return n;}};}};for(i=0;i<{things // weight};i++){{{turn}}}"
             costs.append(best(made, folder) - best(made + "a=o=null;", folder))
-        print(name, *[f"{cost * 1e3:.1f} ms" for cost in costs], f"{costs[1] / max(costs[0], 1e-9):.1f}")
+        tell(name, costs)
+    for name, sizes in LONG.items():
+        costs = []
+        for count, characters in sizes:
+            code = "n=n+1;" * (characters // 6)
+            made = f"var a=[],i,g=function(n){{return function(){{{code}return n;}};}};for(i=0;i<{count};i++){{a[i]=g(i);}}"
+            costs.append(best(made, folder, TOO_LARGE) - best(made + "a=null;", folder))
+        tell(name, costs)
