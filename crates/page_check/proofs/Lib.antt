@@ -1,8 +1,9 @@
-pub mod Forms
 pub mod Frames
 pub mod Fronts
 pub mod OneAnswer
 pub mod OneFrame
+pub mod OneScript
 pub mod Refusals
 pub mod SomeAnswer
+pub mod SomeScript
 pub mod Stages

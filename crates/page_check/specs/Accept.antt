@@ -16,8 +16,6 @@ use Rattle.page_check.specs.declared.page.Kind.{Kind}
 use Rattle.page_check.specs.declared.page.Kind.TheVariants.{Plain, Form}
 use Rattle.page_check.specs.declared.page.Refusal.{Refusal}
 use Rattle.page_check.specs.declared.page.Refusal.TheVariants.{NotUtf8, NotPage, NotTokens, NotScript, NotStrict, Early, TooDeep, ReservedName, NotForm}
-use Rattle.page_check.specs.declared.script.ScriptFault.{ScriptFault}
-use Rattle.page_check.specs.declared.script.ScriptFault.TheVariants as cause
 
 -- the text has these tokens, and they this tree
 pub record IsRead (text : List ℕ) (tokens : List Token) (script : tree.Stmts) : Type 0 where
@@ -39,26 +37,28 @@ pub record IsLow (kind : Kind) (text : List ℕ) (script : tree.Stmts) : Type 0 
   pub orderly : IsOrderly text script
   pub low : is_too_deep kind script ≡ false
 
--- the fault of a script that does not keep it
-abbrev pub without_form : Kind → ScriptFault
-without_form Plain = cause.ReservedName
-without_form Form = cause.NotForm
-
 -- the text is that of a script of a page of this kind
 pub record IsPageScript (kind : Kind) (text : List ℕ) (script : tree.Stmts) : Type 0 where
   pub low : IsLow kind text script
   pub formed : keeps_form kind script ≡ true
 
--- the text is none for this cause, and for none before it; want of memory is free
-abbrev pub IsScriptFault : Kind → List ℕ → ScriptFault → Type 0
-IsScriptFault kind text cause.NotTokens = (tokens : List Token) → ¬ Tokens text tokens
-IsScriptFault kind text cause.NotScript = (tokens : List Token) × Tokens text tokens × ((script : tree.Stmts) → ¬ ScriptOf height_limit tokens script)
-IsScriptFault kind text cause.NotStrict = (tokens : List Token) × (script : tree.Stmts) × IsRead text tokens script × ¬ IsStrict tokens
-IsScriptFault kind text (cause.Early rule) = (script : tree.Stmts) × IsStrictScript text script × (early_rule script ≡ Some rule)
-IsScriptFault kind text cause.TooDeep = (script : tree.Stmts) × IsOrderly text script × (is_too_deep kind script ≡ true)
-IsScriptFault kind text cause.ReservedName = (script : tree.Stmts) × (kind ≡ Plain) × IsLow kind text script × (keeps_form kind script ≡ false)
-IsScriptFault kind text cause.NotForm = (script : tree.Stmts) × (kind ≡ Form) × IsLow kind text script × (keeps_form kind script ≡ false)
-IsScriptFault kind text cause.OutOfMemory = Unit {0}
+-- as the k-th script of a page of this kind the text is refused for this cause, and for none before it; two causes are of no script
+abbrev pub IsScriptRefusal : Kind → ℕ → List ℕ → Refusal → Type 0
+IsScriptRefusal kind k text NotUtf8 = ⊥
+IsScriptRefusal kind k text NotPage = ⊥
+IsScriptRefusal kind k text (NotTokens n) = (n ≡ k) × ((tokens : List Token) → ¬ Tokens text tokens)
+IsScriptRefusal kind k text (NotScript n) =
+    (n ≡ k) × (tokens : List Token) × Tokens text tokens × ((script : tree.Stmts) → ¬ ScriptOf height_limit tokens script)
+IsScriptRefusal kind k text (NotStrict n) = (n ≡ k) × (tokens : List Token) × (script : tree.Stmts) × IsRead text tokens script × ¬ IsStrict tokens
+IsScriptRefusal kind k text (Early n rule) = (n ≡ k) × (script : tree.Stmts) × IsStrictScript text script × (early_rule script ≡ Some rule)
+IsScriptRefusal kind k text (TooDeep n) = (n ≡ k) × (script : tree.Stmts) × IsOrderly text script × (is_too_deep kind script ≡ true)
+IsScriptRefusal kind k text (ReservedName n) = (n ≡ k) × (script : tree.Stmts) × (kind ≡ Plain) × IsLow kind text script × (keeps_form kind script ≡ false)
+IsScriptRefusal kind k text (NotForm n) = (n ≡ k) × (script : tree.Stmts) × (kind ≡ Form) × IsLow kind text script × (keeps_form kind script ≡ false)
+
+-- want of memory is free
+abbrev pub IsNotScript : Kind → ℕ → List ℕ → AcceptFault → Type 0
+IsNotScript kind k text (Refused refusal) = IsScriptRefusal kind k text refusal
+IsNotScript kind k text OutOfMemory = Unit {0}
 
 -- the text that UTF-8 bytes write, with its line ends made LF
 abbrev pub text_of : List ℕ → List ℕ
@@ -77,25 +77,18 @@ abbrev pub IsAccepted : List ℕ → Page → Type 0
 IsAccepted bytes page = IsAcceptedAs bytes page.kind page.scripts
 
 -- the bytes are a page but for its one script
-pub record IsRefusedAt (bytes : List ℕ) (k : ℕ) (fault : ScriptFault) : Type 0 where
-  pub first : k ≡ 1
+pub record IsRefusedScript (bytes : List ℕ) (refusal : Refusal) : Type 0 where
   pub utf8 : IsUtf8 bytes
   pub kind : Kind
   pub inner : List ℕ
   pub framed : IsFramePage (text_of bytes) kind inner
-  pub off : IsScriptFault kind inner fault
+  pub off : IsScriptRefusal kind 1 inner refusal
 
 -- the bytes are refused for this cause, and for none before it
 abbrev pub IsRefused : List ℕ → Refusal → Type 0
 IsRefused bytes NotUtf8 = ¬ IsUtf8 bytes
 IsRefused bytes NotPage = IsUtf8 bytes × ((kind : Kind) (inner : List ℕ) → ¬ IsFramePage (text_of bytes) kind inner)
-IsRefused bytes (NotTokens k) = IsRefusedAt bytes k cause.NotTokens
-IsRefused bytes (NotScript k) = IsRefusedAt bytes k cause.NotScript
-IsRefused bytes (NotStrict k) = IsRefusedAt bytes k cause.NotStrict
-IsRefused bytes (Early k rule) = IsRefusedAt bytes k (cause.Early rule)
-IsRefused bytes (TooDeep k) = IsRefusedAt bytes k cause.TooDeep
-IsRefused bytes (ReservedName k) = IsRefusedAt bytes k cause.ReservedName
-IsRefused bytes (NotForm k) = IsRefusedAt bytes k cause.NotForm
+IsRefused bytes refusal = IsRefusedScript bytes refusal
 
 -- want of memory is free
 abbrev pub IsNotAccepted : List ℕ → AcceptFault → Type 0

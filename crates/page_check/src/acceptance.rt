@@ -3,12 +3,11 @@
 ghost use Rattle.std.specs.Prelude.{◌≡◌, IfOk, IfErr, List};
 ghost use Rattle.js_core.specs.Tree.{Stmts};
 ghost use Rattle.page_check.specs.Accept.{IsAccepted, IsAcceptedAs, IsNotAccepted, text_of};
-ghost use Rattle.page_check.specs.Faults as spec;
 ghost use Rattle.page_check.specs.declared.page.Kind.{Kind as PageKind};
 
 use crate::frame::{frame, has_body, with_line_feeds};
 use crate::page::{AcceptFault, Accepted, Refusal};
-use crate::script::{ScriptFault, page_script};
+use crate::script::page_script;
 use js_core::{OutOfMemory, Units};
 use std::alloc::Global;
 
@@ -28,10 +27,8 @@ pub fn accept(alloc: Global, bytes: &[u8]) -> Result<Accepted, AcceptFault>
     };
     let text = Units::of(alloc, inner)?;
     drop(page);
-    match page_script(alloc, kind, text) {
-        Ok(script) => Ok(Accepted::new(kind, vec![in alloc; script]?)),
-        Err(fault) => Err(at_script(1, fault)),
-    }
+    let script = page_script(alloc, kind, 1, text)?;
+    Ok(Accepted::new(kind, vec![in alloc; script]?))
 }
 
 /// Whether an empty body stands before the script of an accepted page.
@@ -52,20 +49,4 @@ fn page_text(alloc: Global, text: &str) -> Result<Vec<u16>, OutOfMemory>
 {
     let units = Units::from_utf8(alloc, text)?;
     with_line_feeds(alloc, units.as_slice())
-}
-
-/// The fault of a page whose script of this number has this one.
-fn at_script(number: u64, fault: ScriptFault) -> AcceptFault
-    ensures { result ≡ spec.at_script number fault }
-{
-    match fault {
-        ScriptFault::NotTokens => AcceptFault::Refused(Refusal::NotTokens(number)),
-        ScriptFault::NotScript => AcceptFault::Refused(Refusal::NotScript(number)),
-        ScriptFault::NotStrict => AcceptFault::Refused(Refusal::NotStrict(number)),
-        ScriptFault::Early(rule) => AcceptFault::Refused(Refusal::Early(number, rule)),
-        ScriptFault::TooDeep => AcceptFault::Refused(Refusal::TooDeep(number)),
-        ScriptFault::ReservedName => AcceptFault::Refused(Refusal::ReservedName(number)),
-        ScriptFault::NotForm => AcceptFault::Refused(Refusal::NotForm(number)),
-        ScriptFault::OutOfMemory => AcceptFault::OutOfMemory,
-    }
 }

@@ -2,112 +2,73 @@
 
 ghost use Rattle.std.specs.Prelude.{◌≡◌, IfOk, IfErr};
 ghost use Rattle.page_check.specs.Accept as spec;
-ghost use Rattle.page_check.specs.Accept.{IsPageScript, IsScriptFault, IsStrictScript};
+ghost use Rattle.page_check.specs.Accept.{IsPageScript, IsNotScript, IsStrictScript};
 ghost use Rattle.js_grammar.specs.Syntax.{IsSyntax};
 ghost use Rattle.page_check.specs.Rules.{KeepsRules};
 ghost use Rattle.page_check.specs.declared.page.Kind.{Kind as PageKind};
 
-use crate::page::Kind;
+use crate::page::{AcceptFault, Kind, Refusal};
 use expression_parser::ParseFault;
 use js_core::{FORM_HEIGHT_LIMIT, OutOfMemory, PLAIN_HEIGHT_LIMIT, Script, Units};
 use js_grammar::law_derived_trees_are_syntax;
 use js_lexer::{LexFault, strict, tokens};
 use js_print::law_tokens_can_be_written;
-use scope_analysis::{EarlyRule, early, has_high_function, has_reserved_name, in_form};
+use scope_analysis::{early, has_high_function, has_reserved_name, in_form};
 use script_parser::script;
 use std::alloc::Global;
 
-/// Why a text is not the script of a page, in the order in which the causes are tried.
-#[derive(Clone, Copy, Debug, PartialEq, Eq)]
-pub enum ScriptFault {
-    /// The text has no tokens.
-    NotTokens,
-    /// Its tokens have no tree that is at most 440 high.
-    NotScript,
-    /// Its directive prologue has no strict directive.
-    NotStrict,
-    /// It breaks this early rule, and none with a lower number.
-    Early(EarlyRule),
-    /// It is too high.
-    TooDeep,
-    /// An identifier of a plain page begins with `$$`.
-    ReservedName,
-    /// The script of a form page is not in form.
-    NotForm,
-    /// Memory ran out.
-    OutOfMemory,
-}
-
-impl From<OutOfMemory> for ScriptFault {
-    ghost use Rattle.std.specs.Prelude.{◌≡◌};
-    ghost use Rattle.page_check.specs.declared.script.ScriptFault.TheVariants.{OutOfMemory as WantOfMemory};
-
-    ghost from_gives = { λ _ e. e ≡ WantOfMemory };
-
-    fn from(_: OutOfMemory) -> ScriptFault {
-        ScriptFault::OutOfMemory
-    }
-}
-
-impl From<LexFault> for ScriptFault {
-    ghost use Rattle.std.specs.Prelude.{◌≡◌};
-    ghost use Rattle.page_check.specs.Faults.{of_lexing};
-
-    ghost from_gives = { λ fault e. e ≡ of_lexing fault };
-
-    fn from(fault: LexFault) -> ScriptFault {
-        match fault {
-            LexFault::NotTokens => ScriptFault::NotTokens,
-            LexFault::OutOfMemory => ScriptFault::OutOfMemory,
-        }
-    }
-}
-
-impl From<ParseFault> for ScriptFault {
-    ghost use Rattle.std.specs.Prelude.{◌≡◌};
-    ghost use Rattle.page_check.specs.Faults.{of_parsing};
-
-    ghost from_gives = { λ fault e. e ≡ of_parsing fault };
-
-    fn from(fault: ParseFault) -> ScriptFault {
-        match fault {
-            ParseFault::NotScript => ScriptFault::NotScript,
-            ParseFault::OutOfMemory => ScriptFault::OutOfMemory,
-        }
-    }
-}
-
-/// The script with this text, in a page of this kind. The first cause that there is against it is the answer.
-pub fn page_script(alloc: Global, kind: Kind, text: Units) -> Result<Script, ScriptFault>
+/// The script with this text, which is that of this number in a page of this kind. The first cause that there is against
+/// it is the answer.
+pub fn page_script(
+    alloc: Global,
+    kind: Kind,
+    number: u64,
+    text: Units,
+) -> Result<Script, AcceptFault>
     ensures ok { IfOk result (IsPageScript kind text) }
     ensures rules { IfOk result (KeepsRules kind) }
-    ensures refused { IfErr result (IsScriptFault kind text) }
+    ensures refused { IfErr result (IsNotScript kind number text) }
 {
-    let script = strict_script(alloc, text)?;
+    let script = strict_script(alloc, number, text)?;
     if let Some(rule) = early(alloc, &script)? {
-        return Err(ScriptFault::Early(rule));
+        return Err(AcceptFault::Refused(Refusal::Early(number, rule)));
     }
     if is_too_deep(alloc, kind, &script)? {
-        return Err(ScriptFault::TooDeep);
+        return Err(AcceptFault::Refused(Refusal::TooDeep(number)));
     }
-    if !keeps_form(alloc, kind, &script)? {
-        return Err(without_form(kind));
+    if keeps_form(alloc, kind, &script)? {
+        return Ok(script);
     }
-    Ok(script)
+    match kind {
+        Kind::Plain => Err(AcceptFault::Refused(Refusal::ReservedName(number))),
+        Kind::Form => Err(AcceptFault::Refused(Refusal::NotForm(number))),
+    }
 }
 
 /// The strict script with this text. Its text and its tokens go as soon as it is read.
-fn strict_script(alloc: Global, text: Units) -> Result<Script, ScriptFault>
+fn strict_script(alloc: Global, number: u64, text: Units) -> Result<Script, AcceptFault>
     ensures ok { IfOk result (IsStrictScript text) }
     ensures syntax { IfOk result IsSyntax }
-    ensures refused { (kind : PageKind) → IfErr result (IsScriptFault kind text) }
+    ensures refused { (kind : PageKind) → IfErr result (IsNotScript kind number text) }
 {
     law_tokens_can_be_written();
     law_derived_trees_are_syntax();
-    let tokens = tokens(alloc, &text)?;
-    let script = script(alloc, tokens.as_slice())?;
+    let tokens = match tokens(alloc, &text) {
+        Ok(tokens) => tokens,
+        Err(LexFault::NotTokens) => {
+            return Err(AcceptFault::Refused(Refusal::NotTokens(number)));
+        }
+        Err(LexFault::OutOfMemory) => return Err(AcceptFault::OutOfMemory),
+    };
+    let script = match script(alloc, tokens.as_slice()) {
+        Ok(script) => script,
+        Err(ParseFault::NotScript) => {
+            return Err(AcceptFault::Refused(Refusal::NotScript(number)));
+        }
+        Err(ParseFault::OutOfMemory) => return Err(AcceptFault::OutOfMemory),
+    };
     if !strict(tokens.as_slice()) {
-        return Err(ScriptFault::NotStrict);
+        return Err(AcceptFault::Refused(Refusal::NotStrict(number)));
     }
     Ok(script)
 }
@@ -128,15 +89,5 @@ fn keeps_form(alloc: Global, kind: Kind, script: &Script) -> Result<bool, OutOfM
     match kind {
         Kind::Plain => Ok(!has_reserved_name(alloc, script)?),
         Kind::Form => in_form(alloc, script),
-    }
-}
-
-/// The fault of a script that does not keep the form of its page.
-fn without_form(kind: Kind) -> ScriptFault
-    ensures { result ≡ spec.without_form kind }
-{
-    match kind {
-        Kind::Plain => ScriptFault::ReservedName,
-        Kind::Form => ScriptFault::NotForm,
     }
 }
