@@ -9,7 +9,7 @@ use Rattle.js_values.specs.declared.event.Event.{Event}
 use Rattle.moved_pages.specs.Moved.{AcceptedScriptsAreInForm, CanBeMoved, GoesOnAs, IsShort, MovedPagesGoOn}
 use Rattle.moved_pages.specs.Moved as moved
 use Rattle.opened_pages.specs.Opened.{HaveNumbers, OpenedPagesAreAccepted, OpenedPagesPutOutTheSame, PutOutTheSame, opened_scripts, opened_text}
-use Rattle.page_check.specs.Accept.{IsAcceptedAs}
+use Rattle.page_check.specs.Accept.{ArePageScripts, IsAcceptedAs}
 use Rattle.page_check.specs.declared.page.Kind.{Kind}
 use Rattle.page_check.specs.declared.page.Kind.TheVariants.{Plain, Form}
 use Rattle.page_meaning.specs.Pages.{lines_after, lines_of_run, run_of}
@@ -75,11 +75,14 @@ formed_as : (laws : SavingLaws) (kind : Kind) (bytes : List ℕ) (scripts : List
     → (text : List ℕ) × IsAcceptedAs text Form (opened_scripts kind scripts)
 formed_as laws Form bytes scripts is = (bytes, is)
 formed_as laws Plain bytes scripts is =
-    let text : List ℕ = opened_text is.framed.with_body is.script in
+    let text : List ℕ = opened_text is.framed.with_body scripts in
     (text, laws.accepted Plain bytes scripts text is (is, refl))
 
-all_formed : (text : List ℕ) (scripts : List tree.Stmts) → IsAcceptedAs text Form scripts → list_all in_form scripts ≡ true
-all_formed text scripts is = subst (λ (ss : List tree.Stmts). list_all in_form ss ≡ true) (sym is.only) (and_from (in_form is.script) true is.read.formed refl)
+all_formed : (texts : List (List ℕ)) (scripts : List tree.Stmts) → ArePageScripts Form texts scripts → list_all in_form scripts ≡ true
+all_formed [] [] read = refl
+all_formed (text ∷ texts) (script ∷ scripts) read = and_from (in_form script) (list_all in_form scripts) read.0.formed (all_formed texts scripts read.1)
+all_formed [] (script ∷ scripts) read = absurd read
+all_formed (text ∷ texts) [] read = absurd read
 
 -- a page that can be saved
 can_be_moved : (laws : SavingLaws) (bytes : List ℕ) (page : Page) (earlier : List Event) (things : List ℕ) → Accepts bytes page
@@ -87,7 +90,7 @@ can_be_moved : (laws : SavingLaws) (bytes : List ℕ) (page : Page) (earlier : L
 can_be_moved laws bytes page earlier things accepted can =
     let as_form = formed_as laws page.kind bytes page.scripts accepted in
     record {
-      in_form = laws.formed as_form.0 Form (opened page) as_form.1 (all_formed as_form.0 (opened page) as_form.1);
+      in_form = laws.formed as_form.0 Form (opened page) as_form.1 (all_formed as_form.1.texts (opened page) as_form.1.read);
       walked = can.walked;
       literals = can.literals;
       few = few_things (run_of (opened page) earlier) things can.little;

@@ -1,7 +1,7 @@
 //! Reading the files of a command.
 
 ghost use Rattle.std.specs.Prelude.{◌≡◌, ℕ, List, IfOk, IfErr};
-ghost use Rattle.page_check.specs.Accept.{IsAccepted, IsRefused};
+ghost use Rattle.page_check.specs.Accept.{IsAccepted, IsAcceptedAt, IsRefused};
 ghost use Rattle.command_line.specs.Opening.{IsOpened, OpensTo};
 ghost use Rattle.command_line.specs.Page.{IsPage};
 ghost use Rattle.command_line.specs.Reading.{IsPageFile, IsUnaccepted, StopsAtPage, StopsAtEvents, CountsReads};
@@ -13,7 +13,7 @@ use event_file::{EventFault, calls};
 use js_core::{EVENT_FILE_LIMIT, OutOfMemory, PAGE_LIMIT};
 use js_values::Event;
 use opened_pages::{law_opened_pages_are_accepted, law_opened_pages_put_out_the_same, open_page};
-use page_check::{AcceptFault, Accepted, accept};
+use page_check::{AcceptFault, Accepted, CheckedPage, accept};
 use page_io::{Files, ReadFault};
 use std::alloc::Global;
 
@@ -36,18 +36,30 @@ fn read_bytes<F: Files>(alloc: Global, files: &mut F, name: &str) -> Result<Vec<
 
 // Accepts the page of these bytes.
 fn accept_bytes(alloc: Global, bytes: &[u8]) -> Result<Accepted, Status>
-    ensures ok { IfOk result (IsAccepted bytes.now) }
+    ensures ok { IfOk result (λ accepted.
+        IsAcceptedAt bytes.now accepted.page accepted.with_body accepted.places.items) }
     ensures stops { IfErr result (IsUnaccepted bytes.now) }
 {
     match accept(alloc, bytes) {
-        Ok(page) => Ok(page),
+        Ok(accepted) => Ok(accepted),
         Err(AcceptFault::Refused(refusal)) => Err(Status::PageRefused(Some(refusal))),
         Err(AcceptFault::OutOfMemory) => Err(Status::OutOfMemory),
     }
 }
 
+// Accepts the page of these bytes, to run it.
+fn accept_page(alloc: Global, bytes: &[u8]) -> Result<CheckedPage, Status>
+    ensures ok { IfOk result (IsAccepted bytes.now) }
+    ensures stops { IfErr result (IsUnaccepted bytes.now) }
+{
+    match accept_bytes(alloc, bytes) {
+        Ok(accepted) => Ok(accepted.into_page()),
+        Err(status) => Err(status),
+    }
+}
+
 /// Reads and accepts a page.
-pub fn read_page<F: Files>(alloc: Global, files: &mut F, name: &str) -> Result<Accepted, Status>
+pub fn read_page<F: Files>(alloc: Global, files: &mut F, name: &str) -> Result<CheckedPage, Status>
     ensures ok { IfOk result (λ page. Of ((F.seen files.old).content name.now)
         (λ bytes. IsPage bytes page)) }
     ensures stops { IfErr result
@@ -59,7 +71,7 @@ pub fn read_page<F: Files>(alloc: Global, files: &mut F, name: &str) -> Result<A
         Ok(bytes) => bytes,
         Err(status) => return Err(status),
     };
-    accept_bytes(alloc, &bytes)
+    accept_page(alloc, &bytes)
 }
 
 // The text of the page of these bytes with opened scopes.
@@ -67,11 +79,11 @@ fn open_bytes(alloc: Global, bytes: &[u8]) -> Result<Vec<u8>, Status>
     ensures ok { IfOk result (λ text. IsOpened bytes.now text.items) }
     ensures stops { IfErr result (IsUnaccepted bytes.now) }
 {
-    let page = match accept_bytes(alloc, bytes) {
-        Ok(page) => page,
+    let accepted = match accept_bytes(alloc, bytes) {
+        Ok(accepted) => accepted,
         Err(status) => return Err(status),
     };
-    match open_page(alloc, bytes, &page) {
+    match open_page(alloc, bytes, &accepted) {
         Ok(text) => Ok(text),
         Err(OutOfMemory) => Err(Status::OutOfMemory),
     }

@@ -12,13 +12,13 @@ use crate::reading::{read_events, read_page};
 use crate::status::Status;
 use js_core::OutOfMemory;
 use js_values::{Event, Line};
-use page_check::Accepted;
+use page_check::CheckedPage;
 use page_io::{Files, Sink};
 use session::{Session, load};
 use std::alloc::Global;
 
 /// The session of a page after the events.
-pub fn run_page(alloc: Global, page: Accepted, list: &[Event]) -> Result<Session, OutOfMemory>
+pub fn run_page(alloc: Global, page: CheckedPage, list: &[Event]) -> Result<Session, OutOfMemory>
     ensures { IfOk result (λ s. s.page ≡ run_of page.scripts list.now) }
 {
     let mut session = load(alloc, page)?;
@@ -40,7 +40,7 @@ fn text_of(alloc: Global, lines: &[Line]) -> Result<Vec<u8>, OutOfMemory>
 }
 
 // The text of the lines that the scripts of a page and then the events put out.
-fn replayed_text(alloc: Global, page: Accepted, list: &[Event]) -> Result<Vec<u8>, OutOfMemory>
+fn replayed_text(alloc: Global, page: CheckedPage, list: &[Event]) -> Result<Vec<u8>, OutOfMemory>
     ensures { IfOk result (λ text.
         text.items ≡ lines_text (lines_of_run page.scripts list.now)) }
 {

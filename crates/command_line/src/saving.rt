@@ -13,14 +13,14 @@ use heap_walker::{Walked, walk};
 use js_core::OutOfMemory;
 use js_values::Event;
 use opened_pages::open_accepted;
-use page_check::Accepted;
+use page_check::CheckedPage;
 use page_io::Sink;
 use page_state::State;
 use page_writer::{SaveFault, write_walked};
 use std::alloc::Global;
 
 /// Puts the page as it is after the events, with opened scopes, where it is not too large.
-pub fn save_page<O: Sink>(alloc: Global, page: Accepted, list: &[Event], out: &mut O) -> Status
+pub fn save_page<O: Sink>(alloc: Global, page: CheckedPage, list: &[Event], out: &mut O) -> Status
     ensures answer { IsAnswer (run_of (opened page) list.now)
         (O.seen out.old) (O.seen out.new) result }
     ensures later { (O.seen out.old).faults ≤ (O.seen out.new).faults }
@@ -34,7 +34,7 @@ pub fn save_page<O: Sink>(alloc: Global, page: Accepted, list: &[Event], out: &m
 }
 
 // Puts the page with these scripts as it is after the events.
-fn save_opened<O: Sink>(alloc: Global, page: Accepted, list: &[Event], out: &mut O) -> Status
+fn save_opened<O: Sink>(alloc: Global, page: CheckedPage, list: &[Event], out: &mut O) -> Status
     ensures answer { IsAnswer (run_of page.scripts list.now)
         (O.seen out.old) (O.seen out.new) result }
     ensures later { (O.seen out.old).faults ≤ (O.seen out.new).faults }

@@ -1,13 +1,14 @@
 -- An accepted script that is in form is one of a form page.
-use Rattle.std.proofs.Common.{◌≡◌, sym, subst, ℕ, ◌≤◌, Bool, true, false, nat_lt, List, [], ◌∷◌, arith}
+use Rattle.std.proofs.Common.{◌≡◌, ℕ, ◌≤◌, Bool, true, false, nat_lt, List, [], ◌∷◌, arith}
 use Rattle.std.specs.List.{All, list_all}
 use Rattle.std.proofs.lemmas.Bool.{and_parts, ltb-false, or_parts}
-use Rattle.std.proofs.lemmas.List.Elements.{All-cons, All-nil}
+use Rattle.std.proofs.lemmas.List.Elements.{All-cons, All-head, All-nil, All-tail}
 use Rattle.js_core.specs.Height.{stmts_height}
 use Rattle.js_core.specs.Tree as tree
 use Rattle.js_grammar.specs.Scripts.{TokensHaveSyntax}
+use Rattle.js_grammar.specs.Syntax.{IsSyntax}
 use Rattle.js_print.specs.Written.{TokensCanBeWritten}
-use Rattle.page_check.specs.Accept.{is_too_deep}
+use Rattle.page_check.specs.Accept.{ArePageScripts, IsPageScript, is_too_deep}
 use Rattle.page_check.specs.declared.page.Kind.{Kind}
 use Rattle.page_check.specs.declared.page.Kind.TheVariants.{Plain, Form}
 use Rattle.page_rest.specs.Laws.{IsInForm}
@@ -25,15 +26,25 @@ no_high_of : (kind : Kind) (script : tree.Stmts) → is_too_deep kind script ≡
 no_high_of Plain script h = has_no_high_function script (omega (arith, ltb-false plain_height_limit (stmts_height script) h))
 no_high_of Form script h = (or_parts (nat_lt form_height_limit (stmts_height script)) (has_high_function script) h).1
 
+one_in_form : (kind : Kind) (text : List ℕ) (script : tree.Stmts) → IsPageScript kind text script → in_form script ≡ true → IsSyntax script → IsInForm script
+one_in_form kind text script is formed syntax = (
+  record {
+    form = record { formed = formed; orderly = is.low.orderly.orderly; low = low_of kind script is.low.low };
+    functions = no_high_of kind script is.low.low;
+  },
+  syntax,
+)
+
+all_in_form : (kind : Kind) (texts : List (List ℕ)) (scripts : List tree.Stmts) → ArePageScripts kind texts scripts → list_all in_form scripts ≡ true
+    → All IsSyntax scripts → All IsInForm scripts
+all_in_form kind [] [] read formed syntax = All-nil IsInForm
+all_in_form kind (text ∷ texts) (script ∷ scripts) read formed syntax =
+    let parts = and_parts (in_form script) (list_all in_form scripts) formed in
+    All-cons IsInForm script scripts (one_in_form kind text script read.0 parts.0 (All-head IsSyntax script scripts syntax))
+    (all_in_form kind texts scripts read.1 parts.1 (All-tail IsSyntax script scripts syntax))
+all_in_form kind [] (script ∷ scripts) read formed syntax = absurd read
+all_in_form kind (text ∷ texts) [] read formed syntax = absurd read
+
 pub accepted_scripts_in_form : TokensCanBeWritten → TokensHaveSyntax → AcceptedScriptsAreInForm
 accepted_scripts_in_form written syntax bytes kind scripts is formed =
-    let low = is.read.low in
-    let own = subst (λ l. list_all in_form l ≡ true) is.only formed in
-    let whole : IsInForm is.script = (
-      record {
-        form = record { formed = (and_parts (in_form is.script) true own).0; orderly = low.orderly.orderly; low = low_of kind is.script low.low };
-        functions = no_high_of kind is.script low.low;
-      },
-      accepted_scripts_have_syntax written syntax bytes kind scripts is,
-    ) in
-    subst (All IsInForm) (sym is.only) (All-cons IsInForm is.script [] whole (All-nil IsInForm))
+    all_in_form kind is.texts scripts is.read formed (accepted_scripts_have_syntax written syntax bytes kind scripts is)

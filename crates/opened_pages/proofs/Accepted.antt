@@ -1,8 +1,9 @@
 -- That the text of a page with opened scopes is accepted as a form page.
-use Rattle.std.proofs.Common.{◌≡◌, ◌∙◌, refl, sym, ap, subst, ℕ, ◌+◌, Bool, true, false, List, [], ◌∷◌}
+use Rattle.std.proofs.Common.{◌≡◌, ◌∙◌, refl, sym, ap, subst, ℕ, ◌+◌, Bool, true, false, List, [], ◌∷◌, append-nil}
 use Rattle.std.specs.Prelude.{◌||◌, ◌&&◌, bytes_eq, codes}
-use Rattle.std.specs.List.{list_all}
+use Rattle.std.specs.List.{All, list_all}
 use Rattle.std.proofs.lemmas.Bool.{and_parts, ltb-false, not-true, or_left}
+use Rattle.std.proofs.lemmas.List.Elements.{All-head}
 use Rattle.js_core.specs.Height.{stmts_height}
 use Rattle.js_core.specs.Text.{utf16_of}
 use Rattle.js_core.specs.Tree as tree
@@ -15,9 +16,10 @@ use Rattle.js_print.specs.Laws.{is_free}
 use Rattle.js_print.specs.Lined.{LinedAgain, is_lined}
 use Rattle.js_print.specs.Printing.{script_text}
 use Rattle.js_print.specs.ReadAgain.{ReadAgain, ScriptsAreReadAgain, begins_strict}
-use Rattle.page_check.specs.Accept.{IsAcceptedAs}
+use Rattle.page_check.proofs.Callers.{one_page_script}
+use Rattle.page_check.specs.Accept.{IsAcceptedAs, IsPageScript, text_of}
 use Rattle.page_check.specs.declared.page.Kind.TheVariants.{Plain, Form}
-use Rattle.printed_pages.specs.Printed.{AcceptedScriptsBeginStrict, AcceptedScriptsHaveSyntax, FramedScriptsAreAccepted}
+use Rattle.printed_pages.specs.Printed.{AcceptedScriptsBeginStrict, AcceptedScriptsHaveSyntax, FramedScriptsAreAccepted, framed}
 use Rattle.scope_analysis.specs.Form.{has_reserved_name}
 use Rattle.scope_analysis.specs.Limits.{plain_height_limit}
 use Rattle.opened_pages.specs.Opened.{OpenedPagesAreAccepted, opened_text}
@@ -53,29 +55,37 @@ lined_again script text again = record {
 
 -- ---- the law
 
--- the script of an accepted plain page can be opened
-pub plain_script : (bytes : List ℕ) (scripts : List tree.Stmts) (page : IsAcceptedAs bytes Plain scripts) → IsSyntax page.script → IsPlainScript page.script
-plain_script bytes scripts page syntax = record {
+-- a script of an accepted plain page can be opened
+pub plain_script : (text : List ℕ) (script : tree.Stmts) → IsPageScript Plain text script → IsSyntax script → IsPlainScript script
+plain_script text script is syntax = record {
   syntax = syntax;
-  orderly = page.read.low.orderly.orderly;
-  low = ltb-false plain_height_limit (stmts_height page.script) page.read.low.low;
-  plain = not-true (has_reserved_name page.script) page.read.formed;
+  orderly = is.low.orderly.orderly;
+  low = ltb-false plain_height_limit (stmts_height script) is.low.low;
+  plain = not-true (has_reserved_name script) is.formed;
 }
 
 module _ (formed : OpenedScriptsAreForm) (printed : ScriptsAreReadAgain) (framing : FramedScriptsAreAccepted)
     (syntax : AcceptedScriptsHaveSyntax) (strict : AcceptedScriptsBeginStrict) where
-  opened_is_accepted : (bytes : List ℕ) (scripts : List tree.Stmts) (page : IsAcceptedAs bytes Plain scripts) (with_body : Bool)
-      → IsAcceptedAs (opened_text with_body page.script) Form (open_script 1 page.script ∷ [])
-  opened_is_accepted bytes scripts page with_body =
-      let script = page.script in
+  -- the text of the one script stands in the frame
+  one_is_accepted : (text : List ℕ) (script : tree.Stmts) (with_body : Bool) → IsPageScript Plain text script → IsSyntax script → begins_strict script ≡ true
+      → IsAcceptedAs (opened_text with_body (script ∷ [])) Form (open_script 1 script ∷ [])
+  one_is_accepted text script with_body is has begins =
       let opened = open_script 1 script in
-      let is = formed 1 script (plain_script bytes scripts page (syntax bytes Plain scripts page)) in
-      framing with_body opened (script_text opened) is.1 (begins_opened 1 script (strict bytes Plain scripts page))
-      (lined_again opened (script_text opened) (printed opened is.0))
+      let form = formed 1 script (plain_script text script is has) in
+      subst (λ (t : List ℕ). IsAcceptedAs (framed with_body t) Form (opened ∷ [])) (sym (append-nil (script_text opened)))
+      (framing with_body opened (script_text opened) form.1 (begins_opened 1 script begins) (lined_again opened (script_text opened) (printed opened form.0)))
+
+  opened_is_accepted : (bytes : List ℕ) (scripts : List tree.Stmts) (page : IsAcceptedAs bytes Plain scripts) (with_body : Bool)
+      → IsAcceptedAs (opened_text with_body scripts) Form (open_scripts scripts)
+  opened_is_accepted bytes scripts page with_body =
+      let one = one_page_script (text_of bytes) Plain page.texts scripts page.framed page.read in
+      let has = All-head IsSyntax one.0 [] (subst (All IsSyntax) one.1 (syntax bytes Plain scripts page)) in
+      let begins = All-head (λ script. begins_strict script ≡ true) one.0 [] (subst (All (λ script. begins_strict script ≡ true)) one.1 (strict bytes Plain scripts page)) in
+      subst (λ (ss : List tree.Stmts). IsAcceptedAs (opened_text with_body ss) Form (open_scripts ss)) (sym one.1)
+      (one_is_accepted page.framed.inner one.0 with_body one.2 has begins)
 
   pub opened_pages_are_accepted : OpenedPagesAreAccepted
   opened_pages_are_accepted Form bytes scripts text is opens = subst (λ (t : List ℕ). IsAcceptedAs t Form scripts) (sym opens) is
   opened_pages_are_accepted Plain bytes scripts text is opens =
       subst (λ (t : List ℕ). IsAcceptedAs t Form (open_scripts scripts)) (sym opens.1)
-      (subst (λ (ss : List tree.Stmts). IsAcceptedAs (opened_text opens.0.framed.with_body opens.0.script) Form (open_scripts ss)) (sym opens.0.only)
-      (opened_is_accepted bytes scripts opens.0 opens.0.framed.with_body))
+      (opened_is_accepted bytes scripts opens.0 opens.0.framed.with_body)

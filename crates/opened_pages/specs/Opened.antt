@@ -2,7 +2,7 @@
 use Rattle.std.specs.Prelude.{◌≡◌, ◌+◌, ◌<◌, ◌^◌, ◌++◌, ℕ, Bool, List, [], ◌∷◌, ⊤}
 use Rattle.js_core.specs.Tree as tree
 use Rattle.instrumenter.specs.Counting.{scripts_scopes}
-use Rattle.instrumenter.specs.Opening.{open_script, open_scripts}
+use Rattle.instrumenter.specs.Opening.{open_scripts}
 use Rattle.js_print.specs.Printing.{script_text}
 use Rattle.js_values.specs.declared.event.Event.{Event}
 use Rattle.page_check.specs.Accept.{IsAcceptedAs}
@@ -11,19 +11,19 @@ use Rattle.page_check.specs.declared.page.Kind.TheVariants.{Plain, Form}
 use Rattle.page_meaning.specs.Pages.{lines_after, lines_of_run}
 use Rattle.printed_pages.specs.Printed.{framed}
 
--- the mark, and a plain page without a byte order mark, with the text of its opened script in place of its own
-abbrev pub opened_text : Bool → tree.Stmts → List ℕ
-opened_text with_body script = framed with_body (script_text (open_script 1 script))
-
 -- the texts of scripts, one behind the other
 abbrev pub script_texts : List tree.Stmts → List ℕ
 script_texts [] = []
 script_texts (script ∷ scripts) = script_text script ++ script_texts scripts
 
+-- the mark, and a plain page without a byte order mark, with the text of its opened script in place of its own
+abbrev pub opened_text : Bool → List tree.Stmts → List ℕ
+opened_text with_body scripts = framed with_body (script_texts (open_scripts scripts))
+
 -- the text that opens the scopes of an accepted page: those of a form page are open
 abbrev pub Opens : Kind → List ℕ → List tree.Stmts → List ℕ → Type 0
 Opens Form bytes scripts text = text ≡ bytes
-Opens Plain bytes scripts text = (page : IsAcceptedAs bytes Plain scripts) × (text ≡ opened_text page.framed.with_body page.script)
+Opens Plain bytes scripts text = (page : IsAcceptedAs bytes Plain scripts) × (text ≡ opened_text page.framed.with_body scripts)
 
 -- the scripts of the page that it is
 abbrev pub opened_scripts : Kind → List tree.Stmts → List tree.Stmts

@@ -1,34 +1,37 @@
 //! The text of a page with opened scopes.
 
 ghost use Rattle.std.specs.Prelude.{◌≡◌, ◌++◌, IfOk, OnOk};
-ghost use Rattle.page_check.specs.Accept.{IsAccepted, IsAcceptedAs};
+ghost use Rattle.page_check.specs.Accept.{IsAcceptedAt};
 ghost use Rattle.page_check.specs.Rules.{AllKeepRules};
 ghost use Rattle.page_check.specs.declared.page.Kind.TheVariants.{Plain};
 ghost use Rattle.printed_pages.specs.Printed.{framed, page_front};
-ghost use Rattle.opened_pages.specs.Opened.{HaveNumbers, Opens, opened_scripts, script_texts};
+ghost use Rattle.opened_pages.specs.Opened.{HaveNumbers, Opens, opened_scripts, opened_text, script_texts};
 
 use instrumenter::{law_opened_scripts_are_form, open_scopes};
 use js_core::{OutOfMemory, Script};
 use js_print::print;
-use page_check::{Accepted, Kind, page_has_body};
+use page_check::{Accepted, CheckedPage, Kind};
 use std::alloc::Global;
 
 /// The text of an accepted page with opened scopes. Of a plain page it is the mark of a form page and the page, without a byte
 /// order mark, in which its script is the opened one, as it is printed; all else stays byte for byte. A form page stays as it is.
-pub fn open_page(alloc: Global, bytes: &[u8], page: &Accepted) -> Result<Vec<u8>, OutOfMemory>
-    requires { IsAccepted bytes.now page.now }
+pub fn open_page(alloc: Global, bytes: &[u8], accepted: &Accepted) -> Result<Vec<u8>, OutOfMemory>
+    requires { IsAcceptedAt bytes.now accepted.now.page accepted.now.with_body
+        accepted.now.places.items }
     ensures text { IfOk result (λ text.
-        Opens page.now.kind bytes.now page.now.scripts text.items) }
-    ensures numbered { OnOk result (HaveNumbers page.now.kind page.now.scripts) }
+        Opens accepted.now.page.kind bytes.now accepted.now.page.scripts text.items) }
+    ensures numbered { OnOk result
+        (HaveNumbers accepted.now.page.kind accepted.now.page.scripts) }
 {
+    let page = &accepted.page;
     match page.kind() {
         Kind::Form => Ok(Vec::from_slice(alloc, bytes)?),
-        Kind::Plain => open_plain(alloc, bytes, page.scripts()),
+        Kind::Plain => open_plain(alloc, accepted.with_body, page.scripts()),
     }
 }
 
 /// The scripts of an accepted page with opened scopes, as those of a form page. Those of a form page stay as they are.
-pub fn open_accepted(alloc: Global, page: Accepted) -> Result<Accepted, OutOfMemory>
+pub fn open_accepted(alloc: Global, page: CheckedPage) -> Result<CheckedPage, OutOfMemory>
     ensures opened { IfOk result (λ opened.
         opened.scripts ≡ opened_scripts page.kind page.scripts) }
     ensures numbered { OnOk result (HaveNumbers page.kind page.scripts) }
@@ -40,23 +43,22 @@ pub fn open_accepted(alloc: Global, page: Accepted) -> Result<Accepted, OutOfMem
 }
 
 // The form page with these scripts of a plain page, opened.
-fn opened_form(alloc: Global, scripts: &[Script]) -> Result<Accepted, OutOfMemory>
+fn opened_form(alloc: Global, scripts: &[Script]) -> Result<CheckedPage, OutOfMemory>
     requires { AllKeepRules Plain scripts.now }
     ensures opened { IfOk result (λ opened. opened.scripts ≡ opened_scripts Plain scripts.now) }
     ensures numbered { OnOk result (HaveNumbers Plain scripts.now) }
 {
     law_opened_scripts_are_form();
     let opened = open_scopes(alloc, scripts)?;
-    Ok(Accepted::new(Kind::Form, opened))
+    Ok(CheckedPage::new(Kind::Form, opened))
 }
 
-// The text of an accepted plain page with these scripts.
-fn open_plain(alloc: Global, bytes: &[u8], scripts: &[Script]) -> Result<Vec<u8>, OutOfMemory>
-    requires { IsAcceptedAs bytes.now Plain scripts.now }
-    ensures text { IfOk result (λ text. Opens Plain bytes.now scripts.now text.items) }
+// The text of a plain page with these scripts, opened.
+fn open_plain(alloc: Global, with_body: bool, scripts: &[Script]) -> Result<Vec<u8>, OutOfMemory>
+    requires { AllKeepRules Plain scripts.now }
+    ensures text { IfOk result (λ text. text.items ≡ opened_text with_body scripts.now) }
     ensures numbered { OnOk result (HaveNumbers Plain scripts.now) }
 {
-    let with_body = page_has_body(alloc, bytes)?;
     let opened = open_scopes(alloc, scripts)?;
     page_of(alloc, with_body, opened.as_slice())
 }

@@ -1,11 +1,14 @@
 -- The parts of a page's text, in their order: each is forced.
-use Rattle.std.proofs.Common.{◌≡◌, ◌≢◌, ℕ, ◌-◌, ◌≤◌, Bool, true, false, Option, Some, None, List, [], ◌∷◌, ◌++◌, length, drop, get_or, refl, sym, ap, ◌∙◌, append_assoc, true≢false, arith, length-append}
+use Rattle.std.proofs.Common.{◌≡◌, ◌≢◌, ℕ, ◌+◌, ◌-◌, ◌≤◌, Bool, true, false, List, [], ◌∷◌, ◌++◌, length, drop, refl, subst, sym, ap, ◌∙◌, append_assoc, true≢false, arith, length-append}
 use Rattle.std.proofs.lemmas.List.{append_cancel_left, append_cancel_right, append-nil}
-use Rattle.std.proofs.Math.Seq.{drop-append_seam}
-use Rattle.std.specs.Prelude.{MatchOption, codes, is_some}
-use Rattle.page_check.specs.Frame.{Opening, nothing, byte_order_mark, form_mark, opening_text, kind_of, body_text, has_zero, has_end_tag, IsFramePage}
+use Rattle.std.proofs.lemmas.List.Elements.{All-cons, All-nil}
+use Rattle.std.proofs.Math.Seq.{drop-append_seam, take-append_seam}
+use Rattle.std.specs.List.{All}
+use Rattle.std.specs.Prelude.{codes, map, take}
+use Rattle.page_check.specs.Frame.{Opening, nothing, byte_order_mark, form_mark, opening_text, kind_of, body_text, front, has_zero, has_end_tag, part, IsFrameAt, IsFramePage, IsWithin}
 use Rattle.page_check.specs.declared.page.Kind.{Kind}
 use Rattle.page_check.specs.declared.page.Kind.TheVariants.{Plain}
+use Rattle.page_check.specs.declared.page.Place.{Place}
 
 -- a text that begins with no mark
 pub without_mark : (text : List ℕ) → ((tail : List ℕ) → ¬ (text ≡ codes "<!--imagen 1-->" ++ tail)) → ((tail : List ℕ) → ¬ (text ≡ 65279 ∷ tail))
@@ -34,76 +37,96 @@ no_last text codes room off rest e =
     off [] (rw at (ap (drop (length rest)) e ∙ drop-append_seam rest codes ∙ sym (append-nil codes)))
 
 -- the text of the script, with what closes it, as the parts before it leave it
-pub record LeftOver (text : List ℕ) (kind : Kind) (left : List ℕ) : Type 0 where
-  pub there : (other : Kind) (inner : List ℕ) → IsFramePage text other inner → left ≡ inner ++ codes "</script></html>"
-  pub back : (inner : List ℕ) → left ≡ inner ++ codes "</script></html>" → has_end_tag inner ≡ false → IsFramePage text kind inner
+pub record LeftOver (text : List ℕ) (kind : Kind) (with_body : Bool) (left : List ℕ) : Type 0 where
+  pub opening : Opening
+  pub of_kind : kind_of opening ≡ kind
+  pub split : text ≡ front opening with_body ++ left
+  pub no_zero : has_zero text ≡ false
+  pub there : (other : Kind) (texts : List (List ℕ)) → (page : IsFramePage text other texts) → left ≡ page.inner ++ codes "</script></html>"
 
 nested : (a b c d e f : List ℕ) → a ++ b ++ c ++ d ++ e ++ f ≡ a ++ (b ++ (c ++ (d ++ (e ++ f))))
 nested a b c d e f = simp append_assoc
 
-pub left_over : (text behind_opening behind_html behind_body left : List ℕ) (kind : Kind) → has_zero text ≡ false
+four : (a b c d left : List ℕ) → a ++ (b ++ (c ++ (d ++ left))) ≡ (a ++ b ++ c ++ d) ++ left
+four a b c d left = simp append_assoc
+
+pub left_over : (text behind_opening behind_html behind_body left : List ℕ) (kind : Kind) (with_body : Bool) → has_zero text ≡ false
     → ((opening : Opening) × (kind_of opening ≡ kind) × (text ≡ opening_text opening ++ behind_opening))
     → ((opening : Opening) (rest : List ℕ) → text ≡ opening_text opening ++ (codes "<html>" ++ rest) → (kind_of opening ≡ kind) × (behind_opening ≡ codes "<html>" ++ rest))
     → behind_opening ≡ codes "<html>" ++ behind_html
-    → ((with_body : Bool) × (behind_html ≡ body_text with_body ++ behind_body))
+    → behind_html ≡ body_text with_body ++ behind_body
     → ((with_body : Bool) (rest : List ℕ) → behind_html ≡ body_text with_body ++ (codes "<script>" ++ rest) → behind_body ≡ codes "<script>" ++ rest)
     → behind_body ≡ codes "<script>" ++ left
-    → LeftOver text kind left
-left_over text r0 r1 r2 left kind no_zero first first_forced html body body_forced script = record { there = there; back = back }
+    → LeftOver text kind with_body left
+left_over text r0 r1 r2 left kind with_body no_zero first first_forced html body body_forced script = record {
+  opening = first.0;
+  of_kind = first.1;
+  split = first.2 ∙ ap (λ (w : List ℕ). opening_text first.0 ++ w) (html ∙ ap (λ (w : List ℕ). codes "<html>" ++ w) (body ∙ ap (λ (w : List ℕ). body_text with_body ++ w) script)) ∙ four (opening_text first.0) (codes "<html>") (body_text with_body) (codes "<script>") left;
+  no_zero = no_zero;
+  there = there;
+}
   where
-    there : (other : Kind) (inner : List ℕ) → IsFramePage text other inner → left ≡ inner ++ codes "</script></html>"
-    there other inner page =
-        let end : List ℕ = inner ++ codes "</script></html>" in
-        let e0 : text ≡ opening_text page.opening ++ (codes "<html>" ++ (body_text page.with_body ++ (codes "<script>" ++ end))) = page.whole ∙ nested (opening_text page.opening) (codes "<html>") (body_text page.with_body) (codes "<script>") inner (codes "</script></html>") in
+    there : (other : Kind) (texts : List (List ℕ)) → (page : IsFramePage text other texts) → left ≡ page.inner ++ codes "</script></html>"
+    there other texts page =
+        let end : List ℕ = page.inner ++ codes "</script></html>" in
+        let e0 : text ≡ opening_text page.opening ++ (codes "<html>" ++ (body_text page.with_body ++ (codes "<script>" ++ end))) = page.whole ∙ nested (opening_text page.opening) (codes "<html>") (body_text page.with_body) (codes "<script>") page.inner (codes "</script></html>") in
         let e1 : r0 ≡ codes "<html>" ++ (body_text page.with_body ++ (codes "<script>" ++ end)) = (first_forced page.opening (body_text page.with_body ++ (codes "<script>" ++ end)) e0).1 in
         let e2 : r1 ≡ body_text page.with_body ++ (codes "<script>" ++ end) = append_cancel_left (codes "<html>") r1 (body_text page.with_body ++ (codes "<script>" ++ end)) (sym html ∙ e1) in
         append_cancel_left (codes "<script>") left end (sym script ∙ body_forced page.with_body end e2)
 
-    back : (inner : List ℕ) → left ≡ inner ++ codes "</script></html>" → has_end_tag inner ≡ false → IsFramePage text kind inner
-    back inner e one = record {
-      opening = first.0;
-      of_kind = first.1;
-      with_body = body.0;
-      whole = first.2 ∙ ap (λ (w : List ℕ). opening_text first.0 ++ w) (html ∙ ap (λ (w : List ℕ). codes "<html>" ++ w) (body.1 ∙ ap (λ (w : List ℕ). body_text body.0 ++ w) (script ∙ ap (λ (w : List ℕ). codes "<script>" ++ w) e))) ∙ sym (nested (opening_text first.0) (codes "<html>") (body_text body.0) (codes "<script>") inner (codes "</script></html>"));
+-- no more is left over than there is
+pub left_short : (text left : List ℕ) (kind : Kind) (with_body : Bool) → LeftOver text kind with_body left → length left ≤ length text
+left_short text left kind with_body over = omega (arith, ap length over.split, length-append (front over.opening with_body) left)
+
+part_at : (text head left inner tail : List ℕ) (n : ℕ) → text ≡ head ++ left → left ≡ inner ++ tail → n ≡ length head
+    → part text (record { start = n; end = n + length inner }) ≡ inner
+part_at text head left inner tail n e f g =
+    let many : (n + length inner) - n ≡ length inner = omega arith in
+    let behind : drop n text ≡ left = ap (λ (m : ℕ). drop m text) g ∙ ap (drop (length head)) e ∙ drop-append_seam head left in
+    ap (λ (m : ℕ). take m (drop n text)) many ∙ ap (take (length inner)) (behind ∙ f) ∙ take-append_seam inner tail
+
+-- the frame of a text, where nothing is wrong with it
+pub framed_at : (text left inner : List ℕ) (kind : Kind) (with_body : Bool) → LeftOver text kind with_body left → left ≡ inner ++ codes "</script></html>"
+    → has_end_tag inner ≡ false
+    → IsFrameAt text kind with_body (record { start = length text - length left; end = (length text - length left) + length inner } ∷ [])
+framed_at text left inner kind with_body over e one =
+    let n : ℕ = length text - length left in
+    let head : List ℕ = front over.opening with_body in
+    let place : Place = record { start = n; end = n + length inner } in
+    let at : n ≡ length head = omega (arith, ap length over.split, length-append head left) in
+    let page : IsFramePage text kind (map (part text) (place ∷ [])) = record {
+      opening = over.opening;
+      of_kind = over.of_kind;
+      with_body = with_body;
+      inner = inner;
+      whole = over.split ∙ ap (λ (w : List ℕ). head ++ w) e ∙ sym (append_assoc head inner (codes "</script></html>"));
       one_script = one;
-      no_zero = no_zero;
-    }
+      no_zero = over.no_zero;
+      only = ap (λ (w : List ℕ). w ∷ []) (part_at text head left inner (codes "</script></html>") n over.split e at);
+    } in
+    record { page = page; body = refl; placed = ap (λ (m : ℕ). placed_at m (length inner)) at }
+  where
+    placed_at : ℕ → ℕ → List Place
+    placed_at m count = record { start = m; end = m + count } ∷ []
+
+-- where its scripts stand is within it
+pub within_frame : (text : List ℕ) (kind : Kind) (with_body : Bool) (places : List Place) → IsFrameAt text kind with_body places → All (IsWithin text) places
+within_frame text kind with_body places is =
+    let head : List ℕ = front is.page.opening is.page.with_body in
+    let long = ap length is.page.whole in
+    let first = length-append (head ++ is.page.inner) (codes "</script></html>") in
+    let then = length-append head is.page.inner in
+    subst (All (IsWithin text)) (sym is.placed)
+    (All-cons (IsWithin text) _ [] (omega arith, omega (arith, long, first, then)) (All-nil (IsWithin text)))
 
 -- a second end tag
-pub second_end_tag : (text left inner : List ℕ) (kind : Kind) → LeftOver text kind left → left ≡ inner ++ codes "</script></html>" → has_end_tag inner ≡ true → (other : Kind) (another : List ℕ) → ¬ IsFramePage text other another
-second_end_tag text left inner kind over e has other another page =
-    let same : another ≡ inner = append_cancel_right another inner (codes "</script></html>") (sym (over.there other another page) ∙ e) in
+pub second_end_tag : (text left inner : List ℕ) (kind : Kind) (with_body : Bool) → LeftOver text kind with_body left → left ≡ inner ++ codes "</script></html>" → has_end_tag inner ≡ true
+    → (other : Kind) (texts : List (List ℕ)) → ¬ IsFramePage text other texts
+second_end_tag text left inner kind with_body over e has other texts page =
+    let same : page.inner ≡ inner = append_cancel_right page.inner inner (codes "</script></html>") (sym (over.there other texts page) ∙ e) in
     true≢false (sym has ∙ ap has_end_tag (sym same) ∙ page.one_script)
 
 -- nothing closes the script at the end
-pub no_end : (text left : List ℕ) (kind : Kind) → LeftOver text kind left → ((inner : List ℕ) → ¬ (left ≡ inner ++ codes "</script></html>")) → (other : Kind) (inner : List ℕ) → ¬ IsFramePage text other inner
-no_end text left kind over off other inner page = off inner (over.there other inner page)
-
--- what stands behind `<html>`
-pub behind_html : (text behind_opening behind_html inner : List ℕ) (kind other : Kind)
-    → ((opening : Opening) (rest : List ℕ) → text ≡ opening_text opening ++ (codes "<html>" ++ rest) → (kind_of opening ≡ kind) × (behind_opening ≡ codes "<html>" ++ rest))
-    → (page : IsFramePage text other inner) → behind_opening ≡ codes "<html>" ++ behind_html
-    → behind_html ≡ body_text page.with_body ++ (codes "<script>" ++ (inner ++ codes "</script></html>"))
-behind_html text r0 r1 inner kind other forced page html =
-    let end : List ℕ = inner ++ codes "</script></html>" in
-    let split = page.whole ∙ nested (opening_text page.opening) (codes "<html>") (body_text page.with_body) (codes "<script>") inner (codes "</script></html>") in
-    append_cancel_left (codes "<html>") r1 (body_text page.with_body ++ (codes "<script>" ++ end))
-    (sym html ∙ (forced page.opening (body_text page.with_body ++ (codes "<script>" ++ end)) split).1)
-
--- an empty body stands there, or none does
-body_there : (html tail more : List ℕ) (with_body : Bool) → html ≡ body_text with_body ++ (codes "<script>" ++ more)
-    → html ≡ codes "<body></body>" ++ tail → with_body ≡ true
-body_there html tail more true e f = refl
-body_there html tail more false e f =
-    let h : 115 ≡ 98 = ap (λ (l : List ℕ). get_or l 1 0) (sym e ∙ f) in absurd (omega (arith, h))
-
-no_body_there : (html more : List ℕ) (with_body : Bool) → html ≡ body_text with_body ++ (codes "<script>" ++ more)
-    → ((tail : List ℕ) → ¬ (html ≡ codes "<body></body>" ++ tail)) → with_body ≡ false
-no_body_there html more true e off = absurd (off (codes "<script>" ++ more) e)
-no_body_there html more false e off = refl
-
--- what is looked for behind `<html>` tells it
-pub body_told : {A : Type 0} (found : Option A) (now : A → List ℕ) (html more : List ℕ) (with_body : Bool) → html ≡ body_text with_body ++ (codes "<script>" ++ more)
-    → MatchOption found ((tail : List ℕ) → ¬ (html ≡ codes "<body></body>" ++ tail)) (λ tail. html ≡ codes "<body></body>" ++ now tail) → with_body ≡ is_some found
-body_told (Some tail) now html more with_body e f = body_there html (now tail) more with_body e f
-body_told None now html more with_body e off = no_body_there html more with_body e off
+pub no_end : (text left : List ℕ) (kind : Kind) (with_body : Bool) → LeftOver text kind with_body left → ((inner : List ℕ) → ¬ (left ≡ inner ++ codes "</script></html>"))
+    → (other : Kind) (texts : List (List ℕ)) → ¬ IsFramePage text other texts
+no_end text left kind with_body over off other texts page = off page.inner (over.there other texts page)

@@ -1,9 +1,13 @@
+pub mod Callers
 pub mod Frames
 pub mod Fronts
 pub mod OneAnswer
 pub mod OneFrame
+pub mod OneList
 pub mod OneScript
 pub mod Refusals
+pub mod Scripts
 pub mod SomeAnswer
+pub mod SomeList
 pub mod SomeScript
 pub mod Stages

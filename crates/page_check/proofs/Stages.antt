@@ -1,6 +1,6 @@
 -- How far the text of a script is read, by stages: tokens, a tree, the strict directive, the early rules, the heights and
 -- the form. That texts have one list of tokens, and tokens one script, is handed in as laws of other crates say it.
-use Rattle.std.proofs.Common.{◌≡◌, ℕ, zero, suc, ◌+◌, Some, None, List, refl, sym, ap, ◌∙◌, subst, true≢false, arith}
+use Rattle.std.proofs.Common.{◌≡◌, ℕ, zero, suc, ◌+◌, Some, None, List, sym, ap, ◌∙◌, subst, true≢false, arith}
 use Rattle.js_core.specs.Tree as tree
 use Rattle.js_core.specs.declared.token.Token.{Token}
 use Rattle.js_grammar.specs.Scripts.{Derives, ScriptOf, height_limit}

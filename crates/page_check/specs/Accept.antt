@@ -1,5 +1,5 @@
 -- Which bytes are accepted as a page, and why others are refused.
-use Rattle.std.specs.Prelude.{ℕ, ◌≡◌, true, false, List, [], ◌∷◌, Some, None}
+use Rattle.std.specs.Prelude.{ℕ, ◌+◌, ◌≡◌, Bool, true, false, List, [], ◌∷◌, ◌++◌, length, Some, None}
 use Rattle.std.specs.Str.{IsUtf8}
 use Rattle.js_core.specs.Text.{utf16_of}
 use Rattle.js_core.specs.Tree as tree
@@ -8,12 +8,13 @@ use Rattle.js_grammar.specs.Scripts.{ScriptOf, height_limit}
 use Rattle.js_lexer.specs.Directives.{IsStrict}
 use Rattle.js_lexer.specs.Tokens.{Tokens}
 use Rattle.scope_analysis.specs.EarlyRules.{early_rule}
-use Rattle.page_check.specs.Frame.{IsFramePage, with_line_feeds}
+use Rattle.page_check.specs.Frame.{IsFramePage, places_of, with_line_feeds}
 pub use Rattle.page_check.specs.Rules.{Page, is_too_deep, keeps_form}
 use Rattle.page_check.specs.declared.page.AcceptFault.{AcceptFault}
 use Rattle.page_check.specs.declared.page.AcceptFault.TheVariants.{Refused, OutOfMemory}
 use Rattle.page_check.specs.declared.page.Kind.{Kind}
 use Rattle.page_check.specs.declared.page.Kind.TheVariants.{Plain, Form}
+use Rattle.page_check.specs.declared.page.Place.{Place}
 use Rattle.page_check.specs.declared.page.Refusal.{Refusal}
 use Rattle.page_check.specs.declared.page.Refusal.TheVariants.{NotUtf8, NotPage, NotTokens, NotScript, NotStrict, Early, TooDeep, ReservedName, NotForm}
 
@@ -60,6 +61,27 @@ abbrev pub IsNotScript : Kind → ℕ → List ℕ → AcceptFault → Type 0
 IsNotScript kind k text (Refused refusal) = IsScriptRefusal kind k text refusal
 IsNotScript kind k text OutOfMemory = Unit {0}
 
+-- each text is that of a script of such a page, with the tree at the same place of the list
+abbrev pub ArePageScripts : Kind → List (List ℕ) → List tree.Stmts → Type 0
+ArePageScripts kind [] [] = Unit {0}
+ArePageScripts kind (text ∷ texts) (script ∷ scripts) = IsPageScript kind text script × ArePageScripts kind texts scripts
+ArePageScripts kind texts scripts = ⊥
+
+-- of texts, the foremost of which is the k-th script of a page, one is refused for this cause, and those before it are scripts
+pub record IsRefusedFrom (kind : Kind) (k : ℕ) (texts : List (List ℕ)) (refusal : Refusal) : Type 0 where
+  pub before : List (List ℕ)
+  pub scripts : List tree.Stmts
+  pub read : ArePageScripts kind before scripts
+  pub text : List ℕ
+  pub behind : List (List ℕ)
+  pub split : texts ≡ before ++ (text ∷ behind)
+  pub off : IsScriptRefusal kind (length before + k) text refusal
+
+-- want of memory is free
+abbrev pub AreNotScripts : Kind → List (List ℕ) → AcceptFault → Type 0
+AreNotScripts kind texts (Refused refusal) = IsRefusedFrom kind 1 texts refusal
+AreNotScripts kind texts OutOfMemory = Unit {0}
+
 -- the text that UTF-8 bytes write, with its line ends made LF
 abbrev pub text_of : List ℕ → List ℕ
 text_of bytes = with_line_feeds (utf16_of bytes)
@@ -67,27 +89,31 @@ text_of bytes = with_line_feeds (utf16_of bytes)
 -- the bytes are accepted as a page of this kind with these scripts
 pub record IsAcceptedAs (bytes : List ℕ) (kind : Kind) (scripts : List tree.Stmts) : Type 0 where
   pub utf8 : IsUtf8 bytes
-  pub inner : List ℕ
-  pub framed : IsFramePage (text_of bytes) kind inner
-  pub script : tree.Stmts
-  pub read : IsPageScript kind inner script
-  pub only : scripts ≡ script ∷ []
+  pub texts : List (List ℕ)
+  pub framed : IsFramePage (text_of bytes) kind texts
+  pub read : ArePageScripts kind texts scripts
 
 abbrev pub IsAccepted : List ℕ → Page → Type 0
 IsAccepted bytes page = IsAcceptedAs bytes page.kind page.scripts
 
--- the bytes are a page but for its one script
+-- and an empty body stands before the scripts, or none does, and their texts stand at these places
+pub record IsAcceptedAt (bytes : List ℕ) (page : Page) (with_body : Bool) (places : List Place) : Type 0 where
+  pub accepted : IsAccepted bytes page
+  pub body : accepted.framed.with_body ≡ with_body
+  pub placed : places ≡ places_of accepted.framed
+
+-- the bytes are a page but for one of its scripts
 pub record IsRefusedScript (bytes : List ℕ) (refusal : Refusal) : Type 0 where
   pub utf8 : IsUtf8 bytes
   pub kind : Kind
-  pub inner : List ℕ
-  pub framed : IsFramePage (text_of bytes) kind inner
-  pub off : IsScriptRefusal kind 1 inner refusal
+  pub texts : List (List ℕ)
+  pub framed : IsFramePage (text_of bytes) kind texts
+  pub off : IsRefusedFrom kind 1 texts refusal
 
 -- the bytes are refused for this cause, and for none before it
 abbrev pub IsRefused : List ℕ → Refusal → Type 0
 IsRefused bytes NotUtf8 = ¬ IsUtf8 bytes
-IsRefused bytes NotPage = IsUtf8 bytes × ((kind : Kind) (inner : List ℕ) → ¬ IsFramePage (text_of bytes) kind inner)
+IsRefused bytes NotPage = IsUtf8 bytes × ((kind : Kind) (texts : List (List ℕ)) → ¬ IsFramePage (text_of bytes) kind texts)
 IsRefused bytes refusal = IsRefusedScript bytes refusal
 
 -- want of memory is free

@@ -1,46 +1,68 @@
 //! Accepting a page.
 
-ghost use Rattle.std.specs.Prelude.{◌≡◌, IfOk, IfErr, List};
-ghost use Rattle.js_core.specs.Tree.{Stmts};
-ghost use Rattle.page_check.specs.Accept.{IsAccepted, IsAcceptedAs, IsNotAccepted, text_of};
-ghost use Rattle.page_check.specs.declared.page.Kind.{Kind as PageKind};
+ghost use Rattle.std.specs.Prelude.{◌≡◌, IfOk, IfErr, map};
+ghost use Rattle.std.specs.List.{All};
+ghost use Rattle.page_check.specs.Accept.{AreNotScripts, ArePageScripts, IsAcceptedAt, IsNotAccepted, text_of};
+ghost use Rattle.page_check.specs.Frame.{IsWithin, part};
+ghost use Rattle.page_check.specs.Rules.{AllKeepRules};
 
-use crate::frame::{frame, has_body, with_line_feeds};
-use crate::page::{AcceptFault, Accepted, Refusal};
+use crate::frame::{frame, with_line_feeds};
+use crate::page::{AcceptFault, Accepted, CheckedPage, Kind, Place, Refusal};
 use crate::script::page_script;
-use js_core::{OutOfMemory, Units};
+use js_core::{OutOfMemory, Script, Units};
 use std::alloc::Global;
 
-/// The kind and the scripts of a page. The first cause of refusal is the answer: the bytes are no UTF-8, their text is no
-/// page, or its script has no tokens, has no tree, is not strict, breaks an early rule, is too high, or in a plain page
-/// has an identifier that begins with `$$`, or in a form page is not in form.
+/// The kind and the scripts of a page, and where they stand. The first cause of refusal is the answer: the bytes are no
+/// UTF-8, their text is no page, or of its scripts, in document order, one has no tokens, has no tree, is not strict,
+/// breaks an early rule, is too high, or in a plain page has an identifier that begins with `$$`, or in a form page is not
+/// in form.
 pub fn accept(alloc: Global, bytes: &[u8]) -> Result<Accepted, AcceptFault>
-    ensures ok { IfOk result (IsAccepted bytes.now) }
+    ensures ok { IfOk result (λ accepted.
+        IsAcceptedAt bytes.now accepted.page accepted.with_body accepted.places.items) }
     ensures refused { IfErr result (IsNotAccepted bytes.now) }
 {
     let Ok(text) = str::from_utf8(bytes) else {
         return Err(AcceptFault::Refused(Refusal::NotUtf8));
     };
     let page = page_text(alloc, text)?;
-    let Some((kind, inner)) = frame(page.as_slice()) else {
+    let Some(found) = frame(page.as_slice()) else {
         return Err(AcceptFault::Refused(Refusal::NotPage));
     };
-    let text = Units::of(alloc, inner)?;
+    let places = vec![in alloc; found.place]?;
+    let texts = parts(alloc, page.as_slice(), places.as_slice())?;
     drop(page);
-    let script = page_script(alloc, kind, 1, text)?;
-    Ok(Accepted::new(kind, vec![in alloc; script]?))
+    let scripts = page_scripts(alloc, found.kind, texts)?;
+    Ok(Accepted {
+        page: CheckedPage::new(found.kind, scripts),
+        with_body: found.with_body,
+        places,
+    })
 }
 
-/// Whether an empty body stands before the script of an accepted page.
-pub fn page_has_body(alloc: Global, bytes: &[u8]) -> Result<bool, OutOfMemory>
-    ensures { IfOk result (λ has. (kind : PageKind) (scripts : List Stmts) →
-        (page : IsAcceptedAs bytes.now kind scripts) → page.framed.with_body ≡ has) }
+/// The scripts with these texts, in document order. Each text goes as soon as it is read.
+fn page_scripts(alloc: Global, kind: Kind, texts: Vec<Units>) -> Result<Vec<Script>, AcceptFault>
+    ensures ok { IfOk result (λ scripts. ArePageScripts kind texts.items scripts.items) }
+    ensures rules { IfOk result (λ scripts. AllKeepRules kind scripts.items) }
+    ensures refused { IfErr result (AreNotScripts kind texts.items) }
 {
-    let Ok(text) = str::from_utf8(bytes) else {
-        return Ok(false);
-    };
-    let page = page_text(alloc, text)?;
-    Ok(has_body(page.as_slice()))
+    let mut scripts = Vec::new(alloc);
+    for text in texts {
+        let number = scripts.len() as u64 + 1;
+        scripts.push(page_script(alloc, kind, number, text)?)?;
+    }
+    Ok(scripts)
+}
+
+/// What stands at these places of the text.
+fn parts(alloc: Global, text: &[u16], places: &[Place]) -> Result<Vec<Units>, OutOfMemory>
+    requires { All (IsWithin text.now) places.now }
+    ensures { IfOk result (λ parts. parts.items ≡ map (part text.now) places.now) }
+{
+    let mut parts = Vec::new(alloc);
+    for place in places {
+        parts.push(Units::of(alloc, &text[place.start..place.end])?)?;
+    }
+    Ok(parts)
 }
 
 /// The units of a text, with its line ends made LF.

@@ -1,11 +1,11 @@
-//! The text of a page, and the text of its script.
+//! The text of a page, and where its script stands in it.
 
-ghost use Rattle.std.specs.Prelude.{◌≡◌, ◌++◌, ℕ, List, Bool, IfOk, MatchOption, codes};
+ghost use Rattle.std.specs.Prelude.{◌≡◌, ◌++◌, [], ◌∷◌, ℕ, List, Bool, IfOk, MatchOption, codes};
 ghost use Rattle.page_check.specs.Frame as spec;
-ghost use Rattle.page_check.specs.Frame.{Opening, IsFramePage, opening_text, kind_of, body_text};
+ghost use Rattle.page_check.specs.Frame.{Opening, IsFrameAt, IsFramePage, opening_text, kind_of, body_text};
 ghost use Rattle.page_check.specs.declared.page.Kind.{Kind as PageKind};
 
-use crate::page::Kind;
+use crate::page::{Kind, Place};
 use js_core::OutOfMemory;
 use std::alloc::Global;
 
@@ -41,37 +41,42 @@ fn begins_with_line_feed(text: &[u16]) -> bool
     }
 }
 
-/// The kind of a page, and the text of its script, from the page's text. `None` where it is no page. The time is linear
-/// in the text.
-pub fn frame(text: &[u16]) -> Option<(Kind, &[u16])>
-    ensures { MatchOption result ((kind : PageKind) (inner : List ℕ)
-        → ¬ IsFramePage text.now kind inner)
-        (λ found. IsFramePage text.now found.0 found.1.now) }
+/// What is told of a page by the frame round its script.
+#[derive(Clone, Copy)]
+pub struct PageParts {
+    /// The kind of the page.
+    pub kind: Kind,
+    /// Whether an empty body stands before the script.
+    pub with_body: bool,
+    /// Where the text of the script stands.
+    pub place: Place,
+}
+
+/// The parts of a page's text. `None` where it is that of no page. The time is linear in the text.
+pub fn frame(text: &[u16]) -> Option<PageParts>
+    ensures { MatchOption result ((kind : PageKind) (texts : List (List ℕ))
+        → ¬ IsFramePage text.now kind texts)
+        (λ found. IsFrameAt text.now found.kind found.with_body (found.place ∷ [])) }
 {
     if has_zero(text) {
         return None;
     }
     let (kind, rest) = behind_opening(text);
     let rest = behind(rest, b"<html>")?;
-    let rest = behind_body(rest);
+    let (with_body, rest) = behind_body(rest);
     let rest = behind(rest, b"<script>")?;
+    let start = text.len() - rest.len();
     let inner = before(rest, b"</script></html>")?;
     if has_end_tag(inner) {
         return None;
     }
-    Some((kind, inner))
-}
-
-/// Whether an empty body stands before the script, where the text is that of a page.
-pub fn has_body(text: &[u16]) -> bool
-    ensures { (kind : PageKind) (inner : List ℕ) →
-        (page : IsFramePage text.now kind inner) → page.with_body ≡ result }
-{
-    let (_, rest) = behind_opening(text);
-    match behind(rest, b"<html>") {
-        Some(rest) => behind(rest, b"<body></body>").is_some(),
-        None => false,
-    }
+    let end = start + inner.len();
+    let found = PageParts {
+        kind,
+        with_body,
+        place: Place { start, end },
+    };
+    Some(found)
 }
 
 fn has_zero(text: &[u16]) -> bool
@@ -101,15 +106,15 @@ fn behind_opening(text: &[u16]) -> (Kind, &[u16])
     }
 }
 
-/// What stands behind an empty body, if there is one.
-fn behind_body(text: &[u16]) -> &[u16]
-    ensures read { (with_body : Bool) × (text.now ≡ body_text with_body ++ result.now) }
+/// Whether an empty body stands first, and what stands behind it.
+fn behind_body(text: &[u16]) -> (bool, &[u16])
+    ensures read { text.now ≡ body_text result.0 ++ result.1.now }
     ensures forced { (with_body : Bool) (rest : List ℕ) → text.now ≡ body_text with_body
-        ++ (codes "<script>" ++ rest) → result.now ≡ codes "<script>" ++ rest }
+        ++ (codes "<script>" ++ rest) → result.1.now ≡ codes "<script>" ++ rest }
 {
     match behind(text, b"<body></body>") {
-        Some(rest) => rest,
-        None => text,
+        Some(rest) => (true, rest),
+        None => (false, text),
     }
 }
 

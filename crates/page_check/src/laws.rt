@@ -10,11 +10,11 @@ ghost use Rattle.page_check.specs.declared.page.Refusal.{Refusal};
 use js_grammar::law_one_script;
 use js_lexer::law_one_reading;
 
-/// The text of a page is one of one kind, with one script.
+/// The text of a page is one of one kind, with one list of scripts, which stand in one way.
 pub fn law_one_frame()
-    ensures { (text : List ℕ) (kind other : Kind) (inner another : List ℕ)
-        → IsFramePage text kind inner → IsFramePage text other another
-        → IsOneFrame kind other inner another }
+    ensures { (text : List ℕ) (kind other : Kind) (scripts more : List (List ℕ))
+        → (page : IsFramePage text kind scripts) → (again : IsFramePage text other more)
+        → IsOneFrame page again }
 {}
 
 /// Bytes are accepted in one way, or refused for one cause, and not both; and none are neither.

@@ -1,7 +1,7 @@
 //! Which bytes are accepted as a page.
 //!
-//! A page is, until nodes come, a frame round one script (`specs/Frame.antt`). Its script is read and checked, and the
-//! first cause of refusal is the answer (`specs/Accept.antt`).
+//! A page is, until nodes come, a frame round one script (`specs/Frame.antt`). Its scripts are read and checked in document
+//! order, and the first cause of refusal is the answer (`specs/Accept.antt`).
 #![tactic(auto)]
 
 mod acceptance;
@@ -10,6 +10,6 @@ mod laws;
 mod page;
 mod script;
 
-pub use acceptance::{accept, page_has_body};
+pub use acceptance::accept;
 pub use laws::{law_one_answer, law_one_frame};
-pub use page::{AcceptFault, Accepted, Kind, Refusal};
+pub use page::{AcceptFault, Accepted, CheckedPage, Kind, Place, Refusal};

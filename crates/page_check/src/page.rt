@@ -18,15 +18,24 @@ pub enum Kind {
     Form,
 }
 
+/// Where a part of a text stands: from this unit to the one behind its last.
+#[derive(Clone, Copy, Debug, PartialEq, Eq)]
+pub struct Place {
+    /// The number of units before it.
+    pub start: usize,
+    /// The number of units before what stands behind it.
+    pub end: usize,
+}
+
 /// A page whose scripts keep the rules of its kind: each is a tree that some tokens have, breaks no early rule, is no higher
 /// than may be, and keeps the form of the page. Contracts see its kind and the trees of its scripts, in document order.
 #[derive(Drop)]
-pub struct Accepted {
+pub struct CheckedPage {
     kind: Kind,
     scripts: Vec<Script>,
 }
 
-impl Model for Accepted {
+impl Model for CheckedPage {
     ghost use Rattle.page_check.specs.Rules.{AllKeepRules, Page};
     ghost use Rattle.page_check.specs.CodedPage.{coded_page};
 
@@ -39,13 +48,13 @@ impl Model for Accepted {
     ghost invariant = { λ a. AllKeepRules a.kind a.scripts.items };
 }
 
-impl Accepted {
+impl CheckedPage {
     /// The page of this kind with these scripts.
-    pub fn new(kind: Kind, scripts: Vec<Script>) -> Accepted
+    pub fn new(kind: Kind, scripts: Vec<Script>) -> CheckedPage
         requires { AllKeepRules kind scripts.items }
         ensures { result ≡ record { kind = kind; scripts = scripts.items } }
     {
-        Accepted { kind, scripts }
+        CheckedPage { kind, scripts }
     }
 
     /// What the page is. Its scripts keep the rules of that kind.
@@ -68,6 +77,26 @@ impl Accepted {
         ensures { result.items ≡ self.scripts }
     {
         self.scripts
+    }
+}
+
+/// An accepted page, and where its parts stand in its text, whose line ends are LF.
+#[derive(Drop)]
+pub struct Accepted {
+    /// The page.
+    pub page: CheckedPage,
+    /// Whether an empty body stands before its scripts.
+    pub with_body: bool,
+    /// Where the texts of its scripts stand, in document order.
+    pub places: Vec<Place>,
+}
+
+impl Accepted {
+    /// The page, without a copy.
+    pub fn into_page(self) -> CheckedPage
+        ensures { result ≡ self.page }
+    {
+        self.page
     }
 }
 

@@ -1,5 +1,5 @@
 -- That a printed script in the frame of a form page is accepted.
-use Rattle.std.proofs.Common.{◌≡◌, ℕ, ◌≤◌, false, List, refl, arith}
+use Rattle.std.proofs.Common.{◌≡◌, ℕ, ◌≤◌, false, List, [], ◌∷◌, arith}
 use Rattle.std.specs.Prelude.{IsTrue, nat_lt}
 use Rattle.std.proofs.lemmas.Bool.{le-ltb, or_from}
 use Rattle.js_core.specs.Height.{stmts_height}
@@ -31,9 +31,7 @@ form_is_page_script script text form strict again =
 pub framed_scripts_are_accepted : FramedScriptsAreAccepted
 framed_scripts_are_accepted with_body script text form strict again = record {
   utf8 = framed_is_utf8 with_body text again.utf8;
-  inner = utf16_of text;
+  texts = utf16_of text ∷ [];
   framed = is_framed with_body text again.utf8 again.no_tag_in_units again.no_control;
-  script = script;
-  read = form_is_page_script script text form strict again;
-  only = refl;
+  read = (form_is_page_script script text form strict again, tt);
 }

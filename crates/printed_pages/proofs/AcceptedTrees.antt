@@ -2,19 +2,21 @@
 use Rattle.std.proofs.Common.{◌≡◌, refl, sym, ap, subst, ◌∙◌, ℕ, ◌-◌, ◌<◌, ◌/◌, ◌%◌, ◌+◌, Bool, true, false, ◌&&◌, cond, nat_le, nat_lt, List, [], ◌∷◌, ◌++◌, arith}
 use Rattle.std.specs.Prelude.{◌==◌, codes, if◌then◌else◌}
 use Rattle.std.specs.Char.Escape.{encode_utf16}
-use Rattle.std.specs.List.{flat_map, list_all}
+use Rattle.std.specs.List.{All, flat_map, list_all}
 use Rattle.std.specs.Prelude.{IsUtf8}
 use Rattle.std.specs.Str.{all_scalars}
 use Rattle.std.proofs.lemmas.Bool.{and_from, and_parts, lt-ltb, ltb-true}
-use Rattle.std.proofs.lemmas.List.Elements.{All-cons, All-nil}
+use Rattle.std.proofs.lemmas.List.Elements.{All-cons, All-head, All-nil, All-tail}
 use Rattle.std.proofs.lemmas.List.Folds.{list_all-append}
 use Rattle.std.proofs.lemmas.Str.{chars-encodes}
 use Rattle.js_core.specs.Text.{AllUnits, utf16_of}
+use Rattle.js_core.specs.Tree as tree
 use Rattle.js_grammar.specs.Scripts.{TokensHaveSyntax}
+use Rattle.js_grammar.specs.Syntax.{IsSyntax}
 use Rattle.js_lexer.specs.Written.{is_unit}
 use Rattle.js_print.specs.Written.{TokensCanBeWritten}
-use Rattle.page_check.specs.Accept.{text_of}
-use Rattle.page_check.specs.Frame.{IsFramePage, begins_with_line_feed, body_text, opening_text, with_line_feeds}
+use Rattle.page_check.specs.Accept.{ArePageScripts, IsPageScript, text_of}
+use Rattle.page_check.specs.Frame.{IsFramePage, begins_with_line_feed, front, with_line_feeds}
 use Rattle.page_check.specs.declared.page.Kind.{Kind}
 use Rattle.printed_pages.specs.Printed.{AcceptedScriptsHaveSyntax}
 
@@ -74,12 +76,11 @@ right_units xs ys h = (and_parts (list_all is_unit xs) (list_all is_unit ys) (sy
 left_units : (xs ys : List ℕ) → list_all is_unit (xs ++ ys) ≡ true → list_all is_unit xs ≡ true
 left_units xs ys h = (and_parts (list_all is_unit xs) (list_all is_unit ys) (sym (list_all-append is_unit xs ys) ∙ h)).0
 
-inner_units : (text : List ℕ) (kind : Kind) (inner : List ℕ) → IsFramePage text kind inner → list_all is_unit text ≡ true
-    → list_all is_unit inner ≡ true
-inner_units text kind inner is h =
-    let front : List ℕ = ((opening_text is.opening ++ codes "<html>") ++ body_text is.with_body) ++ codes "<script>" in
-    right_units front inner
-    (left_units (front ++ inner) (codes "</script></html>") (subst (λ us. list_all is_unit us ≡ true) is.whole h))
+inner_units : (text : List ℕ) (kind : Kind) (texts : List (List ℕ)) (is : IsFramePage text kind texts) → list_all is_unit text ≡ true
+    → list_all is_unit is.inner ≡ true
+inner_units text kind texts is h =
+    right_units (front is.opening is.with_body) is.inner
+    (left_units (front is.opening is.with_body ++ is.inner) (codes "</script></html>") (subst (λ us. list_all is_unit us ≡ true) is.whole h))
 
 all_units : (us : List ℕ) → list_all is_unit us ≡ true → AllUnits us
 all_units [] h = All-nil (λ u. u < 65536)
@@ -87,12 +88,29 @@ all_units (u ∷ us) h =
     let parts = and_parts (is_unit u) (list_all is_unit us) h in
     All-cons (λ x. x < 65536) u us (ltb-true u 65536 parts.0) (all_units us parts.1)
 
+texts_units : (text : List ℕ) (kind : Kind) (texts : List (List ℕ)) → IsFramePage text kind texts → list_all is_unit text ≡ true
+    → All AllUnits texts
+texts_units text kind texts is h =
+    subst (All AllUnits) (sym is.only) (All-cons AllUnits is.inner [] (all_units is.inner (inner_units text kind texts is h)) (All-nil AllUnits))
+
 -- ---- the law
+
+script_has_syntax : TokensCanBeWritten → TokensHaveSyntax → (kind : Kind) (text : List ℕ) (script : tree.Stmts) → AllUnits text
+    → IsPageScript kind text script → IsSyntax script
+script_has_syntax written syntax kind text script units is =
+    let strict = is.low.orderly.strict in
+    syntax strict.tokens script (written text strict.tokens units strict.read.lexed) strict.read.parsed.0
+
+scripts_have_syntax : TokensCanBeWritten → TokensHaveSyntax → (kind : Kind) (texts : List (List ℕ)) (scripts : List tree.Stmts) → All AllUnits texts
+    → ArePageScripts kind texts scripts → All IsSyntax scripts
+scripts_have_syntax written syntax kind [] [] units is = All-nil IsSyntax
+scripts_have_syntax written syntax kind (text ∷ texts) (script ∷ scripts) units is =
+    All-cons IsSyntax script scripts (script_has_syntax written syntax kind text script (All-head AllUnits text texts units) is.0)
+    (scripts_have_syntax written syntax kind texts scripts (All-tail AllUnits text texts units) is.1)
+scripts_have_syntax written syntax kind [] (script ∷ scripts) units is = absurd is
+scripts_have_syntax written syntax kind (text ∷ texts) [] units is = absurd is
 
 pub accepted_scripts_have_syntax : TokensCanBeWritten → TokensHaveSyntax → AcceptedScriptsHaveSyntax
 accepted_scripts_have_syntax written syntax bytes kind scripts is =
-    let strict = is.read.low.orderly.strict in
-    let units : AllUnits is.inner =
-    all_units is.inner (inner_units (text_of bytes) kind is.inner is.framed (line_feed_units (utf16_of bytes) (text_units bytes is.utf8)))
-    in
-    syntax strict.tokens is.script (written is.inner strict.tokens units strict.read.lexed) strict.read.parsed.0
+    scripts_have_syntax written syntax kind is.texts scripts
+    (texts_units (text_of bytes) kind is.texts is.framed (line_feed_units (utf16_of bytes) (text_units bytes is.utf8))) is.read

@@ -138,7 +138,7 @@ front_whole false us = refl
 
 -- the text of a form page's script, in its frame
 pub is_framed : (with_body : Bool) (t : List ℕ) → IsUtf8 t → HasNoEndTag (utf16_of t) → list_all is_lined (utf16_of t) ≡ true
-    → IsFramePage (text_of (framed with_body t)) Form (utf16_of t)
+    → IsFramePage (text_of (framed with_body t)) Form (utf16_of t ∷ [])
 is_framed with_body t u none lined =
     let units = utf16_of t in
     let kept = framed_stays with_body units (all_stay units lined) in
@@ -147,7 +147,9 @@ is_framed with_body t u none lined =
       opening = form_mark;
       of_kind = refl;
       with_body = with_body;
+      inner = units;
       whole = same ∙ front_whole with_body units;
       one_script = no_end_tag units none;
       no_zero = ap has_zero same ∙ zero_free (framed with_body units) kept;
+      only = refl;
     }

@@ -4,6 +4,8 @@ use Rattle.std.specs.Prelude.{◌||◌, if◌then◌else◌, codes, bytes_eq}
 use Rattle.std.proofs.Math.Bool.{or-true}
 use Rattle.std.proofs.lemmas.Bool.{and_parts}
 use Rattle.std.proofs.lemmas.List.{append-nil}
+use Rattle.std.proofs.lemmas.List.Elements.{All-cons, All-nil}
+use Rattle.std.specs.List.{All}
 use Rattle.js_core.specs.Tree as tree
 use Rattle.js_core.specs.Tree.{stmts_of}
 use Rattle.js_core.specs.declared.token.Token.{Token}
@@ -21,6 +23,7 @@ use Rattle.js_grammar.specs.Symbols.{Lexeme, lexemes, symbol_of, text}
 use Rattle.js_lexer.specs.Directives.{IsStrict, is_text, is_text_of, is_use_strict, behind_statement}
 use Rattle.js_lexer.specs.Directives.IsStrict.{here, later}
 use Rattle.js_print.specs.ReadAgain.{begins_strict}
+use Rattle.page_check.specs.Accept.{ArePageScripts}
 use Rattle.printed_pages.specs.Printed.{AcceptedScriptsBeginStrict}
 use Rattle.printed_pages.proofs.StrictStatements.{Ends, directive_ends, directive_read, then_reads}
 
@@ -138,6 +141,13 @@ read_begins_strict one tokens script strict e =
 
 pub accepted_scripts_begin_strict : ((tokens : List Token) (script : tree.Stmts) → ScriptOf height_limit tokens script → read_script height_limit tokens ≡ Some script)
     → ContinuingIsOne → AcceptedScriptsBeginStrict
-accepted_scripts_begin_strict complete one bytes kind scripts is =
-    let strict = is.read.low.orderly.strict in
-    read_begins_strict one strict.tokens is.script strict.strict (complete strict.tokens is.script strict.read.parsed)
+accepted_scripts_begin_strict complete one bytes kind scripts is = all_strict is.texts scripts is.read
+  where
+    all_strict : (texts : List (List ℕ)) (scripts : List tree.Stmts) → ArePageScripts kind texts scripts → All (λ script. begins_strict script ≡ true) scripts
+    all_strict [] [] read = All-nil (λ script. begins_strict script ≡ true)
+    all_strict (one_text ∷ texts) (script ∷ scripts) read =
+        let strict = read.0.low.orderly.strict in
+        All-cons (λ script. begins_strict script ≡ true) script scripts
+        (read_begins_strict one strict.tokens script strict.strict (complete strict.tokens script strict.read.parsed)) (all_strict texts scripts read.1)
+    all_strict [] (script ∷ scripts) read = absurd read
+    all_strict (one_text ∷ texts) [] read = absurd read

@@ -1,5 +1,6 @@
 -- That a printed script in the frame of a form page is accepted as that page, and that the scripts of accepted pages can be printed.
 use Rattle.std.specs.Prelude.{◌≡◌, ℕ, Bool, true, IsTrue, List, [], ◌∷◌, ◌++◌, codes}
+use Rattle.std.specs.List.{All}
 use Rattle.js_core.specs.Tree as tree
 use Rattle.js_grammar.specs.Syntax.{IsSyntax}
 use Rattle.js_print.specs.Lined.{LinedAgain}
@@ -26,10 +27,11 @@ FramedScriptsAreAccepted =
     (with_body : Bool) (script : tree.Stmts) (text : List ℕ) → IsFormPageScript script → IsTrue (begins_strict script) → LinedAgain script text
     → IsAcceptedAs (framed with_body text) Form (script ∷ [])
 
--- the script of an accepted page is a tree that some tokens have
+-- each script of an accepted page is a tree that some tokens have
 abbrev pub AcceptedScriptsHaveSyntax : Type 0
-AcceptedScriptsHaveSyntax = (bytes : List ℕ) (kind : Kind) (scripts : List tree.Stmts) → (is : IsAcceptedAs bytes kind scripts) → IsSyntax is.script
+AcceptedScriptsHaveSyntax = (bytes : List ℕ) (kind : Kind) (scripts : List tree.Stmts) → IsAcceptedAs bytes kind scripts → All IsSyntax scripts
 
--- the script of an accepted page begins with string literals as statements, one of which is the strict directive
+-- each script of an accepted page begins with string literals as statements, one of which is the strict directive
 abbrev pub AcceptedScriptsBeginStrict : Type 0
-AcceptedScriptsBeginStrict = (bytes : List ℕ) (kind : Kind) (scripts : List tree.Stmts) → (is : IsAcceptedAs bytes kind scripts) → begins_strict is.script ≡ true
+AcceptedScriptsBeginStrict =
+    (bytes : List ℕ) (kind : Kind) (scripts : List tree.Stmts) → IsAcceptedAs bytes kind scripts → All (λ script. begins_strict script ≡ true) scripts

@@ -10,7 +10,7 @@ pub fn law_framed_scripts_are_accepted()
     ensures { FramedScriptsAreAccepted }
 {}
 
-/// The script of an accepted page is a tree that some tokens have, so it can be printed.
+/// Each script of an accepted page is a tree that some tokens have, so it can be printed.
 pub fn law_accepted_scripts_have_syntax()
     ensures { AcceptedScriptsHaveSyntax }
 {
@@ -18,7 +18,7 @@ pub fn law_accepted_scripts_have_syntax()
     law_syntax_is_what_tokens_have();
 }
 
-/// The script of an accepted page begins with the strict directive, as a tree.
+/// Each script of an accepted page begins with the strict directive, as a tree.
 pub fn law_accepted_scripts_begin_strict()
     ensures { AcceptedScriptsBeginStrict }
 {

@@ -6,7 +6,7 @@ ghost use Rattle.page_meaning.specs.Pages.{after_scripts, do_event, load_of};
 use code_table::FunctionCode;
 use js_core::{OutOfMemory, Script};
 use js_values::{Event, Line};
-use page_check::Accepted;
+use page_check::CheckedPage;
 use page_machine::{Task, run_task};
 use page_state::State;
 use std::alloc::Global;
@@ -31,7 +31,7 @@ impl Model for Session {
 }
 
 /// The page once its scripts have run, in document order.
-pub fn load(alloc: Global, page: Accepted) -> Result<Session, OutOfMemory>
+pub fn load(alloc: Global, page: CheckedPage) -> Result<Session, OutOfMemory>
     ensures page { IfOk result (λ s. s.page ≡ load_of page.scripts) }
     ensures fresh { IfOk result (λ s. s.is_spent ≡ false) }
 {

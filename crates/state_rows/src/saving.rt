@@ -13,7 +13,7 @@ const ROOM: u64 = 16_777_216;
 
 /// The page of these bytes as it is saved after its scripts and the events of an event file.
 pub fn saved(alloc: Global, page: &[u8], events: &[u8]) -> Result<MemorySink, Fault> {
-    let page = accept(alloc, page)?;
+    let page = accept(alloc, page)?.into_page();
     let events = calls(alloc, events)?;
     let mut session = load(alloc, page)?;
     for event in &events {

@@ -2,8 +2,8 @@ use Rattle.command_line.proofs.reading.open_bytes.Goals as goal
 
 pub returns-in-Ok-open_page-clause-ok : goal.returns-in-Ok-open_page-clause-ok
 returns-in-Ok-open_page-clause-ok c = record {
-  page = c.in-Ok.page;
-  accepted = c.in-Ok.ensures.ok;
+  page = c.in-Ok.accepted.page;
+  accepted = c.in-Ok.ensures.ok.accepted;
   opens = c.in-Ok-open_page.ensures.text;
   numbered = c.in-Ok-open_page.ensures.numbered;
 }
