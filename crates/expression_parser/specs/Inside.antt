@@ -1,8 +1,5 @@
--- What stands inside an expression, and function values that read it.
+-- What stands inside a phrase, and what functions ensure that build a tree of what they read.
 use Rattle.std.specs.Prelude.{◌≡◌, ◌≢◌, ℕ, nat_le, Bool, true, false, List, [], ◌∷◌, Some, Result, Ok, Err}
-use Rattle.std.specs.declared.alloc.Global.{Global}
-use Rattle.std.specs.declared.vec.Vec.{Vec}
-use denote.Ref.{MutBor}
 use Rattle.js_core.specs.Tree as tree
 use Rattle.js_core.specs.Tree.{exprs_of}
 use Rattle.js_core.specs.Height.{expr_height}
@@ -10,10 +7,9 @@ use Rattle.js_grammar.specs.declared.operators.Level.{Level}
 use Rattle.js_grammar.specs.Parser.{Parser}
 use Rattle.js_grammar.specs.ScriptReader as script
 use Rattle.js_grammar.specs.Scripts.{height_limit}
-use Rattle.js_grammar.specs.Symbols.{Lexeme}
 use Rattle.expression_parser.specs.declared.fault.ParseFault.{ParseFault}
 use Rattle.expression_parser.specs.declared.fault.ParseFault.TheVariants.{OutOfMemory}
-use Rattle.expression_parser.specs.Reads.{Reads, ReadsAll, Gives}
+use Rattle.expression_parser.specs.Reads.{Gives}
 
 -- the greatest height of a tree that is read
 unfoldable pub limit : ℕ
@@ -27,18 +23,9 @@ expression_in depth = λ inn level. script.inside limit depth (script.expression
 unfoldable pub body_in : ℕ → Parser (List tree.Stmt)
 body_in depth = script.inside limit depth script.body
 
--- two function values that read these at a depth
-pub record Nests (depth : ℕ)
-    (expression_pre : Global → ℕ → Bool → Level → MutBor (List Lexeme) → Type 0)
-    (expression_post : Global → ℕ → Bool → Level → MutBor (List Lexeme) → Result tree.Expr ParseFault → MutBor (List Lexeme) → Type 0)
-    (body_pre : Global → ℕ → MutBor (List Lexeme) → Type 0)
-    (body_post : Global → ℕ → MutBor (List Lexeme) → Result (Vec tree.Stmt Global) ParseFault → MutBor (List Lexeme) → Type 0) : Type 0 where
-  pub expression_callable : (alloc : Global) (inn : Bool) (level : Level) (old : MutBor (List Lexeme)) → expression_pre alloc depth inn level old
-  pub expression_reads : (alloc : Global) (inn : Bool) (level : Level) (old new : MutBor (List Lexeme)) (r : Result tree.Expr ParseFault)
-      → expression_post alloc depth inn level old r new → Reads (expression_in depth inn level old.now) r new.now
-  pub body_callable : (alloc : Global) (old : MutBor (List Lexeme)) → body_pre alloc depth old
-  pub body_reads : (alloc : Global) (old new : MutBor (List Lexeme)) (r : Result (Vec tree.Stmt Global) ParseFault)
-      → body_post alloc depth old r new → ReadsAll (body_in depth old.now) r new.now
+-- a statement inside another, where parts nest less deep than the number
+unfoldable pub statement_in : ℕ → Parser tree.Stmt
+statement_in depth = script.inside limit depth script.statement
 
 -- what a function ensures that builds a tree: the tree, unless it is too high or memory fails
 abbrev pub Keeps : {A : Type 0} → ℕ → A → Result A ParseFault → Type 0

@@ -3,18 +3,18 @@
 ghost use Rattle.std.specs.Prelude.{true};
 ghost use Rattle.js_grammar.specs.ExpressionReader as reader;
 ghost use Rattle.js_grammar.specs.Parser.{separated};
-ghost use Rattle.expression_parser.specs.Inside.{Nests, Joins, limit, expression_in, body_in};
+ghost use Rattle.expression_parser.specs.Inside.{Joins, limit, expression_in, body_in};
 ghost use Rattle.expression_parser.specs.Reads.{Reads, ReadsAll};
 
 use crate::cursor::Cursor;
 use crate::fault::ParseFault;
 use crate::grammar::Grammar;
+use crate::inside::Inside;
 use crate::lists::{further, separated};
 use crate::nodes;
 use crate::operators::{assignment_of, prefix_of};
-use js_core::{Expr, Punct, Stmt};
+use js_core::{Expr, Punct};
 use js_grammar::{Level, Sign};
-use std::alloc::Global;
 
 /// The expression with these parts: the part, where it is the only one.
 fn joined(mut parts: Vec<Expr>) -> Result<Expr, ParseFault>
@@ -26,10 +26,7 @@ fn joined(mut parts: Vec<Expr>) -> Result<Expr, ParseFault>
     nodes::comma(parts)
 }
 
-impl<
-    E: Fn(Global, usize, bool, Level, &mut Cursor<'_>) -> Result<Expr, ParseFault>,
-    B: Fn(Global, usize, &mut Cursor<'_>) -> Result<Vec<Stmt>, ParseFault>,
-> Grammar<E, B> {
+impl<I: Inside> Grammar<I> {
     /// Reads an expression of this level.
     pub fn at_level(
         &self,
@@ -37,8 +34,6 @@ impl<
         level: Level,
         tokens: &mut Cursor<'_>,
     ) -> Result<Expr, ParseFault>
-        requires { Nests self.now.depth (E.pre self.now.expression) (E.post self.now.expression)
-            (B.pre self.now.body) (B.post self.now.body) }
         ensures { Reads (reader.at_level limit (expression_in self.now.depth)
             (body_in self.now.depth) inn level tokens.old) result tokens.new }
     {
@@ -53,8 +48,6 @@ impl<
     /// Reads an expression, with commas.
     #[tactic(auto, unfolding(js_grammar::specs::ExpressionReader::all))]
     pub fn all(&self, inn: bool, tokens: &mut Cursor<'_>) -> Result<Expr, ParseFault>
-        requires { Nests self.now.depth (E.pre self.now.expression) (E.post self.now.expression)
-            (B.pre self.now.body) (B.post self.now.body) }
         ensures { Reads (reader.all limit (expression_in self.now.depth)
             (body_in self.now.depth) inn tokens.old) result tokens.new }
     {
@@ -64,8 +57,6 @@ impl<
 
     /// Reads assignment expressions with commas between them.
     fn items(&self, inn: bool, tokens: &mut Cursor<'_>) -> Result<Vec<Expr>, ParseFault>
-        requires { Nests self.now.depth (E.pre self.now.expression) (E.post self.now.expression)
-            (B.pre self.now.body) (B.post self.now.body) }
         ensures { ReadsAll (separated (reader.one limit (expression_in self.now.depth)
             (body_in self.now.depth) inn) tokens.old) result tokens.new }
     {
@@ -80,8 +71,6 @@ impl<
         first: Expr,
         tokens: &mut Cursor<'_>,
     ) -> Result<Expr, ParseFault>
-        requires { Nests self.now.depth (E.pre self.now.expression) (E.post self.now.expression)
-            (B.pre self.now.body) (B.post self.now.body) }
         ensures { Reads (reader.all_from limit (expression_in self.now.depth)
             (body_in self.now.depth) inn first tokens.old) result tokens.new }
     {
@@ -96,8 +85,6 @@ impl<
         first: Expr,
         tokens: &mut Cursor<'_>,
     ) -> Result<Vec<Expr>, ParseFault>
-        requires { Nests self.now.depth (E.pre self.now.expression) (E.post self.now.expression)
-            (B.pre self.now.body) (B.post self.now.body) }
         ensures { ReadsAll (reader.more_items limit (expression_in self.now.depth)
             (body_in self.now.depth) inn first tokens.old) result tokens.new }
     {
@@ -109,8 +96,6 @@ impl<
     /// Reads an assignment expression.
     #[tactic(auto, unfolding(js_grammar::specs::ExpressionReader::one))]
     pub fn one(&self, inn: bool, tokens: &mut Cursor<'_>) -> Result<Expr, ParseFault>
-        requires { Nests self.now.depth (E.pre self.now.expression) (E.post self.now.expression)
-            (B.pre self.now.body) (B.post self.now.body) }
         ensures { Reads (reader.one limit (expression_in self.now.depth)
             (body_in self.now.depth) inn tokens.old) result tokens.new }
     {
@@ -135,8 +120,6 @@ impl<
         target: Expr,
         tokens: &mut Cursor<'_>,
     ) -> Result<Expr, ParseFault>
-        requires { Nests self.now.depth (E.pre self.now.expression) (E.post self.now.expression)
-            (B.pre self.now.body) (B.post self.now.body) }
         ensures { Reads (reader.assigned limit (expression_in self.now.depth)
             (body_in self.now.depth) inn target tokens.old) result tokens.new }
     {
@@ -156,8 +139,6 @@ impl<
     /// Reads an assignment expression that begins with this unary expression.
     #[tactic(auto, unfolding(js_grammar::specs::ExpressionReader::rest))]
     fn rest(&self, inn: bool, first: Expr, tokens: &mut Cursor<'_>) -> Result<Expr, ParseFault>
-        requires { Nests self.now.depth (E.pre self.now.expression) (E.post self.now.expression)
-            (B.pre self.now.body) (B.post self.now.body) }
         ensures { Reads (reader.rest limit (expression_in self.now.depth)
             (body_in self.now.depth) inn first tokens.old) result tokens.new }
     {
@@ -168,8 +149,6 @@ impl<
     /// Reads what may stand behind a binary expression: `?` and two choices.
     #[tactic(auto, unfolding(js_grammar::specs::ExpressionReader::choice, js_grammar::specs::Parser::within_limit))]
     fn choice(&self, inn: bool, test: Expr, tokens: &mut Cursor<'_>) -> Result<Expr, ParseFault>
-        requires { Nests self.now.depth (E.pre self.now.expression) (E.post self.now.expression)
-            (B.pre self.now.body) (B.post self.now.body) }
         ensures { Reads (reader.choice limit (expression_in self.now.depth)
             (body_in self.now.depth) inn test tokens.old) result tokens.new }
     {

@@ -2,27 +2,22 @@
 
 ghost use Rattle.std.specs.Prelude.{◌<◌};
 ghost use Rattle.js_grammar.specs.ExpressionReader as reader;
-ghost use Rattle.expression_parser.specs.Inside.{Nests, limit, expression_in, body_in};
+ghost use Rattle.expression_parser.specs.Inside.{limit, expression_in, body_in};
 ghost use Rattle.expression_parser.specs.Reads.{Reads};
 
 use crate::cursor::Cursor;
 use crate::fault::ParseFault;
 use crate::grammar::Grammar;
+use crate::inside::Inside;
 use crate::nodes;
 use crate::operators::{climbs, infix_of, level_of};
-use js_core::{Expr, Stmt};
+use js_core::Expr;
 use js_grammar::Level;
-use std::alloc::Global;
 
-impl<
-    E: Fn(Global, usize, bool, Level, &mut Cursor<'_>) -> Result<Expr, ParseFault>,
-    B: Fn(Global, usize, &mut Cursor<'_>) -> Result<Vec<Stmt>, ParseFault>,
-> Grammar<E, B> {
+impl<I: Inside> Grammar<I> {
     /// Reads a binary expression of this level or a tighter one.
     #[tactic(auto, unfolding(js_grammar::specs::ExpressionReader::climb))]
     pub fn climb(&self, inn: bool, least: u32, tokens: &mut Cursor<'_>) -> Result<Expr, ParseFault>
-        requires { Nests self.now.depth (E.pre self.now.expression) (E.post self.now.expression)
-            (B.pre self.now.body) (B.post self.now.body) }
         ensures { Reads (reader.climb limit (expression_in self.now.depth)
             (body_in self.now.depth) inn least tokens.old) result tokens.new }
     {
@@ -38,8 +33,6 @@ impl<
         mut left: Expr,
         tokens: &mut Cursor<'_>,
     ) -> Result<Expr, ParseFault>
-        requires { Nests self.now.depth (E.pre self.now.expression) (E.post self.now.expression)
-            (B.pre self.now.body) (B.post self.now.body) }
         ensures { Reads (reader.operations limit (expression_in self.now.depth)
             (body_in self.now.depth) inn least left tokens.old) result tokens.new }
     {
@@ -55,8 +48,6 @@ impl<
     /// Reads an operator and its second operand.
     #[tactic(auto, unfolding(js_grammar::specs::ExpressionReader::operation, js_grammar::specs::Parser::within_limit))]
     fn operation(&self, inn: bool, left: Expr, tokens: &mut Cursor<'_>) -> Result<Expr, ParseFault>
-        requires { Nests self.now.depth (E.pre self.now.expression) (E.post self.now.expression)
-            (B.pre self.now.body) (B.post self.now.body) }
         ensures { Reads (reader.operation limit (expression_in self.now.depth)
             (body_in self.now.depth) inn left tokens.old) result tokens.new }
     {

@@ -1,33 +1,40 @@
-//! What stands inside an expression.
+//! The readers of expressions.
 
-ghost use Rattle.expression_parser.specs.Inside.{Nests, expression_in, body_in};
+ghost use Rattle.std.specs.Prelude.{◌≡◌};
+ghost use Rattle.expression_parser.specs.Inside.{expression_in, body_in};
 ghost use Rattle.expression_parser.specs.Reads.{Reads, ReadsAll};
 
 use crate::cursor::Cursor;
+use crate::depth::Depth;
 use crate::fault::ParseFault;
+use crate::inside::Inside;
 use js_core::{Expr, Stmt};
 use js_grammar::Level;
 use std::alloc::Global;
 
-/// The functions that read what stands inside an expression, and how deep that may nest. The methods read the phrases of
-/// ECMA-262 5.1 section 11. Each goes behind what it reads, and answers `NotScript` where the grammar has no such phrase of
-/// a height up to the limit; after an error it stands anywhere in between.
-#[derive(Clone, Copy)]
-pub struct Grammar<E, B> {
+/// What reads the phrases of ECMA-262 5.1 section 11, a method for each. Each goes behind what it reads, and answers
+/// `NotScript` where the grammar has no such phrase of a height up to the limit; after an error it stands anywhere in
+/// between.
+#[derive(Drop)]
+pub struct Grammar<I: Inside> {
     /// Where trees are kept.
     pub alloc: Global,
     /// Parts inside nest less deep.
-    pub depth: usize,
-    /// Reads an expression, to a depth: whether `in` is an operator, and the level.
-    pub expression: E,
-    /// Reads what stands between the braces of a function, to a depth.
-    pub body: B,
+    pub depth: Depth<I>,
 }
 
-impl<
-    E: Fn(Global, usize, bool, Level, &mut Cursor<'_>) -> Result<Expr, ParseFault>,
-    B: Fn(Global, usize, &mut Cursor<'_>) -> Result<Vec<Stmt>, ParseFault>,
-> Grammar<E, B> {
+impl<I: Inside> Grammar<I> {
+    /// Whose parts, which this reads, nest less deep than `depth`.
+    pub fn new(alloc: Global, depth: usize, inside: I) -> Grammar<I>
+        requires { I.nests inside depth }
+        ensures { result.depth ≡ depth }
+    {
+        Grammar {
+            alloc,
+            depth: Depth::new(depth, inside),
+        }
+    }
+
     /// Reads an expression inside.
     pub fn expression(
         &self,
@@ -35,19 +42,15 @@ impl<
         level: Level,
         tokens: &mut Cursor<'_>,
     ) -> Result<Expr, ParseFault>
-        requires { Nests self.now.depth (E.pre self.now.expression) (E.post self.now.expression)
-            (B.pre self.now.body) (B.post self.now.body) }
         ensures { Reads (expression_in self.now.depth inn level tokens.old) result tokens.new }
     {
-        (self.expression)(self.alloc, self.depth, inn, level, tokens)
+        self.depth.expression(self.alloc, inn, level, tokens)
     }
 
     /// Reads what stands between the braces of a function.
     pub fn body(&self, tokens: &mut Cursor<'_>) -> Result<Vec<Stmt>, ParseFault>
-        requires { Nests self.now.depth (E.pre self.now.expression) (E.post self.now.expression)
-            (B.pre self.now.body) (B.post self.now.body) }
         ensures { ReadsAll (body_in self.now.depth tokens.old) result tokens.new }
     {
-        (self.body)(self.alloc, self.depth, tokens)
+        self.depth.body(self.alloc, tokens)
     }
 }

@@ -1,26 +1,20 @@
 //! Expressions that begin with a group (ECMA-262 5.1 section 11.1.6).
 
 ghost use Rattle.expression_parser.specs.Groups.{closing};
-ghost use Rattle.expression_parser.specs.Inside.{Nests};
 ghost use Rattle.expression_parser.specs.Reads.{Reads};
 
 use crate::cursor::Cursor;
 use crate::fault::ParseFault;
 use crate::grammar::Grammar;
-use js_core::{Expr, Punct, Stmt};
-use js_grammar::{Level, Sign};
-use std::alloc::Global;
+use crate::inside::Inside;
+use js_core::{Expr, Punct};
+use js_grammar::Sign;
 
-impl<
-    E: Fn(Global, usize, bool, Level, &mut Cursor<'_>) -> Result<Expr, ParseFault>,
-    B: Fn(Global, usize, &mut Cursor<'_>) -> Result<Vec<Stmt>, ParseFault>,
-> Grammar<E, B> {
+impl<I: Inside> Grammar<I> {
     /// Reads the closing parenthesis of a group with this inside, and the rest of the expression, with commas, that the
     /// group begins.
     #[tactic(auto, unfolding(crate::specs::Groups::closing))]
     pub fn closed(&self, inner: Expr, tokens: &mut Cursor<'_>) -> Result<Expr, ParseFault>
-        requires { Nests self.now.depth (E.pre self.now.expression) (E.post self.now.expression)
-            (B.pre self.now.body) (B.post self.now.body) }
         ensures { Reads (closing self.now.depth inner tokens.old) result tokens.new }
     {
         tokens.expect(Sign::Mark(Punct::RightParenthesis))?;

@@ -2,28 +2,23 @@
 
 ghost use Rattle.js_grammar.specs.ExpressionReader as reader;
 ghost use Rattle.js_grammar.specs.Parser.{and_then};
-ghost use Rattle.expression_parser.specs.Inside.{Nests, limit, expression_in, body_in};
+ghost use Rattle.expression_parser.specs.Inside.{limit, expression_in, body_in};
 ghost use Rattle.expression_parser.specs.Reads.{Reads, ReadsAll};
 
 use crate::cursor::Cursor;
 use crate::fault::ParseFault;
 use crate::grammar::Grammar;
+use crate::inside::Inside;
 use crate::lists::listed;
 use crate::nodes;
 use crate::operators::is_suffix;
-use js_core::{Expr, Keyword, Punct, Stmt};
+use js_core::{Expr, Keyword, Punct};
 use js_grammar::{Level, Sign};
-use std::alloc::Global;
 
-impl<
-    E: Fn(Global, usize, bool, Level, &mut Cursor<'_>) -> Result<Expr, ParseFault>,
-    B: Fn(Global, usize, &mut Cursor<'_>) -> Result<Vec<Stmt>, ParseFault>,
-> Grammar<E, B> {
+impl<I: Inside> Grammar<I> {
     /// Reads a left-hand side, with calls or without.
     #[tactic(auto, unfolding(js_grammar::specs::ExpressionReader::left))]
     pub fn left(&self, calls: bool, tokens: &mut Cursor<'_>) -> Result<Expr, ParseFault>
-        requires { Nests self.now.depth (E.pre self.now.expression) (E.post self.now.expression)
-            (B.pre self.now.body) (B.post self.now.body) }
         ensures { Reads (reader.left limit (expression_in self.now.depth)
             (body_in self.now.depth) calls tokens.old) result tokens.new }
     {
@@ -38,8 +33,6 @@ impl<
 
     /// Reads a primary expression and what goes on with it.
     fn extended(&self, calls: bool, tokens: &mut Cursor<'_>) -> Result<Expr, ParseFault>
-        requires { Nests self.now.depth (E.pre self.now.expression) (E.post self.now.expression)
-            (B.pre self.now.body) (B.post self.now.body) }
         ensures { Reads (and_then (reader.primary limit (expression_in self.now.depth)
             (body_in self.now.depth) tokens.old)
             (reader.suffixes limit (expression_in self.now.depth) (body_in self.now.depth) calls))
@@ -51,8 +44,6 @@ impl<
 
     /// Reads the arguments of a call and the parenthesis behind them.
     fn arguments(&self, tokens: &mut Cursor<'_>) -> Result<Vec<Expr>, ParseFault>
-        requires { Nests self.now.depth (E.pre self.now.expression) (E.post self.now.expression)
-            (B.pre self.now.body) (B.post self.now.body) }
         ensures { ReadsAll (reader.arguments limit (expression_in self.now.depth)
             (body_in self.now.depth) tokens.old) result tokens.new }
     {
@@ -64,8 +55,6 @@ impl<
     /// Reads the name behind a point.
     #[tactic(auto, unfolding(js_grammar::specs::ExpressionReader::dotted, js_grammar::specs::Parser::within_limit))]
     fn dotted(&self, left: Expr, tokens: &mut Cursor<'_>) -> Result<Expr, ParseFault>
-        requires { Nests self.now.depth (E.pre self.now.expression) (E.post self.now.expression)
-            (B.pre self.now.body) (B.post self.now.body) }
         ensures { Reads (reader.dotted limit (expression_in self.now.depth)
             (body_in self.now.depth) left tokens.old) result tokens.new }
     {
@@ -76,8 +65,6 @@ impl<
     /// Reads the expression behind an opening bracket, and the closing one.
     #[tactic(auto, unfolding(js_grammar::specs::ExpressionReader::indexed, js_grammar::specs::Parser::within_limit))]
     fn indexed(&self, left: Expr, tokens: &mut Cursor<'_>) -> Result<Expr, ParseFault>
-        requires { Nests self.now.depth (E.pre self.now.expression) (E.post self.now.expression)
-            (B.pre self.now.body) (B.post self.now.body) }
         ensures { Reads (reader.indexed limit (expression_in self.now.depth)
             (body_in self.now.depth) left tokens.old) result tokens.new }
     {
@@ -89,8 +76,6 @@ impl<
     /// Reads the arguments of a call, behind the opening parenthesis.
     #[tactic(auto, unfolding(js_grammar::specs::ExpressionReader::called, js_grammar::specs::Parser::within_limit))]
     fn called(&self, left: Expr, tokens: &mut Cursor<'_>) -> Result<Expr, ParseFault>
-        requires { Nests self.now.depth (E.pre self.now.expression) (E.post self.now.expression)
-            (B.pre self.now.body) (B.post self.now.body) }
         ensures { Reads (reader.called limit (expression_in self.now.depth)
             (body_in self.now.depth) left tokens.old) result tokens.new }
     {
@@ -101,8 +86,6 @@ impl<
     /// Reads one thing that goes on with a left-hand side.
     #[tactic(auto, unfolding(js_grammar::specs::ExpressionReader::suffix))]
     fn suffix(&self, left: Expr, tokens: &mut Cursor<'_>) -> Result<Expr, ParseFault>
-        requires { Nests self.now.depth (E.pre self.now.expression) (E.post self.now.expression)
-            (B.pre self.now.body) (B.post self.now.body) }
         ensures { Reads (reader.suffix limit (expression_in self.now.depth)
             (body_in self.now.depth) left tokens.old) result tokens.new }
     {
@@ -130,8 +113,6 @@ impl<
         mut left: Expr,
         tokens: &mut Cursor<'_>,
     ) -> Result<Expr, ParseFault>
-        requires { Nests self.now.depth (E.pre self.now.expression) (E.post self.now.expression)
-            (B.pre self.now.body) (B.post self.now.body) }
         ensures { Reads (reader.suffixes limit (expression_in self.now.depth)
             (body_in self.now.depth) calls left tokens.old) result tokens.new }
     {
@@ -147,8 +128,6 @@ impl<
     /// Reads what stands behind a `new`.
     #[tactic(auto, unfolding(js_grammar::specs::ExpressionReader::constructed, js_grammar::specs::Parser::within_limit))]
     fn constructed(&self, calls: bool, tokens: &mut Cursor<'_>) -> Result<Expr, ParseFault>
-        requires { Nests self.now.depth (E.pre self.now.expression) (E.post self.now.expression)
-            (B.pre self.now.body) (B.post self.now.body) }
         ensures { Reads (reader.constructed limit (expression_in self.now.depth)
             (body_in self.now.depth) calls tokens.old) result tokens.new }
     {

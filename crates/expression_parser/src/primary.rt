@@ -5,15 +5,16 @@ ghost use Rattle.js_grammar.specs.ExpressionReader as reader;
 ghost use Rattle.js_core.specs.declared.token.Punct.TheVariants.{RightBrace, RightBracket};
 ghost use Rattle.js_grammar.specs.Parser.{many};
 ghost use Rattle.js_grammar.specs.declared.sign.Sign.TheVariants.{Mark, Word};
-ghost use Rattle.expression_parser.specs.Inside.{Nests, limit, expression_in, body_in};
+ghost use Rattle.expression_parser.specs.Inside.{limit, expression_in, body_in};
 ghost use Rattle.expression_parser.specs.Reads.{Reads, ReadsAll};
 
 use crate::cursor::Cursor;
 use crate::fault::ParseFault;
 use crate::grammar::Grammar;
+use crate::inside::Inside;
 use crate::lists::{listed, many};
 use crate::nodes;
-use js_core::{Code, Expr, ExprNode, Keyword, Punct, Stmt, Units};
+use js_core::{Code, Expr, ExprNode, Keyword, Punct, Units};
 use js_grammar::{Level, Sign};
 use std::alloc::Global;
 
@@ -24,15 +25,10 @@ fn formal_names(alloc: Global, tokens: &mut Cursor<'_>) -> Result<Vec<Units>, Pa
     listed(alloc, tokens, |tokens| tokens.identifier())
 }
 
-impl<
-    E: Fn(Global, usize, bool, Level, &mut Cursor<'_>) -> Result<Expr, ParseFault>,
-    B: Fn(Global, usize, &mut Cursor<'_>) -> Result<Vec<Stmt>, ParseFault>,
-> Grammar<E, B> {
+impl<I: Inside> Grammar<I> {
     /// Reads a primary expression.
     #[tactic(auto, unfolding(js_grammar::specs::ExpressionReader::primary))]
     pub fn primary(&self, tokens: &mut Cursor<'_>) -> Result<Expr, ParseFault>
-        requires { Nests self.now.depth (E.pre self.now.expression) (E.post self.now.expression)
-            (B.pre self.now.body) (B.post self.now.body) }
         ensures { Reads (reader.primary limit (expression_in self.now.depth)
             (body_in self.now.depth) tokens.old) result tokens.new }
     {
@@ -45,8 +41,6 @@ impl<
 
     /// Reads a primary expression where this word comes next.
     fn primary_of_word(&self, word: Keyword, tokens: &mut Cursor<'_>) -> Result<Expr, ParseFault>
-        requires { Nests self.now.depth (E.pre self.now.expression) (E.post self.now.expression)
-            (B.pre self.now.body) (B.post self.now.body) }
         ensures { Reads (reader.primary_by limit (expression_in self.now.depth)
             (body_in self.now.depth) (Some (Word word)) tokens.old) result tokens.new }
     {
@@ -77,8 +71,6 @@ impl<
 
     /// Reads a primary expression where this punctuator comes next.
     fn primary_of_mark(&self, mark: Punct, tokens: &mut Cursor<'_>) -> Result<Expr, ParseFault>
-        requires { Nests self.now.depth (E.pre self.now.expression) (E.post self.now.expression)
-            (B.pre self.now.body) (B.post self.now.body) }
         ensures { Reads (reader.primary_by limit (expression_in self.now.depth)
             (body_in self.now.depth) (Some (Mark mark)) tokens.old) result tokens.new }
     {
@@ -102,8 +94,6 @@ impl<
     /// Reads an element of an array literal, and the comma behind it, if one comes; `None` is an elision.
     #[tactic(auto, unfolding(js_grammar::specs::ExpressionReader::element))]
     fn element(&self, tokens: &mut Cursor<'_>) -> Result<Option<Expr>, ParseFault>
-        requires { Nests self.now.depth (E.pre self.now.expression) (E.post self.now.expression)
-            (B.pre self.now.body) (B.post self.now.body) }
         ensures { Reads (reader.element limit (expression_in self.now.depth)
             (body_in self.now.depth) tokens.old) result tokens.new }
     {
@@ -118,8 +108,6 @@ impl<
 
     /// Reads the elements of an array literal.
     fn elements(&self, tokens: &mut Cursor<'_>) -> Result<Vec<Option<Expr>>, ParseFault>
-        requires { Nests self.now.depth (E.pre self.now.expression) (E.post self.now.expression)
-            (B.pre self.now.body) (B.post self.now.body) }
         ensures { ReadsAll (many (reader.comes_before RightBracket)
             (reader.element limit (expression_in self.now.depth) (body_in self.now.depth))
             tokens.old) result tokens.new }
@@ -135,8 +123,6 @@ impl<
     /// Reads an array literal, behind its bracket.
     #[tactic(auto, unfolding(js_grammar::specs::ExpressionReader::array, js_grammar::specs::Parser::within_limit))]
     fn array(&self, tokens: &mut Cursor<'_>) -> Result<Expr, ParseFault>
-        requires { Nests self.now.depth (E.pre self.now.expression) (E.post self.now.expression)
-            (B.pre self.now.body) (B.post self.now.body) }
         ensures { Reads (reader.array limit (expression_in self.now.depth)
             (body_in self.now.depth) tokens.old) result tokens.new }
     {
@@ -148,8 +134,6 @@ impl<
     /// Reads a property of an object literal, and the comma behind it, if one comes.
     #[tactic(auto, unfolding(js_grammar::specs::ExpressionReader::field))]
     fn field(&self, tokens: &mut Cursor<'_>) -> Result<(Units, Expr), ParseFault>
-        requires { Nests self.now.depth (E.pre self.now.expression) (E.post self.now.expression)
-            (B.pre self.now.body) (B.post self.now.body) }
         ensures { Reads (reader.field limit (expression_in self.now.depth)
             (body_in self.now.depth) tokens.old) result tokens.new }
     {
@@ -162,8 +146,6 @@ impl<
 
     /// Reads the properties of an object literal.
     fn fields(&self, tokens: &mut Cursor<'_>) -> Result<Vec<(Units, Expr)>, ParseFault>
-        requires { Nests self.now.depth (E.pre self.now.expression) (E.post self.now.expression)
-            (B.pre self.now.body) (B.post self.now.body) }
         ensures { ReadsAll (many (reader.comes_before RightBrace)
             (reader.field limit (expression_in self.now.depth) (body_in self.now.depth)) tokens.old)
             result tokens.new }
@@ -179,8 +161,6 @@ impl<
     /// Reads an object literal, behind its brace.
     #[tactic(auto, unfolding(js_grammar::specs::ExpressionReader::object, js_grammar::specs::Parser::within_limit))]
     fn object(&self, tokens: &mut Cursor<'_>) -> Result<Expr, ParseFault>
-        requires { Nests self.now.depth (E.pre self.now.expression) (E.post self.now.expression)
-            (B.pre self.now.body) (B.post self.now.body) }
         ensures { Reads (reader.object limit (expression_in self.now.depth)
             (body_in self.now.depth) tokens.old) result tokens.new }
     {
@@ -192,8 +172,6 @@ impl<
     /// Reads an expression and the parenthesis behind it.
     #[tactic(auto, unfolding(js_grammar::specs::ExpressionReader::group))]
     fn group(&self, tokens: &mut Cursor<'_>) -> Result<Expr, ParseFault>
-        requires { Nests self.now.depth (E.pre self.now.expression) (E.post self.now.expression)
-            (B.pre self.now.body) (B.post self.now.body) }
         ensures { Reads (reader.group limit (expression_in self.now.depth)
             (body_in self.now.depth) tokens.old) result tokens.new }
     {
@@ -205,8 +183,6 @@ impl<
     /// Reads the formals and the body of the function with this name.
     #[tactic(auto, unfolding(js_grammar::specs::ExpressionReader::procedure))]
     pub fn procedure(&self, own: Option<Units>, tokens: &mut Cursor<'_>) -> Result<Code, ParseFault>
-        requires { Nests self.now.depth (E.pre self.now.expression) (E.post self.now.expression)
-            (B.pre self.now.body) (B.post self.now.body) }
         ensures { Reads (reader.procedure limit (expression_in self.now.depth)
             (body_in self.now.depth) own tokens.old) result tokens.new }
     {
@@ -221,8 +197,6 @@ impl<
     /// Reads a function expression, behind its `function`.
     #[tactic(auto, unfolding(js_grammar::specs::ExpressionReader::function, js_grammar::specs::Parser::within_limit))]
     fn function(&self, tokens: &mut Cursor<'_>) -> Result<Expr, ParseFault>
-        requires { Nests self.now.depth (E.pre self.now.expression) (E.post self.now.expression)
-            (B.pre self.now.body) (B.post self.now.body) }
         ensures { Reads (reader.function limit (expression_in self.now.depth)
             (body_in self.now.depth) tokens.old) result tokens.new }
     {

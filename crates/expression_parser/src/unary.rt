@@ -3,27 +3,22 @@
 ghost use Rattle.std.specs.Prelude.{true};
 ghost use Rattle.js_grammar.specs.ExpressionReader as reader;
 ghost use Rattle.js_grammar.specs.Parser.{and_then};
-ghost use Rattle.expression_parser.specs.Inside.{Nests, limit, expression_in, body_in};
+ghost use Rattle.expression_parser.specs.Inside.{limit, expression_in, body_in};
 ghost use Rattle.expression_parser.specs.Reads.{Reads};
 
 use crate::cursor::Cursor;
 use crate::fault::ParseFault;
 use crate::grammar::Grammar;
+use crate::inside::Inside;
 use crate::nodes;
 use crate::operators::prefix_of;
-use js_core::{Expr, Stmt};
+use js_core::Expr;
 use js_grammar::{Level, Prefix};
-use std::alloc::Global;
 
-impl<
-    E: Fn(Global, usize, bool, Level, &mut Cursor<'_>) -> Result<Expr, ParseFault>,
-    B: Fn(Global, usize, &mut Cursor<'_>) -> Result<Vec<Stmt>, ParseFault>,
-> Grammar<E, B> {
+impl<I: Inside> Grammar<I> {
     /// Reads a unary expression.
     #[tactic(auto, unfolding(js_grammar::specs::ExpressionReader::unary))]
     pub fn unary(&self, tokens: &mut Cursor<'_>) -> Result<Expr, ParseFault>
-        requires { Nests self.now.depth (E.pre self.now.expression) (E.post self.now.expression)
-            (B.pre self.now.body) (B.post self.now.body) }
         ensures { Reads (reader.unary limit (expression_in self.now.depth)
             (body_in self.now.depth) tokens.old) result tokens.new }
     {
@@ -38,8 +33,6 @@ impl<
 
     /// Reads a left-hand side and the step behind it, if one comes.
     fn stepped(&self, tokens: &mut Cursor<'_>) -> Result<Expr, ParseFault>
-        requires { Nests self.now.depth (E.pre self.now.expression) (E.post self.now.expression)
-            (B.pre self.now.body) (B.post self.now.body) }
         ensures { Reads (and_then (reader.left limit (expression_in self.now.depth)
             (body_in self.now.depth) true tokens.old)
             (reader.postfix limit (expression_in self.now.depth) (body_in self.now.depth))) result
@@ -52,8 +45,6 @@ impl<
     /// Reads the `++` or `--` behind this expression, if one comes in the same line.
     #[tactic(auto, unfolding(js_grammar::specs::ExpressionReader::postfix, js_grammar::specs::Parser::within_limit))]
     pub fn postfix(&self, target: Expr, tokens: &mut Cursor<'_>) -> Result<Expr, ParseFault>
-        requires { Nests self.now.depth (E.pre self.now.expression) (E.post self.now.expression)
-            (B.pre self.now.body) (B.post self.now.body) }
         ensures { Reads (reader.postfix limit (expression_in self.now.depth)
             (body_in self.now.depth) target tokens.old) result tokens.new }
     {
@@ -69,8 +60,6 @@ impl<
     /// Reads the operand of this operator.
     #[tactic(auto, unfolding(js_grammar::specs::ExpressionReader::operated, js_grammar::specs::Parser::within_limit))]
     pub fn operated(&self, operator: Prefix, tokens: &mut Cursor<'_>) -> Result<Expr, ParseFault>
-        requires { Nests self.now.depth (E.pre self.now.expression) (E.post self.now.expression)
-            (B.pre self.now.body) (B.post self.now.body) }
         ensures { Reads (reader.operated limit (expression_in self.now.depth)
             (body_in self.now.depth) operator tokens.old) result tokens.new }
     {

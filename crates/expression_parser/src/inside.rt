@@ -1,0 +1,49 @@
+//! What stands inside a phrase.
+
+ghost use Rattle.std.specs.Prelude.{ℕ};
+ghost use Rattle.expression_parser.specs.Inside.{expression_in, body_in, statement_in};
+ghost use Rattle.expression_parser.specs.Reads.{Reads, ReadsAll};
+
+use crate::cursor::Cursor;
+use crate::fault::ParseFault;
+use js_core::{Expr, Stmt};
+use js_grammar::Level;
+use std::alloc::Global;
+
+/// Reads what stands inside a phrase, where parts nest less deep than a number.
+pub trait Inside {
+    // Whether it reads so, to this depth.
+    ghost nests: { Self → ℕ → Type 0 };
+
+    /// Reads an expression: whether `in` is an operator, and the level.
+    fn expression(
+        &self,
+        alloc: Global,
+        depth: usize,
+        inn: bool,
+        level: Level,
+        tokens: &mut Cursor<'_>,
+    ) -> Result<Expr, ParseFault>
+        requires { nests self.now depth }
+        ensures { Reads (expression_in depth inn level tokens.old) result tokens.new };
+
+    /// Reads what stands between the braces of a function.
+    fn body(
+        &self,
+        alloc: Global,
+        depth: usize,
+        tokens: &mut Cursor<'_>,
+    ) -> Result<Vec<Stmt>, ParseFault>
+        requires { nests self.now depth }
+        ensures { ReadsAll (body_in depth tokens.old) result tokens.new };
+
+    /// Reads a statement.
+    fn statement(
+        &self,
+        alloc: Global,
+        depth: usize,
+        tokens: &mut Cursor<'_>,
+    ) -> Result<Stmt, ParseFault>
+        requires { nests self.now depth }
+        ensures { Reads (statement_in depth tokens.old) result tokens.new };
+}
