@@ -1,5 +1,5 @@
 pub mod Beginnings
 pub mod Clauses
+pub mod Functions
 pub mod Groups
-pub mod Inner
 pub mod Whole

@@ -1,31 +1,20 @@
 //! Blocks (ECMA-262 5.1 section 12.1) and `if` (section 12.5).
 
 ghost use Rattle.js_grammar.specs.StatementReader as reader;
-ghost use Rattle.expression_parser.specs.Inside.{Nests, limit, expression_in, body_in};
+ghost use Rattle.expression_parser.specs.Inside.{limit, expression_in, body_in, statement_in};
 ghost use Rattle.expression_parser.specs.Reads.{Reads};
-ghost use Rattle.script_parser.specs.Inner.{StatementsNest, statement_in};
 ghost use Rattle.expression_parser.specs.Reads.{ReadsAll};
 ghost use Rattle.js_grammar.specs.Parser.{many as spec_many};
 
 use crate::ending::has_more;
 use crate::inner::{Statements, body_of};
 use crate::node::node;
-use expression_parser::{Cursor, ParseFault, many};
+use expression_parser::{Cursor, Inside, ParseFault, many};
 use js_core::{Expr, Keyword, Punct, Stmt, StmtNode};
-use js_grammar::{Level, Sign};
-use std::alloc::Global;
+use js_grammar::Sign;
 
-impl<
-    E: Fn(Global, usize, bool, Level, &mut Cursor<'_>) -> Result<Expr, ParseFault>,
-    B: Fn(Global, usize, &mut Cursor<'_>) -> Result<Vec<Stmt>, ParseFault>,
-    S: Fn(Global, usize, &mut Cursor<'_>) -> Result<Stmt, ParseFault>,
-> Statements<E, B, S> {
+impl<I: Inside> Statements<I> {
     fn statements(&self, tokens: &mut Cursor<'_>) -> Result<Vec<Stmt>, ParseFault>
-        requires expressions { Nests self.now.grammar.depth (E.pre self.now.grammar.expression)
-            (E.post self.now.grammar.expression) (B.pre self.now.grammar.body)
-            (B.post self.now.grammar.body) }
-        requires statements { StatementsNest self.now.grammar.depth (S.pre self.now.statement)
-            (S.post self.now.statement) }
         ensures { ReadsAll (spec_many reader.has_more
             (statement_in self.now.grammar.depth) tokens.old) result tokens.new }
     {
@@ -40,11 +29,6 @@ impl<
     /// Reads statements in braces.
     #[tactic(auto, unfolding(js_grammar::specs::StatementReader::braced))]
     pub fn braced(&self, tokens: &mut Cursor<'_>) -> Result<Vec<Stmt>, ParseFault>
-        requires expressions { Nests self.now.grammar.depth (E.pre self.now.grammar.expression)
-            (E.post self.now.grammar.expression) (B.pre self.now.grammar.body)
-            (B.post self.now.grammar.body) }
-        requires statements { StatementsNest self.now.grammar.depth (S.pre self.now.statement)
-            (S.post self.now.statement) }
         ensures { ReadsAll (reader.braced limit (expression_in self.now.grammar.depth)
             (body_in self.now.grammar.depth) (statement_in self.now.grammar.depth) tokens.old)
             result tokens.new }
@@ -58,11 +42,6 @@ impl<
     /// Reads a block.
     #[tactic(auto, unfolding(js_grammar::specs::StatementReader::block))]
     pub fn block(&self, tokens: &mut Cursor<'_>) -> Result<Stmt, ParseFault>
-        requires expressions { Nests self.now.grammar.depth (E.pre self.now.grammar.expression)
-            (E.post self.now.grammar.expression) (B.pre self.now.grammar.body)
-            (B.post self.now.grammar.body) }
-        requires statements { StatementsNest self.now.grammar.depth (S.pre self.now.statement)
-            (S.post self.now.statement) }
         ensures { Reads (reader.block limit (expression_in self.now.grammar.depth)
             (body_in self.now.grammar.depth) (statement_in self.now.grammar.depth) tokens.old)
             result tokens.new }
@@ -74,11 +53,6 @@ impl<
     /// Reads an expression in parentheses.
     #[tactic(auto, unfolding(js_grammar::specs::StatementReader::condition))]
     pub fn condition(&self, tokens: &mut Cursor<'_>) -> Result<Expr, ParseFault>
-        requires expressions { Nests self.now.grammar.depth (E.pre self.now.grammar.expression)
-            (E.post self.now.grammar.expression) (B.pre self.now.grammar.body)
-            (B.post self.now.grammar.body) }
-        requires statements { StatementsNest self.now.grammar.depth (S.pre self.now.statement)
-            (S.post self.now.statement) }
         ensures { Reads (reader.condition limit (expression_in self.now.grammar.depth)
             (body_in self.now.grammar.depth) (statement_in self.now.grammar.depth) tokens.old)
             result tokens.new }
@@ -92,11 +66,6 @@ impl<
     /// Reads what stands behind `if`. An `else` belongs to the nearest `if`.
     #[tactic(auto, unfolding(js_grammar::specs::StatementReader::conditional, js_grammar::specs::Parser::eat))]
     pub fn conditional(&self, tokens: &mut Cursor<'_>) -> Result<Stmt, ParseFault>
-        requires expressions { Nests self.now.grammar.depth (E.pre self.now.grammar.expression)
-            (E.post self.now.grammar.expression) (B.pre self.now.grammar.body)
-            (B.post self.now.grammar.body) }
-        requires statements { StatementsNest self.now.grammar.depth (S.pre self.now.statement)
-            (S.post self.now.statement) }
         ensures { Reads (reader.conditional limit (expression_in self.now.grammar.depth)
             (body_in self.now.grammar.depth) (statement_in self.now.grammar.depth) tokens.old)
             result tokens.new }

@@ -3,22 +3,16 @@
 ghost use Rattle.std.specs.Prelude.{true, false};
 ghost use Rattle.js_core.specs.Views.{init_of};
 ghost use Rattle.js_grammar.specs.StatementReader as reader;
-ghost use Rattle.expression_parser.specs.Inside.{Nests, limit, expression_in, body_in};
+ghost use Rattle.expression_parser.specs.Inside.{limit, expression_in, body_in, statement_in};
 ghost use Rattle.expression_parser.specs.Reads.{Reads};
-ghost use Rattle.script_parser.specs.Inner.{StatementsNest, statement_in};
 
 use crate::inner::{Statements, body_of};
 use crate::node::node;
-use expression_parser::{Cursor, ParseFault, prefix_of};
+use expression_parser::{Cursor, Inside, ParseFault, prefix_of};
 use js_core::{Declarator, Expr, ExprNode, ForInit, Keyword, Punct, Stmt, StmtNode};
-use js_grammar::{Level, Prefix, Sign};
-use std::alloc::Global;
+use js_grammar::{Prefix, Sign};
 
-impl<
-    E: Fn(Global, usize, bool, Level, &mut Cursor<'_>) -> Result<Expr, ParseFault>,
-    B: Fn(Global, usize, &mut Cursor<'_>) -> Result<Vec<Stmt>, ParseFault>,
-    S: Fn(Global, usize, &mut Cursor<'_>) -> Result<Stmt, ParseFault>,
-> Statements<E, B, S> {
+impl<I: Inside> Statements<I> {
     /// Reads an expression, unless this punctuator comes.
     #[tactic(auto, unfolding(js_grammar::specs::StatementReader::maybe_before))]
     fn maybe_before(
@@ -26,11 +20,6 @@ impl<
         close: Punct,
         tokens: &mut Cursor<'_>,
     ) -> Result<Option<Expr>, ParseFault>
-        requires expressions { Nests self.now.grammar.depth (E.pre self.now.grammar.expression)
-            (E.post self.now.grammar.expression) (B.pre self.now.grammar.body)
-            (B.post self.now.grammar.body) }
-        requires statements { StatementsNest self.now.grammar.depth (S.pre self.now.statement)
-            (S.post self.now.statement) }
         ensures { Reads (reader.maybe_before limit (expression_in self.now.grammar.depth)
             (body_in self.now.grammar.depth) (statement_in self.now.grammar.depth) close tokens.old)
             result tokens.new }
@@ -45,11 +34,6 @@ impl<
     /// Reads a `for` from its first semicolon on.
     #[tactic(auto, unfolding(js_grammar::specs::StatementReader::for_loop))]
     fn for_loop(&self, init: ForInit, tokens: &mut Cursor<'_>) -> Result<Stmt, ParseFault>
-        requires expressions { Nests self.now.grammar.depth (E.pre self.now.grammar.expression)
-            (E.post self.now.grammar.expression) (B.pre self.now.grammar.body)
-            (B.post self.now.grammar.body) }
-        requires statements { StatementsNest self.now.grammar.depth (S.pre self.now.statement)
-            (S.post self.now.statement) }
         ensures { Reads (reader.for_loop limit (expression_in self.now.grammar.depth)
             (body_in self.now.grammar.depth) (statement_in self.now.grammar.depth)
             (init_of init) tokens.old) result tokens.new }
@@ -80,11 +64,6 @@ impl<
         target: Expr,
         tokens: &mut Cursor<'_>,
     ) -> Result<Stmt, ParseFault>
-        requires expressions { Nests self.now.grammar.depth (E.pre self.now.grammar.expression)
-            (E.post self.now.grammar.expression) (B.pre self.now.grammar.body)
-            (B.post self.now.grammar.body) }
-        requires statements { StatementsNest self.now.grammar.depth (S.pre self.now.statement)
-            (S.post self.now.statement) }
         ensures { Reads (reader.for_in limit (expression_in self.now.grammar.depth)
             (body_in self.now.grammar.depth) (statement_in self.now.grammar.depth) declared target
             tokens.old) result tokens.new }
@@ -106,11 +85,6 @@ impl<
 
     /// Reads a `for` from behind its `in`, whose variable has this declaration. `NotScript` where it has an initialiser.
     fn for_in_by(&self, declarator: Declarator, tokens: &mut Cursor<'_>) -> Result<Stmt, ParseFault>
-        requires expressions { Nests self.now.grammar.depth (E.pre self.now.grammar.expression)
-            (E.post self.now.grammar.expression) (B.pre self.now.grammar.body)
-            (B.post self.now.grammar.body) }
-        requires statements { StatementsNest self.now.grammar.depth (S.pre self.now.statement)
-            (S.post self.now.statement) }
         ensures { Reads (reader.for_in_by limit (expression_in self.now.grammar.depth)
             (body_in self.now.grammar.depth) (statement_in self.now.grammar.depth) declarator.value
             declarator.name tokens.old) result tokens.new }
@@ -130,11 +104,6 @@ impl<
         mut found: Vec<Declarator>,
         tokens: &mut Cursor<'_>,
     ) -> Result<Stmt, ParseFault>
-        requires expressions { Nests self.now.grammar.depth (E.pre self.now.grammar.expression)
-            (E.post self.now.grammar.expression) (B.pre self.now.grammar.body)
-            (B.post self.now.grammar.body) }
-        requires statements { StatementsNest self.now.grammar.depth (S.pre self.now.statement)
-            (S.post self.now.statement) }
         ensures { Reads (reader.for_in_declared limit (expression_in self.now.grammar.depth)
             (body_in self.now.grammar.depth) (statement_in self.now.grammar.depth) found.items
             tokens.old) result tokens.new }
@@ -151,11 +120,6 @@ impl<
     /// Reads a `for` from behind its `var`.
     #[tactic(auto, unfolding(js_grammar::specs::StatementReader::for_variables, js_grammar::specs::Parser::eat))]
     fn for_variables(&self, tokens: &mut Cursor<'_>) -> Result<Stmt, ParseFault>
-        requires expressions { Nests self.now.grammar.depth (E.pre self.now.grammar.expression)
-            (E.post self.now.grammar.expression) (B.pre self.now.grammar.body)
-            (B.post self.now.grammar.body) }
-        requires statements { StatementsNest self.now.grammar.depth (S.pre self.now.statement)
-            (S.post self.now.statement) }
         ensures { Reads (reader.for_variables limit (expression_in self.now.grammar.depth)
             (body_in self.now.grammar.depth) (statement_in self.now.grammar.depth) tokens.old)
             result tokens.new }
@@ -174,11 +138,6 @@ impl<
         is_in: bool,
         tokens: &mut Cursor<'_>,
     ) -> Result<Stmt, ParseFault>
-        requires expressions { Nests self.now.grammar.depth (E.pre self.now.grammar.expression)
-            (E.post self.now.grammar.expression) (B.pre self.now.grammar.body)
-            (B.post self.now.grammar.body) }
-        requires statements { StatementsNest self.now.grammar.depth (S.pre self.now.statement)
-            (S.post self.now.statement) }
         ensures { Reads (reader.for_target_by limit (expression_in self.now.grammar.depth)
             (body_in self.now.grammar.depth) (statement_in self.now.grammar.depth) target is_in
             tokens.old) result tokens.new }
@@ -198,11 +157,6 @@ impl<
         prefix: Option<Prefix>,
         tokens: &mut Cursor<'_>,
     ) -> Result<Stmt, ParseFault>
-        requires expressions { Nests self.now.grammar.depth (E.pre self.now.grammar.expression)
-            (E.post self.now.grammar.expression) (B.pre self.now.grammar.body)
-            (B.post self.now.grammar.body) }
-        requires statements { StatementsNest self.now.grammar.depth (S.pre self.now.statement)
-            (S.post self.now.statement) }
         ensures { Reads (reader.for_expression limit (expression_in self.now.grammar.depth)
             (body_in self.now.grammar.depth) (statement_in self.now.grammar.depth) prefix
             tokens.old) result tokens.new }
@@ -218,11 +172,6 @@ impl<
 
     /// Reads a `for` from behind its parenthesis, where this sign comes.
     fn for_by(&self, sign: Option<Sign>, tokens: &mut Cursor<'_>) -> Result<Stmt, ParseFault>
-        requires expressions { Nests self.now.grammar.depth (E.pre self.now.grammar.expression)
-            (E.post self.now.grammar.expression) (B.pre self.now.grammar.body)
-            (B.post self.now.grammar.body) }
-        requires statements { StatementsNest self.now.grammar.depth (S.pre self.now.statement)
-            (S.post self.now.statement) }
         ensures { Reads (reader.for_by limit (expression_in self.now.grammar.depth)
             (body_in self.now.grammar.depth) (statement_in self.now.grammar.depth) sign tokens.old)
             result tokens.new }
@@ -240,11 +189,6 @@ impl<
     /// Reads what stands behind `for`.
     #[tactic(auto, unfolding(js_grammar::specs::StatementReader::for_statement))]
     pub fn for_statement(&self, tokens: &mut Cursor<'_>) -> Result<Stmt, ParseFault>
-        requires expressions { Nests self.now.grammar.depth (E.pre self.now.grammar.expression)
-            (E.post self.now.grammar.expression) (B.pre self.now.grammar.body)
-            (B.post self.now.grammar.body) }
-        requires statements { StatementsNest self.now.grammar.depth (S.pre self.now.statement)
-            (S.post self.now.statement) }
         ensures { Reads (reader.for_statement limit (expression_in self.now.grammar.depth)
             (body_in self.now.grammar.depth) (statement_in self.now.grammar.depth) tokens.old)
             result tokens.new }

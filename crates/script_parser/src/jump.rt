@@ -1,31 +1,20 @@
 //! `continue`, `break`, `return` and `throw` (ECMA-262 5.1 sections 12.7 to 12.9 and 12.13).
 
 ghost use Rattle.js_grammar.specs.StatementReader as reader;
-ghost use Rattle.expression_parser.specs.Inside.{Nests, limit, expression_in, body_in};
+ghost use Rattle.expression_parser.specs.Inside.{limit, expression_in, body_in, statement_in};
 ghost use Rattle.expression_parser.specs.Reads.{Reads};
-ghost use Rattle.script_parser.specs.Inner.{StatementsNest, statement_in};
 
 use crate::ending::{READ_EXPRESSION, ended, returns};
 use crate::inner::Statements;
 use crate::node::node;
-use expression_parser::{Cursor, ParseFault};
-use js_core::{Expr, Stmt, StmtNode};
-use js_grammar::{Ending, Level};
-use std::alloc::Global;
+use expression_parser::{Cursor, Inside, ParseFault};
+use js_core::{Stmt, StmtNode};
+use js_grammar::Ending;
 
-impl<
-    E: Fn(Global, usize, bool, Level, &mut Cursor<'_>) -> Result<Expr, ParseFault>,
-    B: Fn(Global, usize, &mut Cursor<'_>) -> Result<Vec<Stmt>, ParseFault>,
-    S: Fn(Global, usize, &mut Cursor<'_>) -> Result<Stmt, ParseFault>,
-> Statements<E, B, S> {
+impl<I: Inside> Statements<I> {
     /// Reads the end of this statement.
     #[tactic(auto, unfolding(js_grammar::specs::StatementReader::ended_as))]
     pub fn ended_as(&self, statement: Stmt, tokens: &mut Cursor<'_>) -> Result<Stmt, ParseFault>
-        requires expressions { Nests self.now.grammar.depth (E.pre self.now.grammar.expression)
-            (E.post self.now.grammar.expression) (B.pre self.now.grammar.body)
-            (B.post self.now.grammar.body) }
-        requires statements { StatementsNest self.now.grammar.depth (S.pre self.now.statement)
-            (S.post self.now.statement) }
         ensures { Reads (reader.ended_as limit (expression_in self.now.grammar.depth)
             (body_in self.now.grammar.depth) (statement_in self.now.grammar.depth) statement
             tokens.old) result tokens.new }
@@ -37,11 +26,6 @@ impl<
     /// Reads the operand of a `return`, and its end.
     #[tactic(auto, unfolding(js_grammar::specs::StatementReader::returned))]
     fn returned(&self, tokens: &mut Cursor<'_>) -> Result<Stmt, ParseFault>
-        requires expressions { Nests self.now.grammar.depth (E.pre self.now.grammar.expression)
-            (E.post self.now.grammar.expression) (B.pre self.now.grammar.body)
-            (B.post self.now.grammar.body) }
-        requires statements { StatementsNest self.now.grammar.depth (S.pre self.now.statement)
-            (S.post self.now.statement) }
         ensures { Reads (reader.returned limit (expression_in self.now.grammar.depth)
             (body_in self.now.grammar.depth) (statement_in self.now.grammar.depth) tokens.old)
             result tokens.new }
@@ -52,11 +36,6 @@ impl<
     }
 
     fn return_by(&self, is_bare: bool, tokens: &mut Cursor<'_>) -> Result<Stmt, ParseFault>
-        requires expressions { Nests self.now.grammar.depth (E.pre self.now.grammar.expression)
-            (E.post self.now.grammar.expression) (B.pre self.now.grammar.body)
-            (B.post self.now.grammar.body) }
-        requires statements { StatementsNest self.now.grammar.depth (S.pre self.now.statement)
-            (S.post self.now.statement) }
         ensures { Reads (reader.return_by limit (expression_in self.now.grammar.depth)
             (body_in self.now.grammar.depth) (statement_in self.now.grammar.depth) is_bare
             tokens.old) result tokens.new }
@@ -70,11 +49,6 @@ impl<
 
     /// Reads what stands behind `return`: an operand only where it stands in the same line.
     pub fn return_statement(&self, tokens: &mut Cursor<'_>) -> Result<Stmt, ParseFault>
-        requires expressions { Nests self.now.grammar.depth (E.pre self.now.grammar.expression)
-            (E.post self.now.grammar.expression) (B.pre self.now.grammar.body)
-            (B.post self.now.grammar.body) }
-        requires statements { StatementsNest self.now.grammar.depth (S.pre self.now.statement)
-            (S.post self.now.statement) }
         ensures { Reads (reader.return limit (expression_in self.now.grammar.depth)
             (body_in self.now.grammar.depth) (statement_in self.now.grammar.depth) tokens.old)
             result tokens.new }
@@ -84,11 +58,6 @@ impl<
 
     #[tactic(auto, unfolding(js_grammar::specs::StatementReader::thrown))]
     fn thrown(&self, tokens: &mut Cursor<'_>) -> Result<Stmt, ParseFault>
-        requires expressions { Nests self.now.grammar.depth (E.pre self.now.grammar.expression)
-            (E.post self.now.grammar.expression) (B.pre self.now.grammar.body)
-            (B.post self.now.grammar.body) }
-        requires statements { StatementsNest self.now.grammar.depth (S.pre self.now.statement)
-            (S.post self.now.statement) }
         ensures { Reads (reader.thrown limit (expression_in self.now.grammar.depth)
             (body_in self.now.grammar.depth) (statement_in self.now.grammar.depth) tokens.old)
             result tokens.new }
@@ -101,11 +70,6 @@ impl<
     /// Reads what stands behind `throw`. `NotScript` where a line end stands before the operand.
     #[tactic(auto, unfolding(js_grammar::specs::StatementReader::throw))]
     pub fn throw(&self, tokens: &mut Cursor<'_>) -> Result<Stmt, ParseFault>
-        requires expressions { Nests self.now.grammar.depth (E.pre self.now.grammar.expression)
-            (E.post self.now.grammar.expression) (B.pre self.now.grammar.body)
-            (B.post self.now.grammar.body) }
-        requires statements { StatementsNest self.now.grammar.depth (S.pre self.now.statement)
-            (S.post self.now.statement) }
         ensures { Reads (reader.throw limit (expression_in self.now.grammar.depth)
             (body_in self.now.grammar.depth) (statement_in self.now.grammar.depth) tokens.old)
             result tokens.new }

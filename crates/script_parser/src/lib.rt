@@ -5,10 +5,12 @@
 mod control;
 mod ending;
 mod for_loop;
+mod functions;
 mod inner;
 mod jump;
 mod loops;
 mod node;
+mod phrase;
 mod reading;
 mod statement;
 mod switch;

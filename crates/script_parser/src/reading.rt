@@ -4,14 +4,14 @@ ghost use Rattle.std.specs.Prelude.{◌≡◌, ◌-◌, ◌<◌, true, IfOk, IsE
 ghost use Rattle.js_core.specs.Tree as tree;
 ghost use Rattle.js_grammar.specs.ScriptReader.{read_script};
 ghost use Rattle.js_grammar.specs.Scripts.{Derives, ScriptOf, height_limit};
-ghost use Rattle.expression_parser.specs.Inside.{expression_in, body_in};
+ghost use Rattle.expression_parser.specs.Inside.{expression_in, body_in, statement_in};
 ghost use Rattle.expression_parser.specs.Reads.{Reads, ReadsAll, Gives};
 ghost use Rattle.script_parser.specs.Groups.{finished};
-ghost use Rattle.script_parser.specs.Inner.{statement_in};
 ghost use Rattle.script_parser.specs.Whole.{GivesBody};
 
-use crate::inner::Statements;
-use expression_parser::{Cursor, Grammar, ParseFault};
+use crate::functions::Functions;
+use crate::phrase::{any_statement, elements};
+use expression_parser::{Cursor, ParseFault, closed_group, expression_at_level, sequence};
 use js_core::{Expr, Punct, Script, Stmt, Token};
 use js_grammar::{Level, Sign, law_one_script, law_reading_is_the_grammar};
 use std::alloc::Global;
@@ -65,13 +65,18 @@ fn expression_inside(
     }
     match level {
         Level::Sequence if inn => sequence_inside(alloc, depth, tokens),
-        _ => Grammar {
+        _ => expression_at_level(
             alloc,
-            depth: depth - 1,
-            expression: expression_inside,
-            body: body_inside,
-        }
-        .at_level(inn, level, tokens),
+            depth - 1,
+            Functions {
+                expression: expression_inside,
+                body: body_inside,
+                statement: statement_inside,
+            },
+            inn,
+            level,
+            tokens,
+        ),
     }
 }
 
@@ -85,13 +90,17 @@ fn sequence_inside(alloc: Global, depth: usize, tokens: &mut Cursor<'_>) -> Resu
     let opened = open_groups(depth, tokens);
     let mut inner = innermost_inside(alloc, depth - opened, tokens)?;
     for closed in 0..opened {
-        inner = Grammar {
+        inner = closed_group(
             alloc,
-            depth: depth - (opened - closed),
-            expression: expression_inside,
-            body: body_inside,
-        }
-        .closed(inner, tokens)?;
+            depth - (opened - closed),
+            Functions {
+                expression: expression_inside,
+                body: body_inside,
+                statement: statement_inside,
+            },
+            inner,
+            tokens,
+        )?;
     }
     Ok(inner)
 }
@@ -123,13 +132,16 @@ fn innermost_inside(
     requires { 0 < depth }
     ensures { Reads (expression_in depth true Level.Sequence tokens.old) result tokens.new }
 {
-    Grammar {
+    sequence(
         alloc,
-        depth: depth - 1,
-        expression: expression_inside,
-        body: body_inside,
-    }
-    .all(true, tokens)
+        depth - 1,
+        Functions {
+            expression: expression_inside,
+            body: body_inside,
+            statement: statement_inside,
+        },
+        tokens,
+    )
 }
 
 /// Reads what stands between the braces of a function, where parts nest less deep than `depth`.
@@ -144,16 +156,16 @@ fn body_inside(
     if depth == 0 {
         return Err(ParseFault::NotScript);
     }
-    Statements {
-        grammar: Grammar {
-            alloc,
-            depth: depth - 1,
+    elements(
+        alloc,
+        depth - 1,
+        Functions {
             expression: expression_inside,
             body: body_inside,
+            statement: statement_inside,
         },
-        statement: statement_inside,
-    }
-    .elements(tokens)
+        tokens,
+    )
 }
 
 /// Reads a statement, where parts nest less deep than `depth`.
@@ -168,14 +180,14 @@ fn statement_inside(
     if depth == 0 {
         return Err(ParseFault::NotScript);
     }
-    Statements {
-        grammar: Grammar {
-            alloc,
-            depth: depth - 1,
+    any_statement(
+        alloc,
+        depth - 1,
+        Functions {
             expression: expression_inside,
             body: body_inside,
+            statement: statement_inside,
         },
-        statement: statement_inside,
-    }
-    .any_statement(tokens)
+        tokens,
+    )
 }

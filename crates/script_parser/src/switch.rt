@@ -4,32 +4,21 @@ ghost use Rattle.std.specs.Prelude.{◌≡◌};
 ghost use Rattle.js_grammar.specs.Parser.{many as spec_many};
 ghost use Rattle.js_grammar.specs.Statements as spec;
 ghost use Rattle.js_grammar.specs.StatementReader as reader;
-ghost use Rattle.expression_parser.specs.Inside.{Nests, limit, expression_in, body_in};
+ghost use Rattle.expression_parser.specs.Inside.{limit, expression_in, body_in, statement_in};
 ghost use Rattle.expression_parser.specs.Reads.{Reads};
-ghost use Rattle.script_parser.specs.Inner.{StatementsNest, statement_in};
 ghost use Rattle.expression_parser.specs.Reads.{ReadsAll};
 ghost use Rattle.script_parser.specs.Clauses.{ReadsClause, ReadsClauses, clauses_of};
 
 use crate::ending::{has_more, has_more_in_clause};
 use crate::inner::Statements;
 use crate::node::node;
-use expression_parser::{Cursor, ParseFault, many};
+use expression_parser::{Cursor, Inside, ParseFault, many};
 use js_core::{Case, Expr, Keyword, Punct, Stmt, StmtNode};
-use js_grammar::{Level, Sign};
-use std::alloc::Global;
+use js_grammar::Sign;
 
-impl<
-    E: Fn(Global, usize, bool, Level, &mut Cursor<'_>) -> Result<Expr, ParseFault>,
-    B: Fn(Global, usize, &mut Cursor<'_>) -> Result<Vec<Stmt>, ParseFault>,
-    S: Fn(Global, usize, &mut Cursor<'_>) -> Result<Stmt, ParseFault>,
-> Statements<E, B, S> {
+impl<I: Inside> Statements<I> {
     /// Reads the statements of a clause.
     fn clause_statements(&self, tokens: &mut Cursor<'_>) -> Result<Vec<Stmt>, ParseFault>
-        requires expressions { Nests self.now.grammar.depth (E.pre self.now.grammar.expression)
-            (E.post self.now.grammar.expression) (B.pre self.now.grammar.body)
-            (B.post self.now.grammar.body) }
-        requires statements { StatementsNest self.now.grammar.depth (S.pre self.now.statement)
-            (S.post self.now.statement) }
         ensures { ReadsAll (spec_many reader.has_more_in_clause
             (statement_in self.now.grammar.depth) tokens.old) result tokens.new }
     {
@@ -44,11 +33,6 @@ impl<
     /// Reads what stands behind `case`.
     #[tactic(auto, unfolding(js_grammar::specs::StatementReader::case))]
     fn case(&self, tokens: &mut Cursor<'_>) -> Result<Case, ParseFault>
-        requires expressions { Nests self.now.grammar.depth (E.pre self.now.grammar.expression)
-            (E.post self.now.grammar.expression) (B.pre self.now.grammar.body)
-            (B.post self.now.grammar.body) }
-        requires statements { StatementsNest self.now.grammar.depth (S.pre self.now.statement)
-            (S.post self.now.statement) }
         ensures { ReadsClause (reader.case limit (expression_in self.now.grammar.depth)
             (body_in self.now.grammar.depth) (statement_in self.now.grammar.depth) tokens.old)
             result tokens.new }
@@ -65,11 +49,6 @@ impl<
     /// Reads what stands behind `default`.
     #[tactic(auto, unfolding(js_grammar::specs::StatementReader::default))]
     fn default(&self, tokens: &mut Cursor<'_>) -> Result<Case, ParseFault>
-        requires expressions { Nests self.now.grammar.depth (E.pre self.now.grammar.expression)
-            (E.post self.now.grammar.expression) (B.pre self.now.grammar.body)
-            (B.post self.now.grammar.body) }
-        requires statements { StatementsNest self.now.grammar.depth (S.pre self.now.statement)
-            (S.post self.now.statement) }
         ensures { ReadsClause (reader.default limit (expression_in self.now.grammar.depth)
             (body_in self.now.grammar.depth) (statement_in self.now.grammar.depth) tokens.old)
             result tokens.new }
@@ -82,11 +61,6 @@ impl<
     /// Reads a clause.
     #[tactic(auto, unfolding(js_grammar::specs::StatementReader::clause))]
     fn clause(&self, tokens: &mut Cursor<'_>) -> Result<Case, ParseFault>
-        requires expressions { Nests self.now.grammar.depth (E.pre self.now.grammar.expression)
-            (E.post self.now.grammar.expression) (B.pre self.now.grammar.body)
-            (B.post self.now.grammar.body) }
-        requires statements { StatementsNest self.now.grammar.depth (S.pre self.now.statement)
-            (S.post self.now.statement) }
         ensures { ReadsClause (reader.clause limit (expression_in self.now.grammar.depth)
             (body_in self.now.grammar.depth) (statement_in self.now.grammar.depth) tokens.old)
             result tokens.new }
@@ -106,11 +80,6 @@ impl<
 
     /// Reads the clauses before a `}` and the end.
     fn clauses(&self, tokens: &mut Cursor<'_>) -> Result<Vec<Case>, ParseFault>
-        requires expressions { Nests self.now.grammar.depth (E.pre self.now.grammar.expression)
-            (E.post self.now.grammar.expression) (B.pre self.now.grammar.body)
-            (B.post self.now.grammar.body) }
-        requires statements { StatementsNest self.now.grammar.depth (S.pre self.now.statement)
-            (S.post self.now.statement) }
         ensures { ReadsClauses (spec_many reader.has_more
             (reader.clause limit (expression_in self.now.grammar.depth)
             (body_in self.now.grammar.depth) (statement_in self.now.grammar.depth)) tokens.old)
@@ -134,11 +103,6 @@ impl<
         cases: Vec<Case>,
         tokens: &mut Cursor<'_>,
     ) -> Result<Stmt, ParseFault>
-        requires expressions { Nests self.now.grammar.depth (E.pre self.now.grammar.expression)
-            (E.post self.now.grammar.expression) (B.pre self.now.grammar.body)
-            (B.post self.now.grammar.body) }
-        requires statements { StatementsNest self.now.grammar.depth (S.pre self.now.statement)
-            (S.post self.now.statement) }
         ensures { Reads (reader.switched limit (expression_in self.now.grammar.depth)
             (body_in self.now.grammar.depth) (statement_in self.now.grammar.depth) value
             (clauses_of cases.items) tokens.old) result tokens.new }
@@ -152,11 +116,6 @@ impl<
     /// Reads what stands behind `switch`.
     #[tactic(auto, unfolding(js_grammar::specs::StatementReader::switch))]
     pub fn switch(&self, tokens: &mut Cursor<'_>) -> Result<Stmt, ParseFault>
-        requires expressions { Nests self.now.grammar.depth (E.pre self.now.grammar.expression)
-            (E.post self.now.grammar.expression) (B.pre self.now.grammar.body)
-            (B.post self.now.grammar.body) }
-        requires statements { StatementsNest self.now.grammar.depth (S.pre self.now.statement)
-            (S.post self.now.statement) }
         ensures { Reads (reader.switch limit (expression_in self.now.grammar.depth)
             (body_in self.now.grammar.depth) (statement_in self.now.grammar.depth) tokens.old)
             result tokens.new }

@@ -2,22 +2,16 @@
 
 ghost use Rattle.js_core.specs.Views.{catch_of};
 ghost use Rattle.js_grammar.specs.StatementReader as reader;
-ghost use Rattle.expression_parser.specs.Inside.{Nests, limit, expression_in, body_in};
+ghost use Rattle.expression_parser.specs.Inside.{limit, expression_in, body_in, statement_in};
 ghost use Rattle.expression_parser.specs.Reads.{Reads};
-ghost use Rattle.script_parser.specs.Inner.{StatementsNest, statement_in};
 
 use crate::inner::Statements;
 use crate::node::node;
-use expression_parser::{Cursor, ParseFault};
-use js_core::{Catch, Expr, Keyword, Punct, Stmt, StmtNode};
-use js_grammar::{Level, Sign};
-use std::alloc::Global;
+use expression_parser::{Cursor, Inside, ParseFault};
+use js_core::{Catch, Keyword, Punct, Stmt, StmtNode};
+use js_grammar::Sign;
 
-impl<
-    E: Fn(Global, usize, bool, Level, &mut Cursor<'_>) -> Result<Expr, ParseFault>,
-    B: Fn(Global, usize, &mut Cursor<'_>) -> Result<Vec<Stmt>, ParseFault>,
-    S: Fn(Global, usize, &mut Cursor<'_>) -> Result<Stmt, ParseFault>,
-> Statements<E, B, S> {
+impl<I: Inside> Statements<I> {
     /// Reads what stands behind `finally`.
     #[tactic(auto, unfolding(js_grammar::specs::StatementReader::finally))]
     fn finally(
@@ -26,11 +20,6 @@ impl<
         catch: Option<Catch>,
         tokens: &mut Cursor<'_>,
     ) -> Result<Stmt, ParseFault>
-        requires expressions { Nests self.now.grammar.depth (E.pre self.now.grammar.expression)
-            (E.post self.now.grammar.expression) (B.pre self.now.grammar.body)
-            (B.post self.now.grammar.body) }
-        requires statements { StatementsNest self.now.grammar.depth (S.pre self.now.statement)
-            (S.post self.now.statement) }
         ensures { Reads (reader.finally limit (expression_in self.now.grammar.depth)
             (body_in self.now.grammar.depth) (statement_in self.now.grammar.depth) block.items
             (catch_of catch) tokens.old) result tokens.new }
@@ -42,11 +31,6 @@ impl<
     /// Reads what stands behind `catch`.
     #[tactic(auto, unfolding(js_grammar::specs::StatementReader::caught, js_grammar::specs::Parser::eat))]
     fn caught(&self, block: Vec<Stmt>, tokens: &mut Cursor<'_>) -> Result<Stmt, ParseFault>
-        requires expressions { Nests self.now.grammar.depth (E.pre self.now.grammar.expression)
-            (E.post self.now.grammar.expression) (B.pre self.now.grammar.body)
-            (B.post self.now.grammar.body) }
-        requires statements { StatementsNest self.now.grammar.depth (S.pre self.now.statement)
-            (S.post self.now.statement) }
         ensures { Reads (reader.caught limit (expression_in self.now.grammar.depth)
             (body_in self.now.grammar.depth) (statement_in self.now.grammar.depth) block.items
             tokens.old) result tokens.new }
@@ -66,11 +50,6 @@ impl<
     /// Reads what stands behind `try`.
     #[tactic(auto, unfolding(js_grammar::specs::StatementReader::tried, js_grammar::specs::Parser::eat))]
     pub fn tried(&self, tokens: &mut Cursor<'_>) -> Result<Stmt, ParseFault>
-        requires expressions { Nests self.now.grammar.depth (E.pre self.now.grammar.expression)
-            (E.post self.now.grammar.expression) (B.pre self.now.grammar.body)
-            (B.post self.now.grammar.body) }
-        requires statements { StatementsNest self.now.grammar.depth (S.pre self.now.statement)
-            (S.post self.now.statement) }
         ensures { Reads (reader.tried limit (expression_in self.now.grammar.depth)
             (body_in self.now.grammar.depth) (statement_in self.now.grammar.depth) tokens.old)
             result tokens.new }

@@ -2,25 +2,19 @@
 
 ghost use Rattle.std.specs.Prelude.{true};
 ghost use Rattle.js_grammar.specs.StatementReader as reader;
-ghost use Rattle.expression_parser.specs.Inside.{Nests, limit, expression_in, body_in};
+ghost use Rattle.expression_parser.specs.Inside.{limit, expression_in, body_in, statement_in};
 ghost use Rattle.expression_parser.specs.Reads.{Reads};
-ghost use Rattle.script_parser.specs.Inner.{StatementsNest, statement_in};
 ghost use Rattle.expression_parser.specs.Reads.{ReadsAll};
 ghost use Rattle.js_grammar.specs.Parser.{separated as spec_separated};
 
 use crate::ending::{READ_EXPRESSION, ended, ending_of};
 use crate::inner::Statements;
 use crate::node::node;
-use expression_parser::{Cursor, ParseFault, separated};
+use expression_parser::{Cursor, Inside, ParseFault, separated};
 use js_core::{Declarator, Expr, Punct, Stmt, StmtNode, Units};
-use js_grammar::{Level, Sign};
-use std::alloc::Global;
+use js_grammar::Sign;
 
-impl<
-    E: Fn(Global, usize, bool, Level, &mut Cursor<'_>) -> Result<Expr, ParseFault>,
-    B: Fn(Global, usize, &mut Cursor<'_>) -> Result<Vec<Stmt>, ParseFault>,
-    S: Fn(Global, usize, &mut Cursor<'_>) -> Result<Stmt, ParseFault>,
-> Statements<E, B, S> {
+impl<I: Inside> Statements<I> {
     #[tactic(auto, unfolding(js_grammar::specs::StatementReader::declared_by))]
     fn declared_by(
         &self,
@@ -29,11 +23,6 @@ impl<
         is_initialised: bool,
         tokens: &mut Cursor<'_>,
     ) -> Result<Declarator, ParseFault>
-        requires expressions { Nests self.now.grammar.depth (E.pre self.now.grammar.expression)
-            (E.post self.now.grammar.expression) (B.pre self.now.grammar.body)
-            (B.post self.now.grammar.body) }
-        requires statements { StatementsNest self.now.grammar.depth (S.pre self.now.statement)
-            (S.post self.now.statement) }
         ensures { Reads (reader.declared_by limit (expression_in self.now.grammar.depth)
             (body_in self.now.grammar.depth) (statement_in self.now.grammar.depth) inn name
             is_initialised tokens.old) result tokens.new }
@@ -50,11 +39,6 @@ impl<
 
     #[tactic(auto, unfolding(js_grammar::specs::StatementReader::declaration, js_grammar::specs::Parser::eat))]
     fn declaration(&self, inn: bool, tokens: &mut Cursor<'_>) -> Result<Declarator, ParseFault>
-        requires expressions { Nests self.now.grammar.depth (E.pre self.now.grammar.expression)
-            (E.post self.now.grammar.expression) (B.pre self.now.grammar.body)
-            (B.post self.now.grammar.body) }
-        requires statements { StatementsNest self.now.grammar.depth (S.pre self.now.statement)
-            (S.post self.now.statement) }
         ensures { Reads (reader.declaration limit (expression_in self.now.grammar.depth)
             (body_in self.now.grammar.depth) (statement_in self.now.grammar.depth) inn tokens.old)
             result tokens.new }
@@ -70,11 +54,6 @@ impl<
         inn: bool,
         tokens: &mut Cursor<'_>,
     ) -> Result<Vec<Declarator>, ParseFault>
-        requires expressions { Nests self.now.grammar.depth (E.pre self.now.grammar.expression)
-            (E.post self.now.grammar.expression) (B.pre self.now.grammar.body)
-            (B.post self.now.grammar.body) }
-        requires statements { StatementsNest self.now.grammar.depth (S.pre self.now.statement)
-            (S.post self.now.statement) }
         ensures { ReadsAll (spec_separated (reader.declaration limit
             (expression_in self.now.grammar.depth) (body_in self.now.grammar.depth)
             (statement_in self.now.grammar.depth) inn) tokens.old) result tokens.new }
@@ -89,11 +68,6 @@ impl<
     /// Reads the declarations behind `var`, and their end.
     #[tactic(auto, unfolding(js_grammar::specs::StatementReader::variables))]
     pub fn variables(&self, tokens: &mut Cursor<'_>) -> Result<Stmt, ParseFault>
-        requires expressions { Nests self.now.grammar.depth (E.pre self.now.grammar.expression)
-            (E.post self.now.grammar.expression) (B.pre self.now.grammar.body)
-            (B.post self.now.grammar.body) }
-        requires statements { StatementsNest self.now.grammar.depth (S.pre self.now.statement)
-            (S.post self.now.statement) }
         ensures { Reads (reader.variables limit (expression_in self.now.grammar.depth)
             (body_in self.now.grammar.depth) (statement_in self.now.grammar.depth) tokens.old)
             result tokens.new }
@@ -106,11 +80,6 @@ impl<
     /// Reads an expression statement.
     #[tactic(auto, unfolding(js_grammar::specs::StatementReader::expressed))]
     pub fn expressed(&self, tokens: &mut Cursor<'_>) -> Result<Stmt, ParseFault>
-        requires expressions { Nests self.now.grammar.depth (E.pre self.now.grammar.expression)
-            (E.post self.now.grammar.expression) (B.pre self.now.grammar.body)
-            (B.post self.now.grammar.body) }
-        requires statements { StatementsNest self.now.grammar.depth (S.pre self.now.statement)
-            (S.post self.now.statement) }
         ensures { Reads (reader.expressed limit (expression_in self.now.grammar.depth)
             (body_in self.now.grammar.depth) (statement_in self.now.grammar.depth) tokens.old)
             result tokens.new }

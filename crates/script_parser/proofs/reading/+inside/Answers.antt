@@ -2,8 +2,7 @@ use Rattle.std.proofs.Common.{◌≡◌, ℕ, suc, ◌+◌, ◌-◌, ◌<◌, tr
 use Rattle.std.proofs.lemmas.Grind.{common_steps}
 use Rattle.js_grammar.specs.ScriptReader.{inside}
 use Rattle.js_grammar.specs.declared.operators.Level.TheVariants.{Sequence}
-use Rattle.expression_parser.specs.Inside.{expression_in, body_in}
-use Rattle.script_parser.specs.Inner.{statement_in}
+use Rattle.expression_parser.specs.Inside.{expression_in, body_in, statement_in}
 use Rattle.script_parser.proofs.Groups.{closed_more, none_inside, none_behind}
 use Rattle.script_parser.proofs.reading.+inside.Goals as goal
 
@@ -16,7 +15,7 @@ expression_inside-returns-then-depth-eq0 t c _ = let none : c.args.depth ≡ 0 =
 
 pub innermost_inside-returns : goal.innermost_inside-returns
 unfolding expression_in body_in inside
-innermost_inside-returns t c = rw (deeper (λ n. expression_in n true Sequence c.args.tokens.now) c.args.depth (omega arith)) c.all.ensures
+innermost_inside-returns t c = rw (deeper (λ n. expression_in n true Sequence c.args.tokens.now) c.args.depth (omega arith)) c.sequence.ensures
 
 pub body_inside-returns-then-depth-eq0 : goal.body_inside-returns-then-depth-eq0
 unfolding body_in inside
@@ -36,7 +35,7 @@ statement_inside-returns t c = rw (deeper (λ n. statement_in n c.args.tokens.no
 
 pub expression_inside-returns-in_default : goal.expression_inside-returns-in_default
 unfolding expression_in body_in inside
-expression_inside-returns-in_default t c = rw (deeper (λ n. expression_in n c.args.inn c.args.level c.args.tokens.now) c.args.depth (omega arith)) c.at_level.ensures
+expression_inside-returns-in_default t c = rw (deeper (λ n. expression_in n c.args.inn c.args.level c.args.tokens.now) c.args.depth (omega arith)) c.expression_at_level.ensures
 
 pub sequence_inside-returns-in_err-inner : goal.sequence_inside-returns-in_err-inner
 sequence_inside-returns-in_err-inner t c =
@@ -53,4 +52,4 @@ pub sequence_inside-loop-closed-preserved : goal.sequence_inside-loop-closed-pre
 sequence_inside-loop-closed-preserved t c =
     let one : c.open_groups-opened.result - c.loop-closed.closed ≡ suc (c.open_groups-opened.result - (c.loop-closed.closed + 1)) = omega arith in
     c.loop-closed.invariant
-    ∙ closed_more c.args.depth (c.open_groups-opened.result - c.loop-closed.closed) (c.open_groups-opened.result - (c.loop-closed.closed + 1)) (c.args.depth - (c.open_groups-opened.result - c.loop-closed.closed)) c.loop-closed.inner c.loop-closed.tokens (Some (c.in_ok-inner-2.inner, c.closed.new.tokens)) one refl c.in_ok-inner-2.ensures
+    ∙ closed_more c.args.depth (c.open_groups-opened.result - c.loop-closed.closed) (c.open_groups-opened.result - (c.loop-closed.closed + 1)) (c.args.depth - (c.open_groups-opened.result - c.loop-closed.closed)) c.loop-closed.inner c.loop-closed.tokens (Some (c.in_ok-inner-2.inner, c.closed_group.new.tokens)) one refl c.in_ok-inner-2.ensures

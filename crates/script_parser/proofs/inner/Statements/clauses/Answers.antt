@@ -2,9 +2,8 @@ use Rattle.std.proofs.Common.{◌≡◌, ℕ, rules, arith}
 use Rattle.std.proofs.lemmas.Grind.{common_steps}
 use Rattle.js_grammar.specs.Parser.{repeat, added, many}
 use Rattle.js_grammar.specs.StatementReader.{has_more, clause}
-use Rattle.expression_parser.specs.Inside.{limit, expression_in, body_in}
+use Rattle.expression_parser.specs.Inside.{limit, expression_in, body_in, statement_in}
 use Rattle.script_parser.specs.Clauses.{clauses_of}
-use Rattle.script_parser.specs.Inner.{statement_in}
 use Rattle.script_parser.proofs.Clauses.{clauses_pushed}
 use Rattle.script_parser.proofs.Turns.{one_more, no_more}
 use Rattle.script_parser.proofs.inner.Statements.clauses.Goals as goal

@@ -1,9 +1,8 @@
 use Rattle.std.proofs.Common.{◌≡◌, ◌-◌}
 use Rattle.js_grammar.specs.Parser.{repeat, added, many}
 use Rattle.js_grammar.specs.StatementReader.{has_more, clause}
-use Rattle.expression_parser.specs.Inside.{limit, expression_in, body_in}
+use Rattle.expression_parser.specs.Inside.{limit, expression_in, body_in, statement_in}
 use Rattle.script_parser.specs.Clauses.{clauses_of}
-use Rattle.script_parser.specs.Inner.{statement_in}
 use Rattle.script_parser.proofs.inner.Statements.clauses.Given as goal
 
 abbrev pub invariant-loop-turn : goal.invariant-loop-turn

@@ -1,8 +1,7 @@
 use Rattle.std.proofs.Common.{rules}
 use Rattle.js_grammar.specs.StatementReader as reader
 use Rattle.js_grammar.specs.StatementReader.{has_more, elements}
-use Rattle.expression_parser.specs.Inside.{limit, expression_in, body_in}
-use Rattle.script_parser.specs.Inner.{statement_in}
+use Rattle.expression_parser.specs.Inside.{limit, expression_in, body_in, statement_in}
 use Rattle.script_parser.proofs.inner.Statements.elements.Goals as goal
 
 pub returns : goal.returns
