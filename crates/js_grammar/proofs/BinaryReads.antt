@@ -67,7 +67,7 @@ module _ (limit : ℕ) (exp : Bool → Level → Parser tree.Expr) (body : Parse
 
   -- ---- binary expressions
 
-  operation_step : (inn : Bool) (least : ℕ) (s : Sign) (f : Infix) (h l : Bool) (y z : List Lexeme) (a b : tree.Expr) (r : Outcome tree.Expr) (m : ℕ) → infix_of inn (Some s) ≡ Some f → least ≤ level_of f → Exp inn (binary (suc (level_of f))) h y z b → length y < bound → Fits limit (combined f a b) → Quiet h z → climbs inn (suc (level_of f)) (sign_at z) ≡ false → suc (length y) ≤ m → ((k : ℕ) → length z ≤ k → repeat (has_operator inn least) (reader.operation limit exp body inn) k (combined f a b) z ≡ r) → repeat (has_operator inn least) (reader.operation limit exp body inn) m a ((sign s, l) ∷ y) ≡ r
+  pub operation_step : (inn : Bool) (least : ℕ) (s : Sign) (f : Infix) (h l : Bool) (y z : List Lexeme) (a b : tree.Expr) (r : Outcome tree.Expr) (m : ℕ) → infix_of inn (Some s) ≡ Some f → least ≤ level_of f → Exp inn (binary (suc (level_of f))) h y z b → length y < bound → Fits limit (combined f a b) → Quiet h z → climbs inn (suc (level_of f)) (sign_at z) ≡ false → suc (length y) ≤ m → ((k : ℕ) → length z ≤ k → repeat (has_operator inn least) (reader.operation limit exp body inn) k (combined f a b) z ≡ r) → repeat (has_operator inn least) (reader.operation limit exp body inn) m a ((sign s, l) ∷ y) ≡ r
   unfolding reader.operation
   operation_step inn least s f h l y z a b r zero e low i lt t q c le k = absurd (omega arith)
   operation_step inn least s f h l y z a b r (suc m) e low i lt t q c le k =

@@ -21,7 +21,7 @@ use Rattle.js_grammar.proofs.Inner.{Inner}
 use Rattle.js_grammar.proofs.LeftReads.{left_reads, left_no_prefix, member_reads}
 use Rattle.js_grammar.proofs.BinaryReads.{unary_begins, binary_from, climb_reads}
 
-sequence_fits : (limit : ℕ) (found : List tree.Expr) → Fits limit (sequence_of found) → Each (Fits limit) found
+pub sequence_fits : (limit : ℕ) (found : List tree.Expr) → Fits limit (sequence_of found) → Each (Fits limit) found
 sequence_fits limit [] f = tt
 sequence_fits limit (a ∷ []) f = (f, tt)
 sequence_fits limit (a ∷ b ∷ rest) f = exprs_fit limit (a ∷ b ∷ rest) (omega arith)
@@ -57,7 +57,7 @@ module _ (limit : ℕ) (exp : Bool → Level → Parser tree.Expr) (body : Parse
       (rw n (then_reads _ (inner.reads inn assignment g y z b u (omega arith) (omega arith) s)
       (kept limit (expr_height (tree.assign f a b)) (tree.assign f a b) z t))))
 
-  joined_reads : (found : List tree.Expr) (z : List Lexeme) → Fits limit (sequence_of found) → reader.joined limit exp body found z ≡ Some (sequence_of found, z)
+  pub joined_reads : (found : List tree.Expr) (z : List Lexeme) → Fits limit (sequence_of found) → reader.joined limit exp body found z ≡ Some (sequence_of found, z)
   joined_reads [] z f = kept limit (expr_height (sequence_of [])) (sequence_of []) z f
   joined_reads (a ∷ []) z f = refl
   joined_reads (a ∷ b ∷ rest) z f = kept limit (expr_height (sequence_of (a ∷ b ∷ rest))) (sequence_of (a ∷ b ∷ rest)) z f

@@ -7,18 +7,18 @@ use Rattle.js_core.specs.declared.token.Punct.TheVariants as p
 use Rattle.js_core.specs.declared.operators.BinaryOp.{BinaryOp}
 use Rattle.js_grammar.specs.declared.sign.Sign.TheVariants.{Mark}
 use Rattle.js_grammar.specs.Symbols.{Lexeme}
-use Rattle.js_grammar.specs.Operators.{Level, assignment, climbs, Prefix, prefix_of, assignment_of}
+use Rattle.js_grammar.specs.Operators.{Level, sequence, assignment, climbs, Prefix, prefix_of, assignment_of}
 use Rattle.js_grammar.specs.Parser.{Parser, tail, sign_at}
-use Rattle.js_grammar.specs.Phrases.{Phrase, Separated}
-use Rattle.js_grammar.specs.Expressions.{sequence_of, LeftHandSide, Unary, is_postfix, Binary, Assignment, is_binary, chosen, assigned, Sequence, sequenced}
+use Rattle.js_grammar.specs.Phrases.{Phrase, mark, Separated}
+use Rattle.js_grammar.specs.Expressions.{sequence_of, grouped, is_primary, LeftHandSide, Unary, is_postfix, Binary, Assignment, is_binary, chosen, assigned, Sequence, sequenced}
 use Rattle.js_grammar.specs.ExpressionReader as reader
 use Rattle.js_grammar.proofs.Heights.{Each, Fits}
 use Rattle.js_grammar.proofs.ExpressionShapes.{assignment_shorter}
 use Rattle.js_grammar.proofs.Holds.{Holds, ok, then_holds, held, expect_holds, eat_holds, limit_holds, signed_by_table}
 use Rattle.js_grammar.proofs.ListsHold.{separated_rest, separated_holds}
 use Rattle.js_grammar.proofs.Stops.{Quiet}
-use Rattle.js_grammar.proofs.Sound.{Sound}
-use Rattle.js_grammar.proofs.LeftSound.{Left, left_holds, postfix_holds, operated_holds}
+use Rattle.js_grammar.proofs.Sound.{Sound, Found}
+use Rattle.js_grammar.proofs.LeftSound.{Left, suffixes_hold, left_of, left_holds, postfix_holds, operated_holds}
 use Rattle.js_grammar.proofs.BinarySound.{Climbed, lower, operations_hold}
 
 module _ (limit : ℕ) (exp : Bool → Level → Parser tree.Expr) (body : Parser (List tree.Stmt)) (Exp : Bool → Level → Bool → Phrase tree.Expr) (Body : Phrase (List tree.Stmt)) (inner : Sound limit exp body Exp Body) where
@@ -84,3 +84,13 @@ module _ (limit : ℕ) (exp : Bool → Level → Parser tree.Expr) (body : Parse
   all_from_holds inn x y a h =
       then_holds _ (separated_rest (Assignment Exp Body inn) (reader.one limit exp body inn) (Fits limit) (λ g z. Quiet g z × (climbs inn 1 (sign_at z) ≡ false)) (λ y. held (λ a z h. (h.0, h.1, h.2, (h.3, h.4))) (one_holds inn y)) (assignment_shorter Exp Body inner.shorter inner.body_shorter inn) x y a (h.0, h.1, h.2, (h.3, h.4)))
       (λ found z k. joined_holds inn x found z k.0 k.1 k.2 k.3.0 k.3.1)
+
+  -- an expression that begins with a group, whose inside has been read
+  pub closing_holds : (l : Bool) (x y : List Lexeme) (a : tree.Expr) → Found limit Exp true sequence 1 x a y → Holds (All true (mark p.LeftParenthesis l ∷ x)) (reader.closing limit exp body a y)
+  unfolding reader.closing
+  closing_holds l x y a h =
+      then_holds _ (expect_holds (Mark p.RightParenthesis) y) (λ u z c.
+      let group = is_primary (grouped (subst (λ v. Exp true sequence h.0 x v a) c.1 h.1)) in
+      then_holds _ (suffixes_hold limit exp body Exp Body inner true (mark p.LeftParenthesis l ∷ x) a z (false, group, (λ t. absurd (cc)), h.2)) (λ b v k.
+      then_holds _ (assigned_holds true (mark p.LeftParenthesis l ∷ x) v b (left_of limit exp body Exp Body inner true (mark p.LeftParenthesis l ∷ x) v b k.0 k.1)) (λ d w m.
+      all_from_holds true (mark p.LeftParenthesis l ∷ x) w d m)))

@@ -21,16 +21,16 @@ use Rattle.js_grammar.proofs.PrimaryReads.{primary_reads, arguments_read}
 
 module _ (limit : ℕ) (exp : Bool → Level → Parser tree.Expr) (body : Parser (List tree.Stmt)) (Exp : Bool → Level → Bool → Phrase tree.Expr) (Body : Phrase (List tree.Stmt)) (bound : ℕ) (inner : Inner limit exp body Exp Body bound) where
   -- one more suffix, and then those behind it
-  Rest : Bool → tree.Expr → List Lexeme → Outcome tree.Expr → Type 0
+  unfoldable pub Rest : Bool → tree.Expr → List Lexeme → Outcome tree.Expr → Type 0
   Rest calls a z r = (n : ℕ) → length z ≤ n → repeat (has_suffix calls) (reader.suffix limit exp body) n a z ≡ r
 
-  dot_step : (calls l k : Bool) (s : Symbol) (w : List ℕ) (z : List Lexeme) (a : tree.Expr) (r : Outcome tree.Expr) → member_name s ≡ Some w → Fits limit (tree.member a w) → Rest calls (tree.member a w) z r → Rest calls a (mark p.Dot l ∷ (s, k) ∷ z) r
+  pub dot_step : (calls l k : Bool) (s : Symbol) (w : List ℕ) (z : List Lexeme) (a : tree.Expr) (r : Outcome tree.Expr) → member_name s ≡ Some w → Fits limit (tree.member a w) → Rest calls (tree.member a w) z r → Rest calls a (mark p.Dot l ∷ (s, k) ∷ z) r
   unfolding Rest reader.suffix reader.dotted taken
   dot_step calls l k s w z a r e f h zero le = absurd (omega arith)
   dot_step calls l k s w z a r e f h (suc m) le =
       then_reads {r = reader.suffix limit exp body a (mark p.Dot l ∷ (s, k) ∷ z)} _ (rw e (kept limit (expr_height (tree.member a w)) (tree.member a w) z f)) (h m (omega arith))
 
-  index_step : (calls g l k : Bool) (y z : List Lexeme) (a b : tree.Expr) (r : Outcome tree.Expr) → Exp true sequence g y (mark p.RightBracket k ∷ z) b → length y < bound → Fits limit (tree.index a b) → Rest calls (tree.index a b) z r → Rest calls a (mark p.LeftBracket l ∷ y) r
+  pub index_step : (calls g l k : Bool) (y z : List Lexeme) (a b : tree.Expr) (r : Outcome tree.Expr) → Exp true sequence g y (mark p.RightBracket k ∷ z) b → length y < bound → Fits limit (tree.index a b) → Rest calls (tree.index a b) z r → Rest calls a (mark p.LeftBracket l ∷ y) r
   unfolding Rest reader.suffix reader.indexed expect sees
   index_step calls g l k y z a b r i lt f h zero le = absurd (omega arith)
   index_step calls g l k y z a b r i lt f h (suc m) le =
@@ -39,7 +39,7 @@ module _ (limit : ℕ) (exp : Bool → Level → Parser tree.Expr) (body : Parse
       (then_reads _ (inner.reads true sequence g y (mark p.RightBracket k ∷ z) b i lt (omega arith) ((λ e. (refl, refl)), refl, refl, refl)) (kept limit (expr_height (tree.index a b)) (tree.index a b) z f))
       (h m (omega arith))
 
-  call_step : (calls l : Bool) (y z : List Lexeme) (a : tree.Expr) (found : List tree.Expr) (r : Outcome tree.Expr) → calls ≡ true → Arguments Exp Body y z found → length y < bound → Fits limit (tree.call a (exprs_of found)) → Rest calls (tree.call a (exprs_of found)) z r → Rest calls a (mark p.LeftParenthesis l ∷ y) r
+  pub call_step : (calls l : Bool) (y z : List Lexeme) (a : tree.Expr) (found : List tree.Expr) (r : Outcome tree.Expr) → calls ≡ true → Arguments Exp Body y z found → length y < bound → Fits limit (tree.call a (exprs_of found)) → Rest calls (tree.call a (exprs_of found)) z r → Rest calls a (mark p.LeftParenthesis l ∷ y) r
   unfolding Rest reader.suffix reader.called
   call_step calls l y z a found r e i lt f h zero le = absurd (omega arith)
   call_step calls l y z a found r e i lt f h (suc m) le =

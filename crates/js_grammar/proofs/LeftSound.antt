@@ -41,7 +41,7 @@ step_is (t ∷ ts) up e = step_by t.0 t.1 ts up e
 
 module _ (limit : ℕ) (exp : Bool → Level → Parser tree.Expr) (body : Parser (List tree.Stmt)) (Exp : Bool → Level → Bool → Phrase tree.Expr) (Body : Phrase (List tree.Stmt)) (inner : Sound limit exp body Exp Body) where
   -- a member or call expression, the latter where calls may stand
-  abbrev Chain : Bool → List Lexeme → tree.Expr → List Lexeme → Type 0
+  abbrev pub Chain : Bool → List Lexeme → tree.Expr → List Lexeme → Type 0
   Chain calls start a x = (c : Bool) × Member Exp Body c start x a × (c ≡ true → calls ≡ true) × Fits limit a
 
   abbrev Longer : Bool → List Lexeme → List Lexeme → tree.Expr → List Lexeme → Type 0
@@ -91,7 +91,7 @@ module _ (limit : ℕ) (exp : Bool → Level → Parser tree.Expr) (body : Parse
       by_sign (Some (Mark _)) i g = err
       by_sign (Some (Word _)) i g = err
 
-  suffixes_hold : (calls : Bool) (start : List Lexeme) (a : tree.Expr) (x : List Lexeme) → Chain calls start a x → Holds (λ b y. Chain calls start b y × (is_suffix calls (sign_at y) ≡ false)) (reader.suffixes limit exp body calls a x)
+  pub suffixes_hold : (calls : Bool) (start : List Lexeme) (a : tree.Expr) (x : List Lexeme) → Chain calls start a x → Holds (λ b y. Chain calls start b y × (is_suffix calls (sign_at y) ≡ false)) (reader.suffixes limit exp body calls a x)
   unfolding reader.suffixes
   suffixes_hold calls start a x h =
       held (λ b y k. (k.0, k.1 refl)) (repeat_holds (has_suffix calls) (reader.suffix limit exp body) (Chain calls start) (suffix_holds calls start) (length x) a x (omega arith) h)
@@ -100,7 +100,7 @@ module _ (limit : ℕ) (exp : Bool → Level → Parser tree.Expr) (body : Parse
   abbrev pub Left : Bool → List Lexeme → tree.Expr → List Lexeme → Type 0
   Left calls x a z = LeftHandSide Exp Body calls x z a × Fits limit a × (is_suffix calls (sign_at z) ≡ false) × (sees (Mark p.LeftParenthesis) z ≡ true → calls ≡ false → Member Exp Body false x z a)
 
-  left_of : (calls : Bool) (x z : List Lexeme) (a : tree.Expr) → Chain calls x a z → is_suffix calls (sign_at z) ≡ false → Left calls x a z
+  pub left_of : (calls : Bool) (x z : List Lexeme) (a : tree.Expr) → Chain calls x a z → is_suffix calls (sign_at z) ≡ false → Left calls x a z
   left_of calls x z a h s = by h.0 h.1 h.2
     where
       by : (c : Bool) → Member Exp Body c x z a → (c ≡ true → calls ≡ true) → Left calls x a z

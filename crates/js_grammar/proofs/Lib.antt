@@ -14,6 +14,7 @@ mod ExpressionSound
 mod ForReads
 mod ForSound
 mod GivenSymbols
+mod GroupReads
 mod Heights
 mod Holds
 mod Inner
@@ -23,6 +24,9 @@ mod LeftSound
 mod ListShapes
 mod ListsHold
 mod ListsRead
+mod LowerExpressions
+mod LowerLists
+mod LowerStatements
 mod PartedExpressions
 mod PartedScripts
 mod PrimaryReads

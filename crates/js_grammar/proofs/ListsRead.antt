@@ -12,7 +12,7 @@ use Rattle.js_grammar.proofs.Steps.{then_reads, stays}
 -- Items of fewer lexemes than the bound are read, where they are not too high (`Fit`) and what stands behind them ends
 -- them (`Stop`), as a comma does.
 module _ {A I : Type 0} (Item : I → Phrase A) (item : Parser A) (Fit : A → Type 0) (Stop : I → List Lexeme → Type 0) (bound : ℕ) (item_reads : (i : I) (x z : List Lexeme) (a : A) → Item i x z a → length x < bound → Fit a → Stop i z → item x ≡ Some (a, z)) (item_shorter : (i : I) (x z : List Lexeme) (a : A) → Item i x z a → length z < length x) (comma_stops : (i : I) (l : Bool) (y : List Lexeme) → Stop i (mark p.Comma l ∷ y)) where
-  one_more : {j : I} (l : Bool) (y z : List Lexeme) (found : List A) (a : A) (r : Outcome (List A)) (m : ℕ) → Item j y z a → length y < bound → Fit a → Stop j z → suc (length y) ≤ m → ((n : ℕ) → length z ≤ n → repeat sees_comma (added_behind_comma item) n (found ++ a ∷ []) z ≡ r) → repeat sees_comma (added_behind_comma item) m found (mark p.Comma l ∷ y) ≡ r
+  pub one_more : {j : I} (l : Bool) (y z : List Lexeme) (found : List A) (a : A) (r : Outcome (List A)) (m : ℕ) → Item j y z a → length y < bound → Fit a → Stop j z → suc (length y) ≤ m → ((n : ℕ) → length z ≤ n → repeat sees_comma (added_behind_comma item) n (found ++ a ∷ []) z ≡ r) → repeat sees_comma (added_behind_comma item) m found (mark p.Comma l ∷ y) ≡ r
   unfolding sees
   one_more l y z found a r zero h lt f s le k = absurd (omega arith)
   one_more {j} l y z found a r (suc m) h lt f s le k =

@@ -264,6 +264,14 @@ module _ (limit : ℕ) (exp : Bool → Level → Parser tree.Expr) (body : Parse
   unfoldable pub all_from : Bool → tree.Expr → Parser tree.Expr
   all_from inn first = more_items inn first >>= joined
 
+  -- an expression that begins with a group, from behind the inside of the group on
+  unfoldable pub closing : tree.Expr → Parser tree.Expr
+  closing inner = do
+    expect (Mark p.RightParenthesis)
+    target ← suffixes true inner
+    first ← assigned true target
+    all_from true first
+
   abbrev pub at_level : Bool → Level → Parser tree.Expr
   at_level inn sequence = all inn
   at_level inn assignment = one inn

@@ -1,5 +1,5 @@
 -- A script whose tokens are strict begins with the strict directive: its directives are read as its foremost statements.
-use Rattle.std.proofs.Common.{◌≡◌, ◌∙◌, refl, sym, ap, subst, ℕ, zero, suc, Bool, true, false, List, [], ◌∷◌, ◌++◌, length, append_assoc, Some, None}
+use Rattle.std.proofs.Common.{◌≡◌, ◌∙◌, refl, sym, ap, subst, ℕ, zero, suc, ◌-◌, Bool, true, false, List, [], ◌∷◌, ◌++◌, length, append_assoc, Some, None}
 use Rattle.std.specs.Prelude.{◌||◌, if◌then◌else◌, codes, bytes_eq}
 use Rattle.std.proofs.Math.Bool.{or-true}
 use Rattle.std.proofs.lemmas.Bool.{and_parts}
@@ -15,7 +15,7 @@ use Rattle.js_grammar.specs.declared.operators.Level.{Level}
 use Rattle.js_grammar.specs.Endings.{ContinuingIsOne}
 use Rattle.js_grammar.specs.Parser.{Parser, Outcome, added, and_then, many, repeat}
 use Rattle.js_grammar.specs.Scripts.{ScriptOf, height_limit}
-use Rattle.js_grammar.specs.ScriptReader.{inside, read_script, whole}
+use Rattle.js_grammar.specs.ScriptReader.{inside, room_of, read_script, whole}
 use Rattle.js_grammar.specs.ScriptReader as what
 use Rattle.js_grammar.specs.StatementReader as statements
 use Rattle.js_grammar.specs.StatementReader.{has_more}
@@ -125,15 +125,16 @@ module _ (one : ContinuingIsOne) (exp : Bool → Level → Parser tree.Expr) (bo
 read_begins_strict : ContinuingIsOne → (tokens : List Token) (script : tree.Stmts) → IsStrict tokens → read_script height_limit tokens ≡ Some script → begins_strict script ≡ true
 unfolding read_script inside statements.elements many
 read_begins_strict one tokens script strict e =
-    by (inside height_limit (suc (length tokens)) what.body (lexemes tokens)) refl e
+    by (inside height_limit (room_of height_limit) (suc (length tokens)) what.body (lexemes tokens)) refl e
   where
-    by : (o : Outcome (List tree.Stmt)) → inside height_limit (suc (length tokens)) what.body (lexemes tokens) ≡ o → whole o ≡ Some script
+    by : (o : Outcome (List tree.Stmt)) → inside height_limit (room_of height_limit) (suc (length tokens)) what.body (lexemes tokens) ≡ o → whole o ≡ Some script
         → begins_strict script ≡ true
     by None f g = absurd (cc)
     by (Some (all, t ∷ ts)) f g = absurd (cc)
     by (Some (all, [])) f g =
+        let room = room_of height_limit - 1 in
         let fuel = length tokens in
-        let front = strict_front one (λ inn level. inside height_limit fuel (what.expression inn level)) (inside height_limit fuel what.body) (inside height_limit fuel what.statement)
+        let front = strict_front one (λ inn level. inside height_limit room fuel (what.expression inn level)) (inside height_limit room fuel what.body) (inside height_limit room fuel what.statement)
         tokens strict (length (lexemes tokens)) [] all f
         in
         let script_is : stmts_of all ≡ script = cc in
