@@ -9,23 +9,24 @@ use Rattle.js_grammar.specs.ScriptReader as script
 use Rattle.js_grammar.specs.Scripts.{height_limit}
 use Rattle.expression_parser.specs.declared.fault.ParseFault.{ParseFault}
 use Rattle.expression_parser.specs.declared.fault.ParseFault.TheVariants.{OutOfMemory}
+use Rattle.expression_parser.specs.declared.nesting.Nesting.{Nesting}
 use Rattle.expression_parser.specs.Reads.{Gives}
 
 -- the greatest height of a tree that is read
 unfoldable pub limit : ℕ
 limit = height_limit
 
--- an expression inside, where parts nest less deep than the number
-unfoldable pub expression_in : ℕ → Bool → Level → Parser tree.Expr
-expression_in depth = λ inn level. script.inside limit depth (script.expression inn level)
+-- an expression inside, where parts nest less deep than this
+unfoldable pub expression_in : Nesting → Bool → Level → Parser tree.Expr
+expression_in depth = λ inn level. script.inside limit depth.room depth.all (script.expression inn level)
 
 -- what stands between the braces of a function
-unfoldable pub body_in : ℕ → Parser (List tree.Stmt)
-body_in depth = script.inside limit depth script.body
+unfoldable pub body_in : Nesting → Parser (List tree.Stmt)
+body_in depth = script.inside limit depth.room depth.all script.body
 
--- a statement inside another, where parts nest less deep than the number
-unfoldable pub statement_in : ℕ → Parser tree.Stmt
-statement_in depth = script.inside limit depth script.statement
+-- a statement inside another, where parts nest less deep than this
+unfoldable pub statement_in : Nesting → Parser tree.Stmt
+statement_in depth = script.inside limit depth.room depth.all script.statement
 
 -- what a function ensures that builds a tree: the tree, unless it is too high or memory fails
 abbrev pub Keeps : {A : Type 0} → ℕ → A → Result A ParseFault → Type 0

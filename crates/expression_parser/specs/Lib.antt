@@ -1,3 +1,4 @@
 pub mod Groups
 pub mod Inside
+pub mod Nestings
 pub mod Reads

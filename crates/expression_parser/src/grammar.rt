@@ -8,6 +8,7 @@ use crate::cursor::Cursor;
 use crate::depth::Depth;
 use crate::fault::ParseFault;
 use crate::inside::Inside;
+use crate::nesting::Nesting;
 use js_core::{Expr, Stmt};
 use js_grammar::Level;
 use std::alloc::Global;
@@ -19,13 +20,13 @@ use std::alloc::Global;
 pub struct Grammar<I: Inside> {
     /// Where trees are kept.
     pub alloc: Global,
-    /// Parts inside nest less deep.
+    /// How deep parts inside may nest, and what reads them.
     pub depth: Depth<I>,
 }
 
 impl<I: Inside> Grammar<I> {
     /// Whose parts, which this reads, nest less deep than `depth`.
-    pub fn new(alloc: Global, depth: usize, inside: I) -> Grammar<I>
+    pub fn new(alloc: Global, depth: Nesting, inside: I) -> Grammar<I>
         requires { I.nests inside depth }
         ensures { result.depth ≡ depth }
     {

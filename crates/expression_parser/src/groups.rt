@@ -13,7 +13,7 @@ use js_grammar::Sign;
 impl<I: Inside> Grammar<I> {
     /// Reads the closing parenthesis of a group with this inside, and the rest of the expression, with commas, that the
     /// group begins.
-    #[tactic(auto, unfolding(crate::specs::Groups::closing))]
+    #[tactic(auto, unfolding(crate::specs::Groups::closing, js_grammar::specs::ExpressionReader::closing))]
     pub fn closed(&self, inner: Expr, tokens: &mut Cursor<'_>) -> Result<Expr, ParseFault>
         ensures { Reads (closing self.now.depth inner tokens.old) result tokens.new }
     {

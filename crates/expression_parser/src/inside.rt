@@ -1,25 +1,26 @@
 //! What stands inside a phrase.
 
-ghost use Rattle.std.specs.Prelude.{ℕ};
 ghost use Rattle.expression_parser.specs.Inside.{expression_in, body_in, statement_in};
 ghost use Rattle.expression_parser.specs.Reads.{Reads, ReadsAll};
+ghost use Rattle.expression_parser.specs.declared.nesting.Nesting.{Nesting as Pure};
 
 use crate::cursor::Cursor;
 use crate::fault::ParseFault;
+use crate::nesting::Nesting;
 use js_core::{Expr, Stmt};
 use js_grammar::Level;
 use std::alloc::Global;
 
-/// Reads what stands inside a phrase, where parts nest less deep than a number.
+/// Reads what stands inside a phrase, where parts nest less deep than is told.
 pub trait Inside {
     // Whether it reads so, to this depth.
-    ghost nests: { Self → ℕ → Type 0 };
+    ghost nests: { Self → Pure → Type 0 };
 
     /// Reads an expression: whether `in` is an operator, and the level.
     fn expression(
         &self,
         alloc: Global,
-        depth: usize,
+        depth: Nesting,
         inn: bool,
         level: Level,
         tokens: &mut Cursor<'_>,
@@ -31,7 +32,7 @@ pub trait Inside {
     fn body(
         &self,
         alloc: Global,
-        depth: usize,
+        depth: Nesting,
         tokens: &mut Cursor<'_>,
     ) -> Result<Vec<Stmt>, ParseFault>
         requires { nests self.now depth }
@@ -41,7 +42,7 @@ pub trait Inside {
     fn statement(
         &self,
         alloc: Global,
-        depth: usize,
+        depth: Nesting,
         tokens: &mut Cursor<'_>,
     ) -> Result<Stmt, ParseFault>
         requires { nests self.now depth }

@@ -10,6 +10,7 @@ use crate::cursor::Cursor;
 use crate::fault::ParseFault;
 use crate::grammar::Grammar;
 use crate::inside::Inside;
+use crate::nesting::Nesting;
 use js_core::Expr;
 use js_grammar::Level;
 use std::alloc::Global;
@@ -17,7 +18,7 @@ use std::alloc::Global;
 /// Reads an expression of this level.
 pub fn expression_at_level<I: Inside + Drop>(
     alloc: Global,
-    depth: usize,
+    depth: Nesting,
     inside: I,
     inn: bool,
     level: Level,
@@ -33,7 +34,7 @@ pub fn expression_at_level<I: Inside + Drop>(
 /// Reads an expression, with commas.
 pub fn sequence<I: Inside + Drop>(
     alloc: Global,
-    depth: usize,
+    depth: Nesting,
     inside: I,
     tokens: &mut Cursor<'_>,
 ) -> Result<Expr, ParseFault>
@@ -48,7 +49,7 @@ pub fn sequence<I: Inside + Drop>(
 /// begins.
 pub fn closed_group<I: Inside + Drop>(
     alloc: Global,
-    depth: usize,
+    depth: Nesting,
     inside: I,
     inner: Expr,
     tokens: &mut Cursor<'_>,

@@ -1,80 +1,136 @@
--- An expression that begins with a group is read as the inside of the group, the closing parenthesis and the rest.
-use Rattle.std.proofs.Common.{◌≡◌, ℕ, zero, suc, ◌-◌, ◌<◌, Bool, true, List, [], ◌∷◌, length, Some, None, refl, ap, ◌∙◌, arith}
+-- Expressions that begin with groups, one directly inside another.
+use Rattle.std.proofs.Common.{◌≡◌, ℕ, zero, suc, ◌-◌, ◌<◌, ◌≤◌, Bool, true, false, ◌⊎◌, inl, inr, List, Some, None, refl, ap, ◌∙◌, arith}
+use Rattle.std.specs.Prelude.{nat_lt}
+use Rattle.std.proofs.lemmas.Bool.{and_parts, and_cases, and_right, ltb-true, ltb-false}
 use Rattle.js_core.specs.Tree as tree
 use Rattle.js_core.specs.declared.token.Punct.TheVariants as p
-use Rattle.js_grammar.specs.declared.sign.Sign.TheVariants.{Mark}
-use Rattle.js_grammar.specs.declared.operators.Level.{Level}
-use Rattle.js_grammar.specs.declared.operators.Level.TheVariants.{Sequence}
-use Rattle.js_grammar.specs.Operators.{prefix_of}
-use Rattle.js_grammar.specs.Parser.{Outcome, Parser, and_then, sign_at, tail, expect, repeat, sees_comma, added_behind_comma, separated}
 use Rattle.js_grammar.specs.ExpressionReader as reader
-use Rattle.js_grammar.specs.ScriptReader.{inside}
+use Rattle.js_grammar.specs.declared.operators.Level.{Level}
+use Rattle.js_grammar.specs.declared.operators.Level.TheVariants.{Sequence as sequence, Assignment as assignment, Binary as binary, Construction as construction, Member as member}
+use Rattle.js_grammar.specs.Parser.{Outcome, and_then, sees, tail}
+use Rattle.js_grammar.specs.StatementReader as statements
+use Rattle.js_grammar.specs.ScriptReader.{Inside, inside, opens_group}
+use Rattle.js_grammar.specs.ScriptReader as what
 use Rattle.js_grammar.specs.Symbols.{Lexeme}
+use Rattle.js_grammar.specs.declared.sign.Sign.TheVariants.{Mark}
+use Rattle.expression_parser.specs.declared.nesting.Nesting.{Nesting}
 use Rattle.expression_parser.specs.Groups.{closing}
-use Rattle.expression_parser.specs.Inside.{limit, expression_in, body_in}
-use Rattle.script_parser.specs.Groups.{finished}
+use Rattle.expression_parser.specs.Inside.{limit, expression_in, body_in, statement_in}
+use Rattle.expression_parser.specs.Nestings.{inside_of, in_groups}
+use Rattle.script_parser.specs.Groups.{finished, has_room, may_open}
 
-assoc : {A B C : Type 0} (o : Outcome A) (f : A → Parser B) (g : B → Parser C) → and_then (and_then o f) g ≡ and_then o (λ a. λ i. and_then (f a i) g)
-assoc (Some q) f g = refl
-assoc None f g = refl
+-- ---- one deeper
 
--- behind the inside of a group: its parenthesis, and three steps
-behind : (r : Outcome (Unit {0})) (inner : tree.Expr) (f g h : tree.Expr → Parser tree.Expr) → and_then (and_then (and_then (and_then r (λ u. λ k. Some (inner, k))) f) g) h ≡ and_then r (λ u. λ k. and_then (f inner k) (λ a. λ j. and_then (g a j) h))
-behind None inner f g h = refl
-behind (Some q) inner f g h = assoc (f inner q.1) g h
+pub some_room : (depth : Nesting) → has_room depth ≡ true → (0 < depth.room) × (0 < depth.all)
+some_room depth e =
+    let both = and_parts (nat_lt 0 depth.room) (nat_lt 0 depth.all) e in
+    (ltb-true 0 depth.room both.0, ltb-true 0 depth.all both.1)
 
-flat : (o : Outcome tree.Expr) (e : Parser (Unit {0})) (f g h : tree.Expr → Parser tree.Expr) → and_then (and_then (and_then (and_then o (λ inner. λ i. and_then (e i) (λ u. λ k. Some (inner, k)))) f) g) h ≡ and_then o (λ inner. λ i. and_then (e i) (λ u. λ k. and_then (f inner k) (λ a. λ j. and_then (g a j) h)))
-flat None e f g h = refl
-flat (Some q) e f g h = behind (e q.1) q.0 f g h
+nothing : (room all : ℕ) (part : Inside) (i : List Lexeme) → has_room (record { room = room; all = all }) ≡ false → inside limit room all part i ≡ None
+unfolding inside
+nothing room zero part i e = refl
+nothing zero (suc all) part i e = refl
+nothing (suc room) (suc all) part i e = absurd (spent (and_cases (nat_lt 0 (suc room)) (nat_lt 0 (suc all)) e))
+  where
+    spent : (nat_lt 0 (suc room) ≡ false) ⊎ (nat_lt 0 (suc all) ≡ false) → ⊥
+    spent (inl e) = let le = ltb-false 0 (suc room) e in omega arith
+    spent (inr e) = let le = ltb-false 0 (suc all) e in omega arith
 
-module _ (most : ℕ) (exp : Bool → Level → Parser tree.Expr) (body : Parser (List tree.Stmt)) where
-  primary_is : (i : List Lexeme) → sign_at i ≡ Some (Mark p.LeftParenthesis) → reader.primary most exp body i ≡ reader.group most exp body (tail i)
-  unfolding reader.primary
-  primary_is i e = ap (λ s. reader.primary_by most exp body s i) e
+pub no_expression : (depth : Nesting) (inn : Bool) (level : Level) (i : List Lexeme) → has_room depth ≡ false → expression_in depth inn level i ≡ None
+unfolding expression_in
+no_expression depth inn level i e = nothing depth.room depth.all (what.expression inn level) i e
 
-  left_is : (i : List Lexeme) → sign_at i ≡ Some (Mark p.LeftParenthesis) → reader.left most exp body true i ≡ and_then (reader.group most exp body (tail i)) (reader.suffixes most exp body true)
-  unfolding reader.left
-  left_is i e = ap (λ s. reader.left_by most exp body true s i) e ∙ ap (λ o. and_then o (reader.suffixes most exp body true)) (primary_is i e)
+pub no_body : (depth : Nesting) (i : List Lexeme) → has_room depth ≡ false → body_in depth i ≡ None
+unfolding body_in
+no_body depth i e = nothing depth.room depth.all what.body i e
 
-  one_is : (i : List Lexeme) → sign_at i ≡ Some (Mark p.LeftParenthesis) → reader.one most exp body true i ≡ and_then (and_then (reader.group most exp body (tail i)) (reader.suffixes most exp body true)) (reader.assigned most exp body true)
-  unfolding reader.one
-  one_is i e = ap (λ s. reader.assignment_by most exp body true (prefix_of s) i) e ∙ ap (λ o. and_then o (reader.assigned most exp body true)) (left_is i e)
+pub no_statement : (depth : Nesting) (i : List Lexeme) → has_room depth ≡ false → statement_in depth i ≡ None
+unfolding statement_in
+no_statement depth i e = nothing depth.room depth.all what.statement i e
 
-  all_is : (i : List Lexeme) → reader.all most exp body true i ≡ and_then (reader.one most exp body true i) (reader.all_from most exp body true)
-  unfolding reader.all reader.all_from separated
-  all_is i = assoc (reader.one most exp body true i) (λ first. λ j. repeat sees_comma (added_behind_comma (reader.one most exp body true)) (length j) (first ∷ []) j) (reader.joined most exp body)
+pub deeper : {X : Type 0} (f : ℕ → ℕ → X) (depth : Nesting) → 0 < depth.room → 0 < depth.all → f depth.room depth.all ≡ f (suc (depth.room - 1)) (suc (depth.all - 1))
+deeper f depth some more =
+    let e : depth.room ≡ suc (depth.room - 1) = omega arith in
+    let k : depth.all ≡ suc (depth.all - 1) = omega arith in
+    ap (λ n. f n depth.all) e ∙ ap (λ n. f (suc (depth.room - 1)) n) k
 
-  begins : (i : List Lexeme) → sign_at i ≡ Some (Mark p.LeftParenthesis) → reader.all most exp body true i ≡ and_then (and_then (and_then (reader.group most exp body (tail i)) (reader.suffixes most exp body true)) (reader.assigned most exp body true)) (reader.all_from most exp body true)
-  begins i e = all_is i ∙ ap (λ o. and_then o (reader.all_from most exp body true)) (one_is i e)
+pub deeper_body : (depth : Nesting) (i : List Lexeme) → has_room depth ≡ true → body_in depth i ≡ statements.elements limit (expression_in (inside_of depth)) (body_in (inside_of depth)) (statement_in (inside_of depth)) i
+unfolding expression_in body_in statement_in inside
+deeper_body depth i e = let some = some_room depth e in deeper (λ room all. inside limit room all what.body i) depth some.0 some.1
 
-opens : (depth : ℕ) (i : List Lexeme) → sign_at i ≡ Some (Mark p.LeftParenthesis) → expression_in (suc depth) true Sequence i ≡ and_then (expression_in depth true Sequence (tail i)) (closing depth)
-unfolding expression_in body_in inside closing reader.group
-opens depth i e =
-    begins limit (expression_in depth) (body_in depth) i e
-    ∙ flat (expression_in depth true Sequence (tail i)) (expect (Mark p.RightParenthesis)) (reader.suffixes limit (expression_in depth) (body_in depth) true) (reader.assigned limit (expression_in depth) (body_in depth) true) (reader.all_from limit (expression_in depth) (body_in depth) true)
+pub deeper_statement : (depth : Nesting) (i : List Lexeme) → has_room depth ≡ true → statement_in depth i ≡ statements.any_statement limit (expression_in (inside_of depth)) (body_in (inside_of depth)) (statement_in (inside_of depth)) i
+unfolding expression_in body_in statement_in inside
+deeper_statement depth i e = let some = some_room depth e in deeper (λ room all. inside limit room all what.statement i) depth some.0 some.1
+
+no_group : (level : Level) (inn : Bool) (i : List Lexeme) → may_open level inn ≡ false → opens_group level inn i ≡ false
+no_group sequence true i e = absurd (cc)
+no_group sequence false i e = refl
+no_group assignment inn i e = refl
+no_group (binary n) inn i e = refl
+no_group construction inn i e = refl
+no_group member inn i e = refl
+
+pub is_sequence : (level : Level) (inn : Bool) → may_open level inn ≡ true → (level ≡ sequence) × (inn ≡ true)
+is_sequence sequence inn e = (refl, e)
+is_sequence assignment inn e = absurd (cc)
+is_sequence (binary n) inn e = absurd (cc)
+is_sequence construction inn e = absurd (cc)
+is_sequence member inn e = absurd (cc)
+
+-- an expression that begins with no group that a loop opens
+pub plain_expression : (depth : Nesting) (inn : Bool) (level : Level) (i : List Lexeme) → 0 < depth.room → 0 < depth.all → opens_group level inn i ≡ false → expression_in depth inn level i ≡ reader.at_level limit (expression_in (inside_of depth)) (body_in (inside_of depth)) inn level i
+unfolding expression_in body_in inside
+plain_expression depth inn level i some more e = deeper (λ room all. inside limit room all (what.expression inn level) i) depth some more ∙ rw e refl
+
+pub other_expression : (depth : Nesting) (inn : Bool) (level : Level) (i : List Lexeme) → has_room depth ≡ true → may_open level inn ≡ false → expression_in depth inn level i ≡ reader.at_level limit (expression_in (inside_of depth)) (body_in (inside_of depth)) inn level i
+other_expression depth inn level i h e = let some = some_room depth h in plain_expression depth inn level i some.0 some.1 (no_group level inn i e)
+
+-- ---- groups
+
+abbrev nesting : ℕ → ℕ → Nesting
+nesting room all = record { room = room; all = all }
+
+opens : (room all : ℕ) (i : List Lexeme) → sees (Mark p.LeftParenthesis) i ≡ true → expression_in (nesting (suc room) (suc all)) true sequence i ≡ and_then (expression_in (nesting (suc room) all) true sequence (tail i)) (closing (nesting room all))
+unfolding expression_in body_in inside closing
+opens room all i e = rw e refl
+
+opens_at : (depth : Nesting) (n : ℕ) (i : List Lexeme) → 0 < depth.room → n < depth.all → sees (Mark p.LeftParenthesis) i ≡ true → expression_in (in_groups depth n) true sequence i ≡ and_then (expression_in (in_groups depth (suc n)) true sequence (tail i)) (closing (inside_of (in_groups depth n)))
+opens_at depth n i some more s =
+    let room : depth.room ≡ suc (depth.room - 1) = omega arith in
+    let all : depth.all - n ≡ suc (depth.all - suc n) = omega arith in
+    let within : depth.all - suc n ≡ (depth.all - n) - 1 = omega arith in
+    ap (λ r. expression_in (nesting r (depth.all - n)) true sequence i) room
+    ∙ ap (λ a. expression_in (nesting (suc (depth.room - 1)) a) true sequence i) all
+    ∙ opens (depth.room - 1) (depth.all - suc n) i s
+    ∙ ap (λ r. and_then (expression_in (nesting r (depth.all - suc n)) true sequence (tail i)) (closing (nesting (depth.room - 1) (depth.all - suc n)))) (let back : suc (depth.room - 1) ≡ depth.room = omega arith in back)
+    ∙ ap (λ a. and_then (expression_in (nesting depth.room (depth.all - suc n)) true sequence (tail i)) (closing (nesting (depth.room - 1) a))) within
 
 -- one more group is opened
-pub opened_more : (depth n m : ℕ) (i : List Lexeme) → m ≡ suc n → m < depth → sign_at i ≡ Some (Mark p.LeftParenthesis) → finished depth n (expression_in (depth - n) true Sequence i) ≡ finished depth m (expression_in (depth - m) true Sequence (tail i))
-opened_more depth n m i e h s =
-    let deeper : depth - n ≡ suc (depth - suc n) = omega arith in
-    ap (finished depth n) (ap (λ d. expression_in d true Sequence i) deeper ∙ opens (depth - suc n) i s)
-    ∙ ap (λ k. finished depth k (expression_in (depth - k) true Sequence (tail i))) (let back : suc n ≡ m = omega arith in back)
+pub opened_more : (depth : Nesting) (n m : ℕ) (i : List Lexeme) → m ≡ suc n → 0 < depth.room → n < depth.all → sees (Mark p.LeftParenthesis) i ≡ true → finished depth n (expression_in (in_groups depth n) true sequence i) ≡ finished depth m (expression_in (in_groups depth m) true sequence (tail i))
+opened_more depth n m i h some more s =
+    ap (finished depth n) (opens_at depth n i some more s)
+    ∙ ap (λ k. finished depth k (expression_in (in_groups depth k) true sequence (tail i))) (let back : suc n ≡ m = omega arith in back)
 
 -- the innermost of the groups that are open is closed
-pub closed_more : (depth n m d : ℕ) (a : tree.Expr) (i : List Lexeme) (o : Outcome tree.Expr) → n ≡ suc m → d ≡ depth - n → closing d a i ≡ o → finished depth n (Some (a, i)) ≡ finished depth m o
-closed_more depth n m d a i o e k r =
-    ap (λ j. finished depth j (Some (a, i))) e
-    ∙ ap (finished depth m) (ap (λ j. closing j a i) (let same : depth - suc m ≡ d = omega arith in same) ∙ r)
+pub closed_more : (depth : Nesting) (n m : ℕ) (a : tree.Expr) (i : List Lexeme) (o : Outcome tree.Expr) → n ≡ suc m → closing (inside_of (in_groups depth m)) a i ≡ o → finished depth n (Some (a, i)) ≡ finished depth m o
+closed_more depth n m a i o e r = ap (λ j. finished depth j (Some (a, i))) e ∙ ap (finished depth m) r
 
 -- where the inside of a group is refused, all is
-pub none_finished : (depth n : ℕ) → finished depth n None ≡ None
+pub none_finished : (depth : Nesting) (n : ℕ) → finished depth n None ≡ None
 none_finished depth zero = refl
 none_finished depth (suc n) = none_finished depth n
 
 -- where the inside of the innermost group is refused, all is
-pub none_inside : (depth n : ℕ) (o w : Outcome tree.Expr) → w ≡ finished depth n o → o ≡ None → w ≡ None
+pub none_inside : (depth : Nesting) (n : ℕ) (o w : Outcome tree.Expr) → w ≡ finished depth n o → o ≡ None → w ≡ None
 none_inside depth n o w e k = e ∙ ap (finished depth n) k ∙ none_finished depth n
 
+-- where as many groups are open as parts may nest, none may stand inside
+pub none_deeper : (depth : Nesting) (n : ℕ) (i : List Lexeme) (w : Outcome tree.Expr) → w ≡ finished depth n (expression_in (in_groups depth n) true sequence i) → n ≡ depth.all → w ≡ None
+none_deeper depth n i w e k =
+    let spent : depth.all - n ≡ 0 = omega arith in
+    none_inside depth n (expression_in (in_groups depth n) true sequence i) w e
+    (ap (λ a. expression_in (nesting depth.room a) true sequence i) spent ∙ no_expression (nesting depth.room 0) true sequence i (and_right (nat_lt 0 depth.room) (nat_lt 0 0) refl))
+
 -- where what stands behind the inside of a group is refused, all is
-pub none_behind : (depth n m d : ℕ) (a : tree.Expr) (i : List Lexeme) (w : Outcome tree.Expr) → w ≡ finished depth n (Some (a, i)) → n ≡ suc m → d ≡ depth - n → closing d a i ≡ None → w ≡ None
-none_behind depth n m d a i w e s k r = e ∙ closed_more depth n m d a i None s k r ∙ none_finished depth m
+pub none_behind : (depth : Nesting) (n m : ℕ) (a : tree.Expr) (i : List Lexeme) (w : Outcome tree.Expr) → w ≡ finished depth n (Some (a, i)) → n ≡ suc m → closing (inside_of (in_groups depth m)) a i ≡ None → w ≡ None
+none_behind depth n m a i w e s r = e ∙ closed_more depth n m a i None s r ∙ none_finished depth m

@@ -7,9 +7,14 @@ use Rattle.js_grammar.specs.Parser.{Outcome}
 use Rattle.js_grammar.specs.ScriptReader.{read_script, whole}
 use Rattle.js_grammar.specs.Scripts.{height_limit}
 use Rattle.js_grammar.specs.Symbols.{lexemes, Lexeme}
+use Rattle.expression_parser.specs.declared.nesting.Nesting.{Nesting}
 use Rattle.expression_parser.specs.Inside.{limit, body_in}
 
-pub read_as : (tokens : List Token) (o : Outcome (List tree.Stmt)) → body_in (length tokens + 1) (lexemes tokens) ≡ o → read_script height_limit tokens ≡ whole o
+-- how deep the parts of these tokens may nest
+abbrev pub outermost : List Token → Nesting
+outermost tokens = record { room = 882; all = length tokens + 1 }
+
+pub read_as : (tokens : List Token) (o : Outcome (List tree.Stmt)) → body_in (outermost tokens) (lexemes tokens) ≡ o → read_script height_limit tokens ≡ whole o
 unfolding body_in limit read_script
 read_as tokens o e = let f = rw add-one at e in ap whole f
 
@@ -21,11 +26,11 @@ pub whole_left : (found : List tree.Stmt) (rest : List Lexeme) → 0 < length re
 whole_left found [] h = absurd (omega arith)
 whole_left found (t ∷ ts) h = refl
 
-pub read_all : (tokens : List Token) (i : List Lexeme) (found : List tree.Stmt) (rest : List Lexeme) → i ≡ lexemes tokens → body_in (length tokens + 1) i ≡ Some (found, rest) → length rest ≡ 0 → read_script height_limit tokens ≡ Some (stmts_of found)
+pub read_all : (tokens : List Token) (i : List Lexeme) (found : List tree.Stmt) (rest : List Lexeme) → i ≡ lexemes tokens → body_in (outermost tokens) i ≡ Some (found, rest) → length rest ≡ 0 → read_script height_limit tokens ≡ Some (stmts_of found)
 read_all tokens i found rest begins e h = let f = rw begins at e in read_as tokens (Some (found, rest)) f ∙ whole_ended found rest h
 
-pub left_over : (tokens : List Token) (i : List Lexeme) (found : List tree.Stmt) (rest : List Lexeme) → i ≡ lexemes tokens → body_in (length tokens + 1) i ≡ Some (found, rest) → 0 < length rest → read_script height_limit tokens ≡ None
+pub left_over : (tokens : List Token) (i : List Lexeme) (found : List tree.Stmt) (rest : List Lexeme) → i ≡ lexemes tokens → body_in (outermost tokens) i ≡ Some (found, rest) → 0 < length rest → read_script height_limit tokens ≡ None
 left_over tokens i found rest begins e h = let f = rw begins at e in read_as tokens (Some (found, rest)) f ∙ whole_left found rest h
 
-pub not_read : (tokens : List Token) (i : List Lexeme) → i ≡ lexemes tokens → body_in (length tokens + 1) i ≡ None → read_script height_limit tokens ≡ None
+pub not_read : (tokens : List Token) (i : List Lexeme) → i ≡ lexemes tokens → body_in (outermost tokens) i ≡ None → read_script height_limit tokens ≡ None
 not_read tokens i begins e = let f = rw begins at e in read_as tokens None f

@@ -2,7 +2,7 @@
 
 ghost use Rattle.script_parser.specs.Functions.{Nests};
 
-use expression_parser::{Cursor, Inside, ParseFault};
+use expression_parser::{Cursor, Inside, Nesting, ParseFault};
 use js_core::{Expr, Stmt};
 use js_grammar::Level;
 use std::alloc::Global;
@@ -19,9 +19,9 @@ pub struct Functions<E, B, S> {
 }
 
 impl<
-    E: Fn(Global, usize, bool, Level, &mut Cursor<'_>) -> Result<Expr, ParseFault>,
-    B: Fn(Global, usize, &mut Cursor<'_>) -> Result<Vec<Stmt>, ParseFault>,
-    S: Fn(Global, usize, &mut Cursor<'_>) -> Result<Stmt, ParseFault>,
+    E: Fn(Global, Nesting, bool, Level, &mut Cursor<'_>) -> Result<Expr, ParseFault>,
+    B: Fn(Global, Nesting, &mut Cursor<'_>) -> Result<Vec<Stmt>, ParseFault>,
+    S: Fn(Global, Nesting, &mut Cursor<'_>) -> Result<Stmt, ParseFault>,
 > Inside for Functions<E, B, S> {
     ghost nests = { λ f depth. Nests depth (E.pre f.expression) (E.post f.expression)
         (B.pre f.body) (B.post f.body) (S.pre f.statement) (S.post f.statement) };
@@ -29,7 +29,7 @@ impl<
     fn expression(
         &self,
         alloc: Global,
-        depth: usize,
+        depth: Nesting,
         inn: bool,
         level: Level,
         tokens: &mut Cursor<'_>,
@@ -40,7 +40,7 @@ impl<
     fn body(
         &self,
         alloc: Global,
-        depth: usize,
+        depth: Nesting,
         tokens: &mut Cursor<'_>,
     ) -> Result<Vec<Stmt>, ParseFault> {
         (self.body)(alloc, depth, tokens)
@@ -49,7 +49,7 @@ impl<
     fn statement(
         &self,
         alloc: Global,
-        depth: usize,
+        depth: Nesting,
         tokens: &mut Cursor<'_>,
     ) -> Result<Stmt, ParseFault> {
         (self.statement)(alloc, depth, tokens)

@@ -5,14 +5,14 @@ ghost use Rattle.expression_parser.specs.Inside.{limit, expression_in, body_in, 
 ghost use Rattle.expression_parser.specs.Reads.{Reads, ReadsAll};
 
 use crate::inner::Statements;
-use expression_parser::{Cursor, Grammar, Inside, ParseFault};
+use expression_parser::{Cursor, Grammar, Inside, Nesting, ParseFault};
 use js_core::Stmt;
 use std::alloc::Global;
 
 /// Reads a statement.
 pub fn any_statement<I: Inside + Drop>(
     alloc: Global,
-    depth: usize,
+    depth: Nesting,
     inside: I,
     tokens: &mut Cursor<'_>,
 ) -> Result<Stmt, ParseFault>
@@ -29,7 +29,7 @@ pub fn any_statement<I: Inside + Drop>(
 /// Reads the source elements before a `}` and the end.
 pub fn elements<I: Inside + Drop>(
     alloc: Global,
-    depth: usize,
+    depth: Nesting,
     inside: I,
     tokens: &mut Cursor<'_>,
 ) -> Result<Vec<Stmt>, ParseFault>

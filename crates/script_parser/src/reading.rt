@@ -1,24 +1,26 @@
 //! Whole scripts (ECMA-262 5.1 section 14).
 
-ghost use Rattle.std.specs.Prelude.{◌≡◌, ◌-◌, ◌<◌, true, IfOk, IsErrOf};
+ghost use Rattle.std.specs.Prelude.{◌≡◌, ◌<◌, ◌≤◌, true, false, IfOk, IsErrOf};
 ghost use Rattle.js_core.specs.Tree as tree;
+ghost use Rattle.js_grammar.specs.Parser.{sees};
 ghost use Rattle.js_grammar.specs.ScriptReader.{read_script};
 ghost use Rattle.js_grammar.specs.Scripts.{Derives, ScriptOf, height_limit};
 ghost use Rattle.expression_parser.specs.Inside.{expression_in, body_in, statement_in};
+ghost use Rattle.expression_parser.specs.Nestings.{in_groups};
 ghost use Rattle.expression_parser.specs.Reads.{Reads, ReadsAll, Gives};
-ghost use Rattle.script_parser.specs.Groups.{finished};
+ghost use Rattle.script_parser.specs.Groups.{finished, has_room, may_open};
 ghost use Rattle.script_parser.specs.Whole.{GivesBody};
 
 use crate::functions::Functions;
 use crate::phrase::{any_statement, elements};
-use expression_parser::{Cursor, ParseFault, closed_group, expression_at_level, sequence};
-use js_core::{Expr, Punct, Script, Stmt, Token};
+use expression_parser::{Cursor, Nesting, ParseFault, closed_group, expression_at_level, sequence};
+use js_core::{Expr, HEIGHT_LIMIT, Punct, Script, Stmt, Token};
 use js_grammar::{Level, Sign, law_one_script, law_reading_is_the_grammar};
 use std::alloc::Global;
 
 /// The script of these tokens (ECMA-262 5.1 annex A.3 to A.5, by the grammar of `js_grammar`), which is no higher than 440:
-/// their one tree. `NotScript` exactly where they have none. The time is linear in the number of statements. Groups with
-/// which expressions begin take no more of the machine's stack however deep they nest; all else nests as deep as that allows.
+/// their one tree. `NotScript` exactly where they have none. The time is linear in the number of statements. It takes a bounded
+/// part of the machine's stack, however deep the tokens nest.
 pub fn script(alloc: Global, tokens: &[Token]) -> Result<Script, ParseFault>
     // The answer is that of the reader.
     ensures reads { Gives (read_script height_limit tokens.now) result }
@@ -37,62 +39,91 @@ pub fn script(alloc: Global, tokens: &[Token]) -> Result<Script, ParseFault>
     Ok(Script { body })
 }
 
+/// How deep the parts of a script that is not too high nest, but for groups with which expressions begin: a part is lower than
+/// what it stands in, but for the inside of a group and the block that is the body of another statement.
+const ROOM: usize = 2 * HEIGHT_LIMIT as usize + 2;
+
 fn read(alloc: Global, tokens: &[Token]) -> Result<Vec<Stmt>, ParseFault>
     ensures { GivesBody (read_script height_limit tokens.now) result }
 {
     let mut cursor = Cursor::new(tokens);
-    // Each part inside another begins behind a token of it, so that nesting ends before the count does.
-    let body = body_inside(alloc, tokens.len() + 1, &mut cursor)?;
+    // Each part inside another begins behind a token of it, so that all nesting ends before the count does.
+    let depth = Nesting {
+        room: ROOM,
+        all: tokens.len() + 1,
+    };
+    let body = body_inside(alloc, depth, &mut cursor)?;
     if cursor.left() > 0 {
         return Err(ParseFault::NotScript);
     }
     Ok(body)
 }
 
+/// Whether any part may nest.
+fn has_room(depth: Nesting) -> bool
+    ensures { result ≡ has_room depth }
+{
+    depth.room > 0 && depth.all > 0
+}
+
+/// Whether groups with which an expression of this level begins are opened by a loop.
+fn may_open(level: Level, inn: bool) -> bool
+    ensures { result ≡ may_open level inn }
+{
+    inn && matches!(level, Level::Sequence)
+}
+
 /// Reads an expression, where parts nest less deep than `depth`.
 #[cycle(inside)]
 fn expression_inside(
     alloc: Global,
-    depth: usize,
+    depth: Nesting,
     inn: bool,
     level: Level,
     tokens: &mut Cursor<'_>,
 ) -> Result<Expr, ParseFault>
     ensures { Reads (expression_in depth inn level tokens.old) result tokens.new }
 {
-    if depth == 0 {
+    if !has_room(depth) {
         return Err(ParseFault::NotScript);
     }
-    match level {
-        Level::Sequence if inn => sequence_inside(alloc, depth, tokens),
-        _ => expression_at_level(
-            alloc,
-            depth - 1,
-            Functions {
-                expression: expression_inside,
-                body: body_inside,
-                statement: statement_inside,
-            },
-            inn,
-            level,
-            tokens,
-        ),
+    if may_open(level, inn) {
+        return sequence_inside(alloc, depth, tokens);
     }
+    expression_at_level(
+        alloc,
+        depth.inside(),
+        Functions {
+            expression: expression_inside,
+            body: body_inside,
+            statement: statement_inside,
+        },
+        inn,
+        level,
+        tokens,
+    )
 }
 
 /// Reads an expression with commas, where parts nest less deep than `depth`. The groups with which it begins are opened
 /// before their inside is read, and closed behind it.
 #[cycle(inside)]
-fn sequence_inside(alloc: Global, depth: usize, tokens: &mut Cursor<'_>) -> Result<Expr, ParseFault>
-    requires { 0 < depth }
+fn sequence_inside(
+    alloc: Global,
+    depth: Nesting,
+    tokens: &mut Cursor<'_>,
+) -> Result<Expr, ParseFault>
+    requires { 0 < depth.room }
     ensures { Reads (expression_in depth true Level.Sequence tokens.old) result tokens.new }
 {
     let opened = open_groups(depth, tokens);
-    let mut inner = innermost_inside(alloc, depth - opened, tokens)?;
+    if opened == depth.all {
+        return Err(ParseFault::NotScript);
+    }
+    let mut inner = innermost_inside(alloc, depth.in_groups(opened), tokens)?;
     for closed in 0..opened {
         inner = closed_group(
             alloc,
-            depth - (opened - closed),
+            depth.in_groups(opened - closed - 1).inside(),
             Functions {
                 expression: expression_inside,
                 body: body_inside,
@@ -105,36 +136,41 @@ fn sequence_inside(alloc: Global, depth: usize, tokens: &mut Cursor<'_>) -> Resu
     Ok(inner)
 }
 
-/// Goes behind the parentheses of the groups with which an expression begins, fewer than `depth` of them, and tells how
-/// many these are.
-fn open_groups(depth: usize, tokens: &mut Cursor<'_>) -> usize
-    requires { 0 < depth }
+/// Goes behind the parentheses of the groups with which an expression begins, as far as parts may nest, and tells how many
+/// these are.
+fn open_groups(depth: Nesting, tokens: &mut Cursor<'_>) -> usize
+    requires { 0 < depth.room }
     ensures inside { expression_in depth true Level.Sequence tokens.old
-        ≡ finished depth result (expression_in (depth - result) true Level.Sequence tokens.new) }
-    ensures few { result < depth }
+        ≡ finished depth result
+        (expression_in (in_groups depth result) true Level.Sequence tokens.new) }
+    ensures few { result ≤ depth.all }
+    ensures each { result < depth.all → sees
+        (Sign.Mark Punct.LeftParenthesis) tokens.new ≡ false }
 {
-    for opened in 0..depth - 1 {
-        match tokens.sign() {
-            Some(Sign::Mark(Punct::LeftParenthesis)) => tokens.skip(),
-            _ => return opened,
+    for opened in 0..depth.all {
+        if !tokens.sees(Sign::Mark(Punct::LeftParenthesis)) {
+            return opened;
         }
+        tokens.skip();
     }
-    depth - 1
+    depth.all
 }
 
-/// Reads an expression with commas, where parts nest less deep than `depth`.
+/// Reads an expression with commas that begins with no group, where parts nest less deep than `depth`.
 #[cycle(inside)]
 fn innermost_inside(
     alloc: Global,
-    depth: usize,
+    depth: Nesting,
     tokens: &mut Cursor<'_>,
 ) -> Result<Expr, ParseFault>
-    requires { 0 < depth }
+    requires room { 0 < depth.room }
+    requires all { 0 < depth.all }
+    requires begun { sees (Sign.Mark Punct.LeftParenthesis) tokens.old ≡ false }
     ensures { Reads (expression_in depth true Level.Sequence tokens.old) result tokens.new }
 {
     sequence(
         alloc,
-        depth - 1,
+        depth.inside(),
         Functions {
             expression: expression_inside,
             body: body_inside,
@@ -148,17 +184,17 @@ fn innermost_inside(
 #[cycle(inside)]
 fn body_inside(
     alloc: Global,
-    depth: usize,
+    depth: Nesting,
     tokens: &mut Cursor<'_>,
 ) -> Result<Vec<Stmt>, ParseFault>
     ensures { ReadsAll (body_in depth tokens.old) result tokens.new }
 {
-    if depth == 0 {
+    if !has_room(depth) {
         return Err(ParseFault::NotScript);
     }
     elements(
         alloc,
-        depth - 1,
+        depth.inside(),
         Functions {
             expression: expression_inside,
             body: body_inside,
@@ -172,17 +208,17 @@ fn body_inside(
 #[cycle(inside)]
 fn statement_inside(
     alloc: Global,
-    depth: usize,
+    depth: Nesting,
     tokens: &mut Cursor<'_>,
 ) -> Result<Stmt, ParseFault>
     ensures { Reads (statement_in depth tokens.old) result tokens.new }
 {
-    if depth == 0 {
+    if !has_room(depth) {
         return Err(ParseFault::NotScript);
     }
     any_statement(
         alloc,
-        depth - 1,
+        depth.inside(),
         Functions {
             expression: expression_inside,
             body: body_inside,
