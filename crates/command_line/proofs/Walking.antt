@@ -1,20 +1,16 @@
 -- That there is a walk of each page, whatever is reached.
-use Rattle.std.proofs.Common.{◌≡◌, ◌⊎◌, inl, inr, refl, sym, ap, subst, ◌∙◌, ℕ, zero, suc, ◌+◌, ◌≤◌, ◌<◌, Bool, true, false, ◌&&◌, List, [], ◌∷◌, length, nat_eq, arith}
+use Rattle.std.proofs.Common.{◌≡◌, ◌⊎◌, inl, inr, refl, sym, ap, subst, ◌∙◌, ℕ, zero, suc, ◌+◌, ◌≤◌, ◌<◌, Bool, true, false, List, [], ◌∷◌, length, nat_eq, arith}
 use Rattle.std.proofs.Math.Bool.{or-true}
-use Rattle.std.proofs.lemmas.Bool.{eq-eqb, eqb-true, ltb-true}
+use Rattle.std.proofs.lemmas.Bool.{and_parts, eq-eqb, eqb-true, ltb-true}
 use Rattle.std.specs.List.{slice_index}
 use Rattle.std.specs.List.Sorted.{IsStrictlyIncreasing}
 use Rattle.page_meaning.specs.Store.{Store}
 use Rattle.heap_walker.proofs.Callers.{thing_of}
 use Rattle.heap_walker.specs.Things.{IsWalk, Reach, is_in}
 
-right_of : (a b : Bool) → (a && b) ≡ true → b ≡ true
-right_of true b h = h
-right_of false b h = cc h
-
 -- what can be reached is there
 there : (s : Store) (k : ℕ) → Reach s k → k < length s.heap.objects
-there s k reach = ltb-true k (length s.heap.objects) (right_of _ _ (thing_of s k reach))
+there s k reach = ltb-true k (length s.heap.objects) (and_parts _ _ (thing_of s k reach)).1
 
 in_here : (k : ℕ) (ks : List ℕ) → is_in k (k ∷ ks) ≡ true
 in_here k ks = rw (eq-eqb k k refl) refl

@@ -1,9 +1,8 @@
 -- What is seen of lists of links.
-use Rattle.std.proofs.Common.{◌≡◌, ◌⊎◌, inl, inr, refl, sym, subst, ◌∙◌, ℕ, ◌≤◌, Bool, true, false, ◌||◌, List, [], ◌∷◌, ◌++◌, length, take, nat_eq, arith}
-use Rattle.std.proofs.lemmas.Bool.{eq-eqb, eqb-true}
+use Rattle.std.proofs.Common.{◌≡◌, ◌⊎◌, inl, inr, refl, sym, subst, ◌∙◌, ℕ, ◌≤◌, Bool, true, false, List, [], ◌∷◌, ◌++◌, length, take, nat_eq, arith}
+use Rattle.std.proofs.lemmas.Bool.{eq-eqb, eqb-true, or_cases, or_left, or_right}
 use Rattle.std.proofs.lemmas.List.{length-append, take-append-le}
 use Rattle.std.proofs.lemmas.List.Folds.{list_any-append}
-use Rattle.std.proofs.Math.Bool.{or-true}
 use Rattle.indexmap.specs.IndexSet.{insert_key}
 use Rattle.page_meaning.specs.Store.{Store}
 use Rattle.heap_walker.specs.Things.{is_in}
@@ -20,18 +19,8 @@ joined_both s seen (k ∷ ks) js = joined_both s (with_seen s seen k) ks js
 here : (k : ℕ) → nat_eq k k ≡ true
 here k = eq-eqb k k refl
 
-or_left : (a b : Bool) → a ≡ true → (a || b) ≡ true
-or_left a b h = rw h refl
-
-or_right : (a b : Bool) → b ≡ true → (a || b) ≡ true
-or_right a b h = rw h (or-true a)
-
-pub either : (a b : Bool) → (a || b) ≡ true → (a ≡ true) ⊎ (b ≡ true)
-either true b h = inl refl
-either false b h = inr h
-
 pub in_next : (q k : ℕ) (ks : List ℕ) → is_in q (k ∷ ks) ≡ true → (q ≡ k) ⊎ (is_in q ks ≡ true)
-in_next q k ks h = by (either (nat_eq q k) (is_in q ks) h)
+in_next q k ks h = by (or_cases (nat_eq q k) (is_in q ks) h)
   where
     by : (nat_eq q k ≡ true) ⊎ (is_in q ks ≡ true) → (q ≡ k) ⊎ (is_in q ks ≡ true)
     by (inl same) = inl (eqb-true q k same)
@@ -64,7 +53,7 @@ inserted_from q k ks h = by (is_in k ks) refl
 
     by : (b : Bool) → is_in k ks ≡ b → (is_in q ks ≡ true) ⊎ (q ≡ k)
     by true there = inl (rw there at h)
-    by false there = last (either (is_in q ks) (is_in q (k ∷ [])) (sym (list_any-append (nat_eq q) ks (k ∷ [])) ∙ rw there at h))
+    by false there = last (or_cases (is_in q ks) (is_in q (k ∷ [])) (sym (list_any-append (nat_eq q) ks (k ∷ [])) ∙ rw there at h))
 
 seen_kept : (s : Store) (q k : ℕ) (seen : List ℕ) → is_in q seen ≡ true → is_in q (with_seen s seen k) ≡ true
 seen_kept s q k seen h = by (is_thing s k) refl

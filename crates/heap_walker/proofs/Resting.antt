@@ -1,7 +1,7 @@
 -- What the things of a page at rest refer to is built in or walked.
 use Rattle.std.proofs.Common.{◌≡◌, ◌⊎◌, inl, inr, refl, sym, ap, ◌∙◌, ℕ, zero, suc, ◌<◌, Bool, true, false, ◌||◌, List, [], ◌∷◌, ◌++◌, drop, length, nat_eq, nat_le, nat_lt}
 use Rattle.std.proofs.Math.Bool.{or-true}
-use Rattle.std.proofs.lemmas.Bool.{eq-eqb, eqb-true, leb-false, ltb-true}
+use Rattle.std.proofs.lemmas.Bool.{eq-eqb, eqb-true, leb-false, ltb-true, or_cases}
 use Rattle.std.proofs.lemmas.List.Folds.{list_any-append}
 use Rattle.std.specs.List.{list_all}
 use Rattle.object_heap.specs.Chain.{object_at}
@@ -14,7 +14,6 @@ use Rattle.heap_walker.specs.Things.{IsWalk, class_links, is_in, link, links, ro
 use Rattle.object_shapes.specs.Links.{built_in_count, is_thing, props_links, proto_links, value_links}
 use Rattle.object_shapes.specs.Shapes.{built_in_globals}
 use Rattle.heap_walker.proofs.Bindings.{links_there, made_below}
-use Rattle.heap_walker.proofs.Joining.{either}
 
 -- what holds of all holds of each
 pub each_of : (p : ℕ → Bool) (ks : List ℕ) → list_all p ks ≡ true → (j : ℕ) → is_in j ks ≡ true → p j ≡ true
@@ -77,7 +76,7 @@ roots_in_walk s things still walk j h = by (built_in_or_thing s j (each_of (λ n
 
 -- what a thing refers to from when it was made is among its links
 pub made_among : (s : Store) (k j : ℕ) → is_in j (made_links s (object_at s.heap.objects k)) ≡ true → is_in j (links s k) ≡ true
-made_among s k j h = by (either (is_in j (proto_links o.proto)) (is_in j (class_links s o.class)) (sym (list_any-append (nat_eq j) (proto_links o.proto) (class_links s o.class)) ∙ h))
+made_among s k j h = by (or_cases (is_in j (proto_links o.proto)) (is_in j (class_links s o.class)) (sym (list_any-append (nat_eq j) (proto_links o.proto) (class_links s o.class)) ∙ h))
   where
     o : Object
     o = object_at s.heap.objects k

@@ -1,7 +1,7 @@
 -- How a walk goes on, and that there is one.
-use Rattle.std.proofs.Common.{◌≡◌, ◌⊎◌, inl, inr, refl, sym, ap, subst, ◌∙◌, ℕ, suc, ◌+◌, ◌≤◌, ◌<◌, Bool, true, false, ◌||◌, ◌&&◌, List, [], ◌∷◌, length, take, drop, get_or, nat_eq, nat_cmp, arith}
+use Rattle.std.proofs.Common.{◌≡◌, ◌⊎◌, inl, inr, refl, sym, ap, subst, ◌∙◌, ℕ, suc, ◌+◌, ◌≤◌, ◌<◌, Bool, true, false, ◌||◌, List, [], ◌∷◌, length, take, drop, get_or, nat_eq, nat_cmp, arith}
 use Rattle.std.proofs.Math.Bool.{or-true}
-use Rattle.std.proofs.lemmas.Bool.{eq-eqb, eqb-true, ltb-true}
+use Rattle.std.proofs.lemmas.Bool.{and_parts, eq-eqb, eqb-true, ltb-true, or_cases}
 use Rattle.std.proofs.lemmas.List.{take-append-drop, take_all}
 use Rattle.std.proofs.lemmas.List.Folds.{list_any-append, list_any_at, list_any_more}
 use Rattle.std.proofs.lemmas.List.Sorted.{IsNonDecreasingBy-from_sort}
@@ -15,19 +15,15 @@ use Rattle.heap_walker.specs.Things.{IsWalk, Reach, is_in, link, links, root, ro
 use Rattle.object_shapes.specs.Links.{is_thing}
 use Rattle.heap_walker.specs.Walking.{IsAll, IsPart, joined}
 use Rattle.heap_walker.proofs.Places.{same_place}
-use Rattle.heap_walker.proofs.Joining.{either, in_next, joined_from, joined_gained, joined_kept, joined_places}
+use Rattle.heap_walker.proofs.Joining.{in_next, joined_from, joined_gained, joined_kept, joined_places}
 
 pub thing_of : (s : Store) (k : ℕ) → Reach s k → is_thing s k ≡ true
 thing_of s k (root thing found) = thing
 thing_of s k (link from thing found) = thing
 
-right_of : (a b : Bool) → (a && b) ≡ true → b ≡ true
-right_of true b h = h
-right_of false b h = cc h
-
 -- what can be reached is there
 pub there : (s : Store) (k : ℕ) → Reach s k → k < length s.heap.objects
-there s k reach = ltb-true k (length s.heap.objects) (right_of _ _ (thing_of s k reach))
+there s k reach = ltb-true k (length s.heap.objects) (and_parts _ _ (thing_of s k reach)).1
 
 -- no more is seen than there is
 pub not_more : (s : Store) (first : ℕ) (seen : List ℕ) → IsDistinct nat_eq seen → IsPart s first seen → length seen ≤ length s.heap.objects
@@ -54,7 +50,7 @@ pub part_goes_on : (s : Store) (first k : ℕ) (seen new : List ℕ) → first <
 part_goes_on s first k seen new inside is made part = record {
   sound = λ q h. from q (joined_from s q seen (links s k) (ap (is_in q) (sym made) ∙ h));
   roots = λ q thing found. ap (is_in q) made ∙ joined_kept s q seen (links s k) (part.roots q thing found);
-  links = λ j q h thing found. ap (is_in q) made ∙ next j q thing found (either (is_in j (take first seen)) (nat_eq j (get_or seen first k)) (looked j h));
+  links = λ j q h thing found. ap (is_in q) made ∙ next j q thing found (or_cases (is_in j (take first seen)) (nat_eq j (get_or seen first k)) (looked j h));
 }
   where
     seen_here : is_in k seen ≡ true
