@@ -12,7 +12,7 @@ use crate::status::Status;
 use heap_walker::{Walked, walk};
 use js_core::OutOfMemory;
 use js_values::Event;
-use opened_pages::open_accepted;
+use opened_pages::open_checked;
 use page_check::CheckedPage;
 use page_io::Sink;
 use page_state::State;
@@ -27,7 +27,7 @@ pub fn save_page<O: Sink>(alloc: Global, page: CheckedPage, list: &[Event], out:
     ensures numbered { ¬ (result ≡ Status.OutOfMemory)
         → HaveNumbers page.kind page.scripts }
 {
-    match open_accepted(alloc, page) {
+    match open_checked(alloc, page) {
         Ok(opened) => save_opened(alloc, opened, list, out),
         Err(OutOfMemory) => Status::OutOfMemory,
     }

@@ -4,11 +4,11 @@ use Rattle.std.specs.Prelude.{◌==◌}
 use Rattle.std.specs.Char.Escape.{backslash}
 use Rattle.std.specs.Char.Utf16.{is_high_surrogate}
 use Rattle.std.specs.List.{list_all, flat_map}
+use Rattle.std.proofs.lemmas.Bool.{and_parts}
 use Rattle.std.proofs.lemmas.Bool.Decides.{nat_tests}
 use Rattle.std.proofs.lemmas.Str.{encode_ascii}
 use Rattle.js_core.specs.LineText.{code_points, is_escaped, line_code, line_text}
 use Rattle.js_print.specs.Spelling.{is_plain}
-use Rattle.js_print.proofs.Literals.{and_left, and_right}
 
 no_high : (u : ℕ) → is_plain u ≡ true → is_high_surrogate u ≡ false
 no_high u e = grind (arith, nat_tests)
@@ -29,13 +29,13 @@ points_alone : (us : List ℕ) → list_all is_plain us ≡ true → code_points
 points_alone [] e = refl
 points_alone (u ∷ []) e = refl
 points_alone (u ∷ v ∷ us) e =
-    let none = no_high u (and_left (is_plain u) _ e) in
-    rw none (ap (λ x. u ∷ x) (points_alone (v ∷ us) (and_right (is_plain u) _ e)))
+    let none = no_high u (and_parts (is_plain u) _ e).0 in
+    rw none (ap (λ x. u ∷ x) (points_alone (v ∷ us) (and_parts (is_plain u) _ e).1))
 
 bytes_alone : (us : List ℕ) → list_all is_plain us ≡ true → flat_map line_code us ≡ us
 bytes_alone [] e = refl
 bytes_alone (u ∷ us) e =
-    ap (λ x. x ++ flat_map line_code us) (one_byte u (and_left (is_plain u) _ e)) ∙ ap (λ x. u ∷ x) (bytes_alone us (and_right (is_plain u) _ e))
+    ap (λ x. x ++ flat_map line_code us) (one_byte u (and_parts (is_plain u) _ e).0) ∙ ap (λ x. u ∷ x) (bytes_alone us (and_parts (is_plain u) _ e).1)
 
 pub plain_name_length : (us : List ℕ) → list_all is_plain us ≡ true → length (line_text us) ≡ length us
 plain_name_length us e = ap (λ ps. length (flat_map line_code ps)) (points_alone us e) ∙ ap length (bytes_alone us e)

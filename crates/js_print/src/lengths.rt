@@ -48,7 +48,7 @@ fn lexemes_length(alloc: Global, lexemes: &[Lexeme]) -> Result<u64, OutOfMemory>
     Ok(bytes)
 }
 
-// A length with more bytes. No memory holds so many that it would be none.
+// A length with more bytes. A sum above 2^64 - 1 is answered as want of memory: no memory holds such a text.
 fn longer(bytes: u64, more: u64) -> Result<u64, OutOfMemory>
     ensures { IfOk result (λ sum. sum ≡ bytes + more) }
 {

@@ -47,6 +47,7 @@ fn push_unit(unit: u16, out: &mut Vec<u8>) -> Result<(), OutOfMemory>
     }
 }
 
+/// Whether a unit stands for itself in a string literal.
 pub fn is_plain(unit: u16) -> bool
     ensures value { result ≡ spec.is_plain unit }
 {

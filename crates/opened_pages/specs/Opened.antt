@@ -16,7 +16,7 @@ abbrev pub script_texts : List tree.Stmts → List ℕ
 script_texts [] = []
 script_texts (script ∷ scripts) = script_text script ++ script_texts scripts
 
--- the mark, and a plain page without a byte order mark, with the text of its opened script in place of its own
+-- the mark, and a plain page without a byte order mark, with the texts of its opened scripts in place of its own
 abbrev pub opened_text : Bool → List tree.Stmts → List ℕ
 opened_text with_body scripts = framed with_body (script_texts (open_scripts scripts))
 

@@ -30,8 +30,8 @@ pub fn open_page(alloc: Global, bytes: &[u8], accepted: &Accepted) -> Result<Vec
     }
 }
 
-/// The scripts of an accepted page with opened scopes, as those of a form page. Those of a form page stay as they are.
-pub fn open_accepted(alloc: Global, page: CheckedPage) -> Result<CheckedPage, OutOfMemory>
+/// The page with opened scopes, as a form page. A form page stays as it is.
+pub fn open_checked(alloc: Global, page: CheckedPage) -> Result<CheckedPage, OutOfMemory>
     ensures opened { IfOk result (λ opened.
         opened.scripts ≡ opened_scripts page.kind page.scripts) }
     ensures numbered { OnOk result (HaveNumbers page.kind page.scripts) }

@@ -44,7 +44,7 @@ pub record LeftOver (text : List ℕ) (kind : Kind) (with_body : Bool) (left : L
   pub no_zero : has_zero text ≡ false
   pub there : (other : Kind) (texts : List (List ℕ)) → (page : IsFramePage text other texts) → left ≡ page.inner ++ codes "</script></html>"
 
-nested : (a b c d e f : List ℕ) → a ++ b ++ c ++ d ++ e ++ f ≡ a ++ (b ++ (c ++ (d ++ (e ++ f))))
+pub nested : (a b c d e f : List ℕ) → a ++ b ++ c ++ d ++ e ++ f ≡ a ++ (b ++ (c ++ (d ++ (e ++ f))))
 nested a b c d e f = simp append_assoc
 
 four : (a b c d left : List ℕ) → a ++ (b ++ (c ++ (d ++ left))) ≡ (a ++ b ++ c ++ d) ++ left

@@ -1,10 +1,11 @@
 -- A page's text has one reading.
-use Rattle.std.proofs.Common.{◌≡◌, ℕ, ◌+◌, Bool, true, false, List, [], ◌∷◌, ◌++◌, length, get_or, refl, sym, ap, ◌∙◌, append_assoc, arith}
+use Rattle.std.proofs.Common.{◌≡◌, ℕ, ◌+◌, Bool, true, false, List, [], ◌∷◌, ◌++◌, length, get_or, refl, sym, ap, ◌∙◌, arith}
 use Rattle.std.proofs.lemmas.List.{append_cancel_left, append_cancel_right}
 use Rattle.std.specs.Prelude.{codes}
 use Rattle.page_check.specs.Frame.{Opening, nothing, byte_order_mark, form_mark, opening_text, kind_of, body_text, front, IsFramePage, IsOneFrame}
 use Rattle.page_check.specs.declared.page.Kind.{Kind}
 use Rattle.page_check.specs.declared.page.Place.{Place}
+use Rattle.page_check.proofs.Frames.{nested}
 
 -- the units at a place of two equal texts
 at : (k : ℕ) {xs ys : List ℕ} → xs ≡ ys → get_or xs k 0 ≡ get_or ys k 0
@@ -26,9 +27,6 @@ one_body true true x y e = (refl, append_cancel_left (codes "<script>") x y (app
 one_body false false x y e = (refl, append_cancel_left (codes "<script>") x y e)
 one_body true false x y e = let h : 98 ≡ 115 = at 1 e in absurd (omega (arith, h))
 one_body false true x y e = let h : 115 ≡ 98 = at 1 e in absurd (omega (arith, h))
-
-nested : (a b c d e f : List ℕ) → a ++ b ++ c ++ d ++ e ++ f ≡ a ++ (b ++ (c ++ (d ++ (e ++ f))))
-nested a b c d e f = simp append_assoc
 
 abbrev placed : Opening → Bool → List ℕ → List Place
 placed opening with_body inner = record { start = length (front opening with_body); end = length (front opening with_body) + length inner } ∷ []

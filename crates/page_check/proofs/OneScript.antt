@@ -12,7 +12,7 @@ use Rattle.page_check.specs.declared.page.Kind.{Kind}
 use Rattle.page_check.specs.declared.page.Kind.TheVariants.{Plain, Form}
 use Rattle.page_check.specs.declared.page.Refusal.{Refusal}
 use Rattle.page_check.specs.declared.page.Refusal.TheVariants.{NotUtf8, NotPage, NotTokens, NotScript, NotStrict, Early, TooDeep, ReservedName, NotForm}
-use Rattle.page_check.proofs.Stages.{Read, read_so_far, stage, read_until, same_tree, not_further}
+use Rattle.page_check.proofs.Stages.{Read, read_until_stage, stage, read_until, same_tree, not_further}
 
 below : (n m : ℕ) → nat_lt n m ≡ true → n < m
 below n m e = grind (arith, nat_tests)
@@ -33,7 +33,7 @@ early_enough (NotForm n) = omega arith
 
 -- of two stages one is not before the other
 apart : (kind : Kind) (text : List ℕ) (n m : ℕ) → n < m → ¬ Read kind text (suc n) → ¬ Read kind text m
-apart kind text n m less off r = off (read_so_far kind text (m - suc n) (suc n) m (omega arith) r)
+apart kind text n m less off r = off (read_until_stage kind text (m - suc n) (suc n) m (omega arith) r)
 
 module _ (one_list : (text : List ℕ) (l r : List Token) → Tokens text l → Tokens text r → l ≡ r) (one_tree : (tokens : List Token) (s t : tree.Stmts) → Derives tokens s → Derives tokens t → s ≡ t) where
   pub one_script : (kind : Kind) (text : List ℕ) (s t : tree.Stmts) → IsPageScript kind text s → IsPageScript kind text t → s ≡ t

@@ -7,8 +7,8 @@ use Rattle.page_check.specs.declared.page.Refusal.{Refusal}
 use Rattle.page_check.proofs.SomeScript.{some_script}
 
 -- the foremost of texts is refused
-refused_first : (kind : Kind) (k : ℕ) (text : List ℕ) (texts : List (List ℕ)) (r : Refusal) → IsScriptRefusal kind k text r → IsRefusedFrom kind k (text ∷ texts) r
-refused_first kind k text texts r off =
+foremost_refused : (kind : Kind) (k : ℕ) (text : List ℕ) (texts : List (List ℕ)) (r : Refusal) → IsScriptRefusal kind k text r → IsRefusedFrom kind k (text ∷ texts) r
+foremost_refused kind k text texts r off =
     let same : k ≡ length {A = List ℕ} [] + k = omega arith in
     record { before = []; scripts = []; read = tt; text = text; behind = texts; split = refl; off = subst (λ (n : ℕ). IsScriptRefusal kind n text r) same off }
 
@@ -34,4 +34,4 @@ some_scripts kind k (text ∷ texts) no_scripts no_cause =
     some_script kind k text
     (λ script read. some_scripts kind (suc k) texts (λ scripts reads. no_scripts (script ∷ scripts) (read, reads))
     (λ r h. no_cause r (refused_later kind k text texts script r read h)))
-    (λ r off. no_cause r (refused_first kind k text texts r off))
+    (λ r off. no_cause r (foremost_refused kind k text texts r off))

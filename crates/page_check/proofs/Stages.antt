@@ -32,10 +32,10 @@ read_before kind text (suc (suc (suc (suc (suc zero))))) r = (r.0, r.1.low)
 read_before kind text (suc (suc (suc (suc (suc (suc n)))))) r = r
 
 -- what is read further is read so far
-pub read_so_far : (kind : Kind) (text : List ℕ) (d n m : ℕ) → m ≡ d + n → Read kind text m → Read kind text n
-read_so_far kind text zero n m e r = let same : m ≡ n = omega arith in subst (Read kind text) same r
-read_so_far kind text (suc d) n zero e r = absurd (omega arith)
-read_so_far kind text (suc d) n (suc m) e r = read_so_far kind text d n m (omega arith) (read_before kind text m r)
+pub read_until_stage : (kind : Kind) (text : List ℕ) (d n m : ℕ) → m ≡ d + n → Read kind text m → Read kind text n
+read_until_stage kind text zero n m e r = let same : m ≡ n = omega arith in subst (Read kind text) same r
+read_until_stage kind text (suc d) n zero e r = absurd (omega arith)
+read_until_stage kind text (suc d) n (suc m) e r = read_until_stage kind text d n m (omega arith) (read_before kind text m r)
 
 -- the stage that a refusal of a script is about
 abbrev pub stage : Refusal → ℕ

@@ -106,7 +106,7 @@ fn behind_opening(text: &[u16]) -> (Kind, &[u16])
     }
 }
 
-/// Whether an empty body stands first, and what stands behind it.
+/// Whether an empty body stands at the front, and what stands behind it.
 fn behind_body(text: &[u16]) -> (bool, &[u16])
     ensures read { text.now ≡ body_text result.0 ++ result.1.now }
     ensures forced { (with_body : Bool) (rest : List ℕ) → text.now ≡ body_text with_body

@@ -87,7 +87,8 @@ pub struct Accepted {
     pub page: CheckedPage,
     /// Whether an empty body stands before its scripts.
     pub with_body: bool,
-    /// Where the texts of its scripts stand, in document order.
+    /// Where the texts of its scripts stand, in document order. A page has one script until nodes come, and who opens it needs
+    /// no place till then.
     pub places: Vec<Place>,
 }
 
