@@ -1,7 +1,7 @@
 #!/bin/sh
 # How `check` ends, and how its time grows, where a script nests deep: brackets of each kind, and what nests without brackets, under the
-# usual stack of 8 MiB. A kind that makes height is refused with its note, each other one is a script. Only the loops, which stand last,
-# take more stack than that, up to 9.2 MiB, and end by a signal. The last column stays about the same where the time is in proportion.
+# usual stack of 8 MiB. A kind that makes height is refused with its note, each other one is a script. The last column stays about the
+# same where the time is in proportion.
 # Build the program first: `./imagen --build`.
 top=$(cd "$(dirname "$0")/.." && pwd) || exit 1
 program=$top/crates/imagen/out/imagen
@@ -48,3 +48,5 @@ row 'operators' '~' a '' ';'
 row 'assignments' 'a=' a '' ';'
 row 'constructors' 'new ' a '' ';'
 row 'loops' 'for(;;)' ';' '' ''
+row 'loops of a' 'for(a;;)' ';' '' ''
+row 'loops of var' 'for(var a;;)' ';' '' ''

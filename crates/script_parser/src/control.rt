@@ -64,6 +64,7 @@ impl<I: Inside> Statements<I> {
     }
 
     /// Reads what stands behind `if`. An `else` belongs to the nearest `if`.
+    #[inline(never)]
     #[tactic(auto, unfolding(js_grammar::specs::StatementReader::conditional, js_grammar::specs::Parser::eat))]
     pub fn conditional(&self, tokens: &mut Cursor<'_>) -> Result<Stmt, ParseFault>
         ensures { Reads (reader.conditional limit (expression_in self.now.grammar.depth)

@@ -118,6 +118,7 @@ impl<I: Inside> Statements<I> {
     }
 
     /// Reads a `for` from behind its `var`.
+    #[inline(never)]
     #[tactic(auto, unfolding(js_grammar::specs::StatementReader::for_variables, js_grammar::specs::Parser::eat))]
     fn for_variables(&self, tokens: &mut Cursor<'_>) -> Result<Stmt, ParseFault>
         ensures { Reads (reader.for_variables limit (expression_in self.now.grammar.depth)
@@ -151,6 +152,7 @@ impl<I: Inside> Statements<I> {
     }
 
     /// Reads a `for` whose header begins with an expression, and that with this operator, if with any.
+    #[inline(never)]
     #[tactic(auto, unfolding(js_grammar::specs::Parser::eat))]
     fn for_expression(
         &self,

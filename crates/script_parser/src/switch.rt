@@ -114,6 +114,7 @@ impl<I: Inside> Statements<I> {
     }
 
     /// Reads what stands behind `switch`.
+    #[inline(never)]
     #[tactic(auto, unfolding(js_grammar::specs::StatementReader::switch))]
     pub fn switch(&self, tokens: &mut Cursor<'_>) -> Result<Stmt, ParseFault>
         ensures { Reads (reader.switch limit (expression_in self.now.grammar.depth)
