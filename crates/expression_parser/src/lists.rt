@@ -1,6 +1,6 @@
 //! Lists of items: what repeats.
 
-ghost use Rattle.std.specs.Prelude.{Bool, List, length};
+ghost use Rattle.std.specs.Prelude.{◌≡◌, Bool, List, length};
 ghost use Rattle.js_grammar.specs.Parser as parser;
 ghost use Rattle.js_grammar.specs.Parser.{Parser};
 ghost use Rattle.js_grammar.specs.Symbols.{Lexeme};
@@ -28,11 +28,19 @@ pub fn many<T: Drop, G: Fn(&Cursor<'_>) -> bool, F: Fn(&mut Cursor<'_>) -> Resul
     let mut found = Vec::new(alloc);
     for _turn in 0..tokens.left() {
         if !goes_on(tokens) {
-            return Ok(found);
+            return Ok(fitted(found));
         }
         found.push(item(tokens)?)?;
     }
-    Ok(found)
+    Ok(fitted(found))
+}
+
+// The same items, without room for more, since a tree keeps the room of its lists.
+fn fitted<T: Drop>(mut found: Vec<T>) -> Vec<T>
+    ensures { result.items ≡ found.items }
+{
+    found.shrink_to_fit();
+    found
 }
 
 /// The items behind these ones, each behind a comma.
@@ -48,12 +56,12 @@ pub fn further<T: Drop, F: Fn(&mut Cursor<'_>) -> Result<T, ParseFault>>(
 {
     for _turn in 0..tokens.left() {
         if !tokens.sees(Sign::Mark(Punct::Comma)) {
-            return Ok(found);
+            return Ok(fitted(found));
         }
         tokens.skip();
         found.push(item(tokens)?)?;
     }
-    Ok(found)
+    Ok(fitted(found))
 }
 
 /// One item or more, with commas between them.
@@ -66,7 +74,8 @@ pub fn separated<T: Drop, F: Fn(&mut Cursor<'_>) -> Result<T, ParseFault>>(
     ensures { (reader : Parser T) → ReadsItems reader (F.post item)
         → ReadsAll (parser.separated reader tokens.old) result tokens.new }
 {
-    let mut found = Vec::new(alloc);
+    // Most have one item.
+    let mut found = Vec::with_capacity(alloc, 1)?;
     found.push(item(tokens)?)?;
     further(tokens, found, item)
 }

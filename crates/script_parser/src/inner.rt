@@ -50,7 +50,7 @@ pub fn body_of(alloc: Global, statement: Stmt) -> Result<Vec<Stmt>, OutOfMemory>
 fn alone(alloc: Global, statement: Stmt) -> Result<Vec<Stmt>, OutOfMemory>
     ensures { IfOk result (λ found. found.items ≡ statement ∷ []) }
 {
-    let mut found = Vec::new(alloc);
+    let mut found = Vec::with_capacity(alloc, 1)?;
     found.push(statement)?;
     Ok(found)
 }
