@@ -7,8 +7,7 @@ use Rattle.std.proofs.lemmas.Slice.Eq.{bytes_eq-Decides}
 use Rattle.js_core.specs.Spelling.{keyword_of, keyword_text, keywords, is_unused_word}
 use Rattle.js_core.specs.declared.keyword.Keyword.{Keyword}
 use Rattle.js_core.specs.declared.token.Token.{Token}
-use Rattle.js_grammar.specs.Symbols.{Symbol, unused, identifier, word_symbol, member_name, field_name, lexemes}
-use Rattle.js_grammar.specs.Parser.{sign_of}
+use Rattle.js_grammar.specs.Symbols.{Symbol, unused, identifier, word_symbol, member_name, field_name, lexemes, sign_of}
 use Rattle.js_grammar.specs.ExpressionReader.{identifier_of}
 
 pub same_length : (ts : List Token) → length (lexemes ts) ≡ length ts

@@ -6,8 +6,8 @@ ghost use Rattle.js_grammar.specs.Endings.{same_line};
 ghost use Rattle.js_grammar.specs.ExpressionReader as reader;
 ghost use Rattle.js_grammar.specs.Operators as operators;
 ghost use Rattle.js_grammar.specs.Parser as parser;
-ghost use Rattle.js_grammar.specs.Parser.{sign_of, sign_at};
-ghost use Rattle.js_grammar.specs.Symbols.{lexemes, symbol_of, member_name, field_name, number_text as spec_number_text};
+ghost use Rattle.js_grammar.specs.Parser as parser;
+ghost use Rattle.js_grammar.specs.Symbols.{lexemes, symbol_of, member_name, field_name, number_text as spec_number_text, sign_of, sign_at, is_sign};
 ghost use Rattle.expression_parser.specs.Reads.{Reads, Gives, after_line};
 
 use crate::fault::ParseFault;
@@ -30,8 +30,7 @@ pub struct Cursor<'a> {
 
 impl<'a> Model for Cursor<'a> {
     ghost use Rattle.std.specs.Prelude.{◌≡◌, List};
-    ghost use Rattle.js_grammar.specs.Parser.{sign_at};
-    ghost use Rattle.js_grammar.specs.Symbols.{Lexeme, lexemes};
+    ghost use Rattle.js_grammar.specs.Symbols.{Lexeme, lexemes, sign_at};
 
     ghost Value = { List Lexeme };
 
@@ -244,7 +243,7 @@ impl<'a> Cursor<'a> {
 }
 
 fn is_sign(sign: Sign, next: Option<Sign>) -> bool
-    ensures { result ≡ parser.is_sign sign next }
+    ensures { result ≡ is_sign sign next }
 {
     match next {
         Some(next) => next == sign,

@@ -3,9 +3,9 @@ use Rattle.std.proofs.Common.{◌≡◌, ℕ, zero, suc, ◌<◌, ◌≤◌, Boo
 use Rattle.js_core.specs.Tree as tree
 use Rattle.js_core.specs.Height.{expr_height}
 use Rattle.js_grammar.specs.declared.sign.Sign.{Sign}
-use Rattle.js_grammar.specs.Symbols.{sign, Lexeme}
+use Rattle.js_grammar.specs.Symbols.{sign, Lexeme, sign_at}
 use Rattle.js_grammar.specs.Operators.{Level, binary, Infix, either, both, operation, infix_of, level_of, combined, climbs, Prefix, operator, step, prefix_of, prefixed, assignment_of}
-use Rattle.js_grammar.specs.Parser.{Parser, Outcome, and_then, sign_at, repeat}
+use Rattle.js_grammar.specs.Parser.{Parser, Outcome, and_then, repeat}
 use Rattle.js_grammar.specs.Phrases.{Phrase}
 use Rattle.js_grammar.specs.Expressions.{Postfix, is_left, stepped, Unary, is_postfix, operated, Binary, is_unary, tighter, combines}
 use Rattle.js_grammar.specs.ExpressionReader as reader

@@ -5,9 +5,9 @@ use Rattle.std.proofs.lemmas.Bool.{cases_lt}
 use Rattle.std.proofs.lemmas.Bool.Decides.{nat_tests}
 use Rattle.js_core.specs.Tree as tree
 use Rattle.js_core.specs.Height.{expr_height}
-use Rattle.js_grammar.specs.Symbols.{Lexeme}
+use Rattle.js_grammar.specs.Symbols.{Lexeme, sign_at}
 use Rattle.js_grammar.specs.Operators.{Level, binary, Infix, infix_of, level_of, combined, climbs_by, climbs}
-use Rattle.js_grammar.specs.Parser.{Parser, tail, sign_at}
+use Rattle.js_grammar.specs.Parser.{Parser, tail}
 use Rattle.js_grammar.specs.Phrases.{Phrase}
 use Rattle.js_grammar.specs.Expressions.{Unary, Binary, is_unary, tighter, combines}
 use Rattle.js_grammar.specs.ExpressionReader as reader

@@ -6,10 +6,10 @@ use Rattle.js_core.specs.Tree.{stmts_of}
 use Rattle.js_core.specs.Height.{expr_height, stmt_height, stmts_height}
 use Rattle.js_core.specs.declared.token.Token.{Token}
 use Rattle.js_core.specs.declared.token.Punct.TheVariants as p
-use Rattle.js_grammar.specs.Symbols.{Lexeme, lexemes}
+use Rattle.js_grammar.specs.Symbols.{Lexeme, lexemes, sign_at}
 use Rattle.js_grammar.specs.declared.sign.Sign.TheVariants.{Mark}
-use Rattle.js_grammar.specs.Operators.{Level, sequence, assignment, binary, construction, member, can_begin}
-use Rattle.js_grammar.specs.Parser.{Parser, and_then, sign_at, sees, tail}
+use Rattle.js_grammar.specs.Operators.{Level, sequence, assignment, binary, construction, member}
+use Rattle.js_grammar.specs.Parser.{Parser, and_then, sees, tail}
 use Rattle.js_grammar.specs.Phrases.{Phrase, mark}
 use Rattle.js_grammar.specs.Expressions.{AtLevel, Sequence}
 use Rattle.js_grammar.specs.ExpressionReader.{at_level, closing}
@@ -19,6 +19,7 @@ use Rattle.js_grammar.specs.Scripts as part
 use Rattle.js_grammar.specs.StatementReader.{has_more}
 use Rattle.js_grammar.specs.ScriptReader.{inside, room_of, whole, read_script}
 use Rattle.js_grammar.specs.ScriptReader as what
+use Rattle.js_grammar.proofs.Beginnings.{can_begin}
 use Rattle.js_grammar.proofs.Heights.{Fits}
 use Rattle.js_grammar.proofs.StatementHeights.{StatementFits}
 use Rattle.js_grammar.proofs.ExpressionShapes.{level_shorter, level_begins}

@@ -7,9 +7,9 @@ use Rattle.js_core.specs.Views.{declarators_of}
 use Rattle.js_core.specs.declared.syntax.Declarator.{Declarator}
 use Rattle.js_core.specs.declared.token.Punct.TheVariants as p
 use Rattle.js_grammar.specs.declared.sign.Sign.TheVariants.{Mark}
-use Rattle.js_grammar.specs.Symbols.{Lexeme}
+use Rattle.js_grammar.specs.Symbols.{Lexeme, sign_at, is_sign}
 use Rattle.js_grammar.specs.Operators.{Level, assignment}
-use Rattle.js_grammar.specs.Parser.{Parser, sign_at, sees, sees_comma, is_sign, expect, eat, taken, separated}
+use Rattle.js_grammar.specs.Parser.{Parser, sees, sees_comma, expect, eat, taken, separated}
 use Rattle.js_grammar.specs.Phrases.{Phrase, mark, Separated, only, further}
 use Rattle.js_grammar.specs.Expressions.{Sequence}
 use Rattle.js_grammar.specs.Endings.{Ending, after_expression, after_name, after_all}

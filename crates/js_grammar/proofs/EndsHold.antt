@@ -4,9 +4,9 @@ use Rattle.std.specs.Prelude.{◌&&◌}
 use Rattle.js_core.specs.declared.token.Punct.TheVariants as p
 use Rattle.js_grammar.specs.declared.sign.Sign.{Sign}
 use Rattle.js_grammar.specs.declared.sign.Sign.TheVariants.{Mark}
-use Rattle.js_grammar.specs.Symbols.{Lexeme}
+use Rattle.js_grammar.specs.Symbols.{Lexeme, sign_of, is_sign}
 use Rattle.js_grammar.specs.Operators.{is_suffix}
-use Rattle.js_grammar.specs.Parser.{tail, sign_of, sees, is_sign}
+use Rattle.js_grammar.specs.Parser.{tail, sees}
 use Rattle.js_grammar.specs.Endings.{Ending, after_expression, after_name, after_all, is_operator, continues, is_right_brace, ends_before, may_end}
 use Rattle.js_grammar.specs.Statements.{End, semicolon, automatic}
 use Rattle.js_grammar.specs.StatementReader.{ended, read_expression}

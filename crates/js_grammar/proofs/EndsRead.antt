@@ -1,18 +1,19 @@
 -- The ends of statements are read as the grammar has them.
 use Rattle.std.proofs.Common.{◌≡◌, Bool, true, false, List, [], ◌∷◌, Option, Some, None, refl, subst, ◌⊎◌, inl, inr}
+use Rattle.std.proofs.lemmas.Bool.{and_parts, not-true, or_cases, or_parts}
 use Rattle.std.specs.Prelude.{not, ◌||◌, ◌&&◌}
 use Rattle.js_core.specs.declared.token.Punct.TheVariants as p
 use Rattle.js_grammar.specs.declared.sign.Sign.{Sign}
 use Rattle.js_grammar.specs.declared.sign.Sign.TheVariants.{Mark, Word}
-use Rattle.js_grammar.specs.Symbols.{Symbol, Lexeme}
+use Rattle.js_grammar.specs.Symbols.{Symbol, Lexeme, sign_of, sign_at, is_sign}
 use Rattle.js_grammar.specs.Operators.{sequence, climbs, is_later, is_suffix, step_of}
-use Rattle.js_grammar.specs.Parser.{sign_of, sign_at, is_sign, sees}
+use Rattle.js_grammar.specs.Parser.{sees}
 use Rattle.js_grammar.specs.ExpressionReader.{in_line}
 use Rattle.js_grammar.specs.Endings.{Ending, after_expression, after_name, after_all, is_operator, continues_name, continues, is_right_brace, ends_before, may_end}
 use Rattle.js_grammar.specs.Statements.{End, semicolon, automatic}
 use Rattle.js_grammar.specs.StatementReader.{ended, read_expression}
 use Rattle.js_grammar.proofs.Stops.{Stops}
-use Rattle.js_grammar.proofs.Booleans.{or_false, or_true, or_cases, and_true, not_true}
+use Rattle.js_grammar.proofs.Booleans.{or_true}
 
 brace_is : (s : Option Sign) → is_right_brace s ≡ true → s ≡ Some (Mark p.RightBrace)
 brace_is None e = absurd (cc)
@@ -27,8 +28,8 @@ why_ends e s l h = by (or_cases (is_right_brace s) _ h)
     by : (is_right_brace s ≡ true) ⊎ (l && not (is_sign (Mark p.Semicolon) s || continues e s) ≡ true) → (s ≡ Some (Mark p.RightBrace)) ⊎ ((l ≡ true) × (is_sign (Mark p.Semicolon) s ≡ false) × (continues e s ≡ false))
     by (inl r) = inl (brace_is s r)
     by (inr r) =
-        let both = and_true l _ r in
-        let none = or_false (is_sign (Mark p.Semicolon) s) (continues e s) (not_true _ both.1) in
+        let both = and_parts l _ r in
+        let none = or_parts (is_sign (Mark p.Semicolon) s) (continues e s) (not-true _ both.1) in
         inr (both.0, none.0, none.1)
 
 no_semicolon : (e : Ending) (z : List Lexeme) → may_end e z ≡ true → is_sign (Mark p.Semicolon) (sign_at z) ≡ false
@@ -55,7 +56,7 @@ forgets after_name = after_name
 forgets after_all = after_all
 
 forgets_fewer : (e : Ending) (s : Option Sign) → continues e s ≡ false → continues (forgets e) s ≡ false
-forgets_fewer (after_expression grows) s h = (or_false (grows && is_suffix true s) (is_operator s) h).1
+forgets_fewer (after_expression grows) s h = (or_parts (grows && is_suffix true s) (is_operator s) h).1
 forgets_fewer after_name s h = h
 forgets_fewer after_all s h = h
 
@@ -80,9 +81,9 @@ quiet_by g l s ts h = by (sign_of s) (why_ends (after_expression g) (sign_of s) 
     by : (o : Option Sign) → (o ≡ Some (Mark p.RightBrace)) ⊎ ((l ≡ true) × (is_sign (Mark p.Semicolon) o ≡ false) × (continues (after_expression g) o ≡ false)) → (g ≡ true → (is_suffix true o ≡ false) × (in_line (step_of o) l ≡ None)) × (climbs true 1 o ≡ false) × (is_later o ≡ false) × (is_sign (Mark p.Comma) o ≡ false)
     by o (inl r) = ((λ t. (rw r refl, rw r refl)), rw r refl, rw r refl, rw r refl)
     by o (inr r) =
-        let parts = or_false (g && is_suffix true o) (is_operator o) r.2 in
-        let first = or_false (climbs true 1 o) (is_later o || is_sign (Mark p.Comma) o) parts.1 in
-        let second = or_false (is_later o) (is_sign (Mark p.Comma) o) first.1 in
+        let parts = or_parts (g && is_suffix true o) (is_operator o) r.2 in
+        let first = or_parts (climbs true 1 o) (is_later o || is_sign (Mark p.Comma) o) parts.1 in
+        let second = or_parts (is_later o) (is_sign (Mark p.Comma) o) first.1 in
         ((λ t. (rest t (is_suffix true o) parts.0, in_new_line (step_of o) r.0)), first.0, second.0, second.1)
 
 pub end_stops : {g : Bool} {y z : List Lexeme} → End (after_expression g) y z → Stops true sequence g y

@@ -4,9 +4,9 @@ use Rattle.js_core.specs.Tree as tree
 use Rattle.js_core.specs.Tree.{exprs_of}
 use Rattle.js_core.specs.Height.{expr_height}
 use Rattle.js_core.specs.declared.token.Punct.TheVariants as p
-use Rattle.js_grammar.specs.Symbols.{Lexeme}
+use Rattle.js_grammar.specs.Symbols.{Lexeme, sign_at}
 use Rattle.js_grammar.specs.Operators.{Level, sequence, assignment, binary, construction, member, climbs, assignment_of}
-use Rattle.js_grammar.specs.Parser.{Parser, and_then, sign_at, sees, expect, eat}
+use Rattle.js_grammar.specs.Parser.{Parser, and_then, sees, expect, eat}
 use Rattle.js_grammar.specs.Phrases.{Phrase, mark}
 use Rattle.js_grammar.specs.Expressions.{sequence_of, Binary, Assignment, is_binary, chosen, assigned, Sequence, sequenced, AtLevel}
 use Rattle.js_grammar.specs.ExpressionReader as reader

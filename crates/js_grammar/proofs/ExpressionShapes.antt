@@ -5,11 +5,11 @@ use Rattle.js_core.specs.declared.token.Punct.TheVariants as p
 use Rattle.js_core.specs.declared.keyword.Keyword.TheVariants as kw
 use Rattle.js_grammar.specs.declared.sign.Sign.{Sign}
 use Rattle.js_grammar.specs.declared.sign.Sign.TheVariants.{Mark, Word}
-use Rattle.js_grammar.specs.Symbols.{Lexeme}
-use Rattle.js_grammar.specs.Operators.{Level, sequence, assignment, binary, construction, member, level_of, prefix_of, Prefix, can_begin}
-use Rattle.js_grammar.specs.Parser.{sign_at}
+use Rattle.js_grammar.specs.Symbols.{Lexeme, sign_at}
+use Rattle.js_grammar.specs.Operators.{Level, sequence, assignment, binary, construction, member, level_of, prefix_of, Prefix}
 use Rattle.js_grammar.specs.Phrases.{Phrase, mark, Name, Separated, only, further}
 use Rattle.js_grammar.specs.Expressions.{Element, absent, present, Field, field, Arguments, Procedure, procedure, Primary, this_value, null_value, true_value, false_value, named, numeral, string, array, object, grouped, anonymous, function, Member, is_primary, dotted, indexed, called, constructed, LeftHandSide, is_member, is_call, constructed_plainly, Postfix, is_left, stepped, Unary, is_postfix, operated, Binary, is_unary, tighter, combines, Assignment, is_binary, chosen, assigned, Sequence, sequenced, AtLevel}
+use Rattle.js_grammar.proofs.Beginnings.{can_begin}
 use Rattle.js_grammar.proofs.ListShapes.{name_shorter, separated_shorter, listed_shorter, many_shorter, divided_shorter}
 
 module _ (Exp : Bool → Level → Bool → Phrase tree.Expr) (Body : Phrase (List tree.Stmt)) (shorter : (inn : Bool) (level : Level) (g : Bool) (x z : List Lexeme) (a : tree.Expr) → Exp inn level g x z a → length z < length x) (body_shorter : (x z : List Lexeme) (found : List tree.Stmt) → Body x z found → length z ≤ length x) where

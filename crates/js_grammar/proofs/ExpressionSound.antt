@@ -6,9 +6,9 @@ use Rattle.js_core.specs.Height.{expr_height}
 use Rattle.js_core.specs.declared.token.Punct.TheVariants as p
 use Rattle.js_core.specs.declared.operators.BinaryOp.{BinaryOp}
 use Rattle.js_grammar.specs.declared.sign.Sign.TheVariants.{Mark}
-use Rattle.js_grammar.specs.Symbols.{Lexeme}
+use Rattle.js_grammar.specs.Symbols.{Lexeme, sign_at}
 use Rattle.js_grammar.specs.Operators.{Level, sequence, assignment, climbs, Prefix, prefix_of, assignment_of}
-use Rattle.js_grammar.specs.Parser.{Parser, tail, sign_at}
+use Rattle.js_grammar.specs.Parser.{Parser, tail}
 use Rattle.js_grammar.specs.Phrases.{Phrase, mark, Separated}
 use Rattle.js_grammar.specs.Expressions.{sequence_of, grouped, is_primary, LeftHandSide, Unary, is_postfix, Binary, Assignment, is_binary, chosen, assigned, Sequence, sequenced}
 use Rattle.js_grammar.specs.ExpressionReader as reader

@@ -8,15 +8,16 @@ use Rattle.js_core.specs.declared.token.Punct.TheVariants as p
 use Rattle.js_core.specs.declared.keyword.Keyword.TheVariants as kw
 use Rattle.js_grammar.specs.declared.sign.Sign.{Sign}
 use Rattle.js_grammar.specs.declared.sign.Sign.TheVariants.{Mark, Word}
-use Rattle.js_grammar.specs.Symbols.{identifier, Lexeme}
-use Rattle.js_grammar.specs.Operators.{Level, Prefix, prefix_of, can_begin}
-use Rattle.js_grammar.specs.Parser.{Parser, Outcome, and_then, tail, sign_at, sees, expect, eat, taken, separated}
+use Rattle.js_grammar.specs.Symbols.{identifier, Lexeme, sign_at}
+use Rattle.js_grammar.specs.Operators.{Level, Prefix, prefix_of}
+use Rattle.js_grammar.specs.Parser.{Parser, Outcome, and_then, tail, sees, expect, eat, taken, separated}
 use Rattle.js_grammar.specs.Phrases.{Phrase, mark, word}
 use Rattle.js_grammar.specs.Expressions.{LeftHandSide, Sequence}
 use Rattle.js_grammar.specs.ExpressionReader as expressions
 use Rattle.js_grammar.specs.Endings.{Ending, after_expression, after_name, after_all}
 use Rattle.js_grammar.specs.Statements.{body_of, Maybe, Init, nothing, variables, expression}
 use Rattle.js_grammar.specs.StatementReader as reader
+use Rattle.js_grammar.proofs.Beginnings.{can_begin}
 use Rattle.js_grammar.proofs.Heights.{Fits}
 use Rattle.js_grammar.proofs.StatementHeights.{StatementFits, body_fits, maybe_fits}
 use Rattle.js_grammar.proofs.ExpressionShapes.{left_shorter, left_begins, sequence_shorter, sequence_begins}

@@ -9,9 +9,9 @@ use Rattle.js_core.specs.declared.token.Punct.TheVariants as p
 use Rattle.js_core.specs.declared.keyword.Keyword.TheVariants as kw
 use Rattle.js_grammar.specs.declared.sign.Sign.{Sign}
 use Rattle.js_grammar.specs.declared.sign.Sign.TheVariants.{Mark, Word}
-use Rattle.js_grammar.specs.Symbols.{Lexeme}
+use Rattle.js_grammar.specs.Symbols.{Lexeme, sign_at}
 use Rattle.js_grammar.specs.Operators.{Level, Prefix, prefix_of}
-use Rattle.js_grammar.specs.Parser.{Parser, tail, sign_at}
+use Rattle.js_grammar.specs.Parser.{Parser, tail}
 use Rattle.js_grammar.specs.Phrases.{Phrase, mark, word, Separated}
 use Rattle.js_grammar.specs.Expressions.{LeftHandSide, Sequence}
 use Rattle.js_grammar.specs.Endings.{Ending}

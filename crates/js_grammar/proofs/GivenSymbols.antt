@@ -1,6 +1,7 @@
 -- Symbols of tokens that can be written, and what is known of the names, numbers and texts among them.
 use Rattle.std.proofs.Common.{◌≡◌, ℕ, ℤ, pos, ◌<◌, ◌≤◌, ◌^◌, Bool, true, false, List, [], ◌∷◌, Option, Some, None, refl, sym, subst, ap, ◌∙◌, arith}
-use Rattle.std.specs.Prelude.{if◌then◌else◌, cond, find, bytes_eq, not, ◌&&◌, ◌||◌, is_some, IsTrue, nat_le, decimal}
+use Rattle.std.proofs.lemmas.Bool.{and_from, and_parts}
+use Rattle.std.specs.Prelude.{if◌then◌else◌, cond, find, bytes_eq, not, ◌||◌, is_some, IsTrue, nat_le, decimal}
 use Rattle.std.specs.List.{All, list_all}
 use Rattle.std.specs.Char.{is_ascii_digit}
 use Rattle.std.specs.Str.{all_ascii_digits}
@@ -17,12 +18,8 @@ use Rattle.js_core.specs.declared.token.TokenKind.{TokenKind}
 use Rattle.js_core.specs.declared.token.TokenKind.TheVariants as kind
 use Rattle.js_core.specs.declared.keyword.Keyword.{Keyword as Word}
 use Rattle.js_lexer.specs.Written.{can_be_written, is_unit, is_identifier_name}
-use Rattle.js_grammar.specs.Symbols.{Symbol, Lexeme, sign, identifier, unused, number, text, symbol_of, word_symbol, member_name, field_name, number_text, lexemes}
+use Rattle.js_grammar.specs.Symbols.{Symbol, Lexeme, identifier, unused, number, text, symbol_of, word_symbol, member_name, field_name, number_text, lexemes}
 use Rattle.js_grammar.specs.Syntax.{is_identifier}
-use Rattle.js_grammar.proofs.Booleans.{and_true}
-
-both : (a b : Bool) → a ≡ true → b ≡ true → (a && b) ≡ true
-both a b e f = ap (λ c. c && b) e ∙ f
 
 -- ---- words
 
@@ -72,7 +69,7 @@ digit_is_unit u e = grind (arith, nat_tests)
 
 digits_are_units : (us : List ℕ) → all_ascii_digits us ≡ true → list_all is_unit us ≡ true
 digits_are_units [] e = refl
-digits_are_units (u ∷ us) e = let h = and_true _ _ e in both _ _ (digit_is_unit u h.0) (digits_are_units us h.1)
+digits_are_units (u ∷ us) e = let h = and_parts _ _ e in and_from _ _ (digit_is_unit u h.0) (digits_are_units us h.1)
 
 small : (n : ℕ) → nat_le n largest ≡ true → n < 2 ^ 64
 small n e = let l : n ≤ largest = grind (arith, nat_tests) in omega arith
@@ -98,7 +95,7 @@ pub given_identifier : {w : List ℕ} → IsGiven (identifier w) → IsTrue (is_
 given_identifier {w} g = by g.0 g.1 g.2
   where
     by : (k : TokenKind) → symbol_of k ≡ identifier w → Ok k → IsTrue (is_identifier w)
-    by (kind.Word u) e h = let free = identifier_word u w (keyword_of u) e in subst (λ v. IsTrue (is_identifier v)) free.0 (both _ _ h free.1)
+    by (kind.Word u) e h = let free = identifier_word u w (keyword_of u) e in subst (λ v. IsTrue (is_identifier v)) free.0 (and_from _ _ h free.1)
     by (kind.Number n) e h = absurd (cc)
     by (kind.Text t) e h = absurd (cc)
     by (kind.Punct p) e h = absurd (cc)
@@ -152,7 +149,7 @@ pub given_field : {s : Symbol} {w : List ℕ} → IsGiven s → field_name s ≡
 given_field {s} {w} g e = by g.0 (ap field_name g.1 ∙ e) g.2
   where
     by : (k : TokenKind) → field_name (symbol_of k) ≡ Some w → Ok k → Ok (kind.Text w)
-    by (kind.Word u) e h = subst (λ v. Ok (kind.Text v)) (member_word u w (keyword_of u) refl (sym (field_word u (keyword_of u)) ∙ e)) (and_true (is_identifier_name u) _ h).1
+    by (kind.Word u) e h = subst (λ v. Ok (kind.Text v)) (member_word u w (keyword_of u) refl (sym (field_word u (keyword_of u)) ∙ e)) (and_parts (is_identifier_name u) _ h).1
     by (kind.Number n) e h = let same : number_text n ≡ w = cc in subst (λ v. Ok (kind.Text v)) same (number_is_written n h)
     by (kind.Text t) e h = let same : t ≡ w = cc in subst (λ v. Ok (kind.Text v)) same h
     by (kind.Punct p) e h = absurd (cc)

@@ -5,11 +5,11 @@ use Rattle.js_core.specs.Tree.{exprs_of, stmts_of}
 use Rattle.js_core.specs.Height.{expr_height, exprs_height, stmts_height}
 use Rattle.js_core.specs.declared.token.Punct.TheVariants as p
 use Rattle.js_grammar.specs.declared.sign.Sign.TheVariants.{Mark}
-use Rattle.js_grammar.specs.Symbols.{sign, Lexeme}
+use Rattle.js_grammar.specs.Symbols.{Lexeme, sign_at}
 use Rattle.js_grammar.specs.Operators.{Level, sequence, assignment, binary, climbs, level_of, is_suffix, assignment_of}
-use Rattle.js_grammar.specs.Parser.{Parser, Outcome, and_then, sign_at, sees, sees_comma, expect, eat, repeat, added_behind_comma}
+use Rattle.js_grammar.specs.Parser.{Parser, Outcome, and_then, sees, sees_comma, expect, eat, repeat, added_behind_comma}
 use Rattle.js_grammar.specs.Phrases.{Phrase, mark, Separated, only, further}
-use Rattle.js_grammar.specs.Expressions.{sequence_of, grouped, Member, is_primary, dotted, indexed, called, constructed, LeftHandSide, is_member, is_call, constructed_plainly, Postfix, is_left, stepped, Unary, is_postfix, operated, Binary, is_unary, tighter, combines, Assignment, is_binary, chosen, assigned, Sequence, sequenced}
+use Rattle.js_grammar.specs.Expressions.{sequence_of, grouped, Member, is_primary, dotted, indexed, called, LeftHandSide, is_member, is_call, Postfix, is_left, stepped, Unary, is_postfix, operated, Binary, is_unary, tighter, combines, Assignment, is_binary, chosen, assigned, Sequence, sequenced}
 use Rattle.js_grammar.specs.ExpressionReader as reader
 use Rattle.js_grammar.specs.ExpressionReader.{has_suffix, has_operator}
 use Rattle.js_grammar.proofs.Heights.{Each, each_but_last, Fits}
@@ -45,20 +45,20 @@ module _ (limit : ℕ) (exp : Bool → Level → Parser tree.Expr) (body : Parse
 
 -- `Exp` and `Body` are what stands inside by the grammar, and the others what of it is read: what is lower. The group begins
 -- with `(` before the lexemes `start`.
-module _ (limit : ℕ) (exp : Bool → Level → Parser tree.Expr) (body : Parser (List tree.Stmt)) (Exp : Bool → Level → Bool → Phrase tree.Expr) (Body : Phrase (List tree.Stmt)) (shorter : (inn : Bool) (level : Level) (g : Bool) (x z : List Lexeme) (a : tree.Expr) → Exp inn level g x z a → length z < length x) (body_shorter : (x z : List Lexeme) (found : List tree.Stmt) → Body x z found → length z ≤ length x) (Exp2 : Bool → Level → Bool → Phrase tree.Expr) (Body2 : Phrase (List tree.Stmt)) (bound : ℕ) (inner : Inner limit exp body Exp2 Body2 bound) (most : ℕ) (lower : (inn : Bool) (level : Level) (g : Bool) (x z : List Lexeme) (a : tree.Expr) → Exp inn level g x z a → expr_height a < most → Exp2 inn level g x z a) (lower_body : (x z : List Lexeme) (found : List tree.Stmt) → Body x z found → stmts_height (stmts_of found) < most → Body2 x z found) (l : Bool) (start : List Lexeme) (short : length start < bound) (group : Outcome tree.Expr) (group_reads : (k g : Bool) (z : List Lexeme) (a : tree.Expr) → Exp true sequence g start (mark p.RightParenthesis k ∷ z) a → expr_height a ≤ most → Fits limit a → group ≡ Some (a, mark p.RightParenthesis k ∷ z)) where
-  member_behind : {c : Bool} {z : List Lexeme} {a : tree.Expr} (r : Outcome tree.Expr) → Member Exp Body c (mark p.LeftParenthesis l ∷ start) z a → expr_height a ≤ most → Fits limit a → Rest limit exp body Exp2 Body2 bound inner true a z r → head limit exp body group ≡ r
+module _ (limit : ℕ) (exp : Bool → Level → Parser tree.Expr) (body : Parser (List tree.Stmt)) (Exp : Bool → Level → Bool → Phrase tree.Expr) (Body : Phrase (List tree.Stmt)) (shorter : (inn : Bool) (level : Level) (g : Bool) (x z : List Lexeme) (a : tree.Expr) → Exp inn level g x z a → length z < length x) (body_shorter : (x z : List Lexeme) (found : List tree.Stmt) → Body x z found → length z ≤ length x) (LowExp : Bool → Level → Bool → Phrase tree.Expr) (LowBody : Phrase (List tree.Stmt)) (bound : ℕ) (inner : Inner limit exp body LowExp LowBody bound) (most : ℕ) (lower : (inn : Bool) (level : Level) (g : Bool) (x z : List Lexeme) (a : tree.Expr) → Exp inn level g x z a → expr_height a < most → LowExp inn level g x z a) (lower_body : (x z : List Lexeme) (found : List tree.Stmt) → Body x z found → stmts_height (stmts_of found) < most → LowBody x z found) (l : Bool) (start : List Lexeme) (short : length start < bound) (group : Outcome tree.Expr) (group_reads : (k g : Bool) (z : List Lexeme) (a : tree.Expr) → Exp true sequence g start (mark p.RightParenthesis k ∷ z) a → expr_height a ≤ most → Fits limit a → group ≡ Some (a, mark p.RightParenthesis k ∷ z)) where
+  member_behind : {c : Bool} {z : List Lexeme} {a : tree.Expr} (r : Outcome tree.Expr) → Member Exp Body c (mark p.LeftParenthesis l ∷ start) z a → expr_height a ≤ most → Fits limit a → Rest limit exp body LowExp LowBody bound inner true a z r → head limit exp body group ≡ r
   unfolding head Rest reader.suffixes expect sees
   member_behind r (is_primary (grouped {g = g} {k = k} {z = z} {a = a} h)) le f rest =
       then_reads _ (group_reads k g z a h le f) (rest (length z) (omega arith))
   member_behind r (dotted {l = j} {k = k} {s = s} {w = w} {z = z} {a = a} h e) le f rest =
-      member_behind r h (omega arith) (omega arith) (dot_step limit exp body Exp2 Body2 bound inner true j k s w z a r e f rest)
+      member_behind r h (omega arith) (omega arith) (dot_step limit exp body LowExp LowBody bound inner true j k s w z a r e f rest)
   member_behind r (indexed {g = g} {l = j} {k = k} {y = y} {z = z} {a = a} {b = b} h i) le f rest =
       let a1 = member_shorter Exp Body shorter body_shorter h in
-      member_behind r h (omega arith) (omega arith) (index_step limit exp body Exp2 Body2 bound inner true g j k y z a b r (lower true sequence g y (mark p.RightBracket k ∷ z) b i (omega arith)) (omega arith) f rest)
+      member_behind r h (omega arith) (omega arith) (index_step limit exp body LowExp LowBody bound inner true g j k y z a b r (lower true sequence g y (mark p.RightBracket k ∷ z) b i (omega arith)) (omega arith) f rest)
   member_behind r (called {l = j} {y = y} {z = z} {a = a} {found = found} h i) le f rest =
       let a1 = member_shorter Exp Body shorter body_shorter h in
       let m = exprs_height (exprs_of found) in
-      member_behind r h (omega arith) (omega arith) (call_step limit exp body Exp2 Body2 bound inner true j y z a found r refl (arguments_kept Exp Body Exp2 Body2 most lower lower_body m (omega arith) i (omega arith)) (omega arith) f rest)
+      member_behind r h (omega arith) (omega arith) (call_step limit exp body LowExp LowBody bound inner true j y z a found r refl (arguments_kept Exp Body LowExp LowBody most lower lower_body m (omega arith) i (omega arith)) (omega arith) f rest)
 
   left_behind : {z : List Lexeme} {a : tree.Expr} → LeftHandSide Exp Body true (mark p.LeftParenthesis l ∷ start) z a → expr_height a ≤ most → Fits limit a → is_suffix true (sign_at z) ≡ false → head limit exp body group ≡ Some (a, z)
   unfolding Rest
@@ -85,22 +85,22 @@ module _ (limit : ℕ) (exp : Bool → Level → Parser tree.Expr) (body : Parse
       let lt = combined_lower o a b most le in
       let left : expr_height a < most = lt.0 in
       binary_behind r h low (omega arith) (combined_fits limit o a b f).0 (operator_quiet true s i g y e) (rw e (not_above (level_of o))) (infix_no_assignment true s e)
-      (λ m less. operation_step limit exp body Exp2 Body2 bound inner true 1 s o j i y z a b r m e low (lower true (binary (suc (level_of o))) j y z b t lt.1) (omega arith) f q c less k)
+      (λ m less. operation_step limit exp body LowExp LowBody bound inner true 1 s o j i y z a b r m e low (lower true (binary (suc (level_of o))) j y z b t lt.1) (omega arith) f q c less k)
 
-  first_behind : {g : Bool} {z : List Lexeme} {a : tree.Expr} → Binary Exp Body true 1 g (mark p.LeftParenthesis l ∷ start) z a → expr_height a ≤ most → Fits limit a → Quiet g z → climbs true 1 (sign_at z) ≡ false → assignment_of (sign_at z) ≡ None → and_then (head limit exp body group) (reader.assigned limit exp body true) ≡ reader.choice limit exp body true a z
-  first_behind {z = z} {a = a} h le f q c n =
+  levels_behind : {g : Bool} {z : List Lexeme} {a : tree.Expr} → Binary Exp Body true 1 g (mark p.LeftParenthesis l ∷ start) z a → expr_height a ≤ most → Fits limit a → Quiet g z → climbs true 1 (sign_at z) ≡ false → assignment_of (sign_at z) ≡ None → and_then (head limit exp body group) (reader.assigned limit exp body true) ≡ reader.choice limit exp body true a z
+  levels_behind {z = z} {a = a} h le f q c n =
       binary_behind (Some (a, z)) h (omega arith) le f q (no_tighter true 1 (sign_at z) c) n (λ m less. stays (has_operator true 1) (reader.operation limit exp body true) m a z c)
 
   assignment_behind : (g : Bool) (z : List Lexeme) (a : tree.Expr) → Assignment Exp Body true g (mark p.LeftParenthesis l ∷ start) z a → expr_height a ≤ most → Fits limit a → Stops true assignment g z → and_then (head limit exp body group) (reader.assigned limit exp body true) ≡ Some (a, z)
   unfolding reader.assigned reader.choice eat expect sees
-  assignment_behind g z a (is_binary h) le f s = first_behind h le f s.0 s.1 (no_assignment (sign_at z) s.2) ∙ no_choice
+  assignment_behind g z a (is_binary h) le f s = levels_behind h le f s.0 s.1 (no_assignment (sign_at z) s.2) ∙ no_choice
     where
       no_choice : reader.choice limit exp body true a z ≡ Some (a, z)
       no_choice = rw (no_question (sign_at z) s.2) refl
   assignment_behind g z e (chosen {g = i} {h = j} {k = k} {y = y} {v = v} {a = a} {b = b} {c = c} h u w) le f s =
       let a1 = binary_shorter Exp Body shorter body_shorter h in
       let a2 = shorter true assignment j y (mark p.Colon k ∷ v) b u in
-      first_behind h (omega arith) (omega arith) (λ e. (refl, refl)) refl refl
+      levels_behind h (omega arith) (omega arith) (λ e. (refl, refl)) refl refl
       ∙ then_reads _ (inner.reads true assignment j y (mark p.Colon k ∷ v) b (lower true assignment j y (mark p.Colon k ∷ v) b u (omega arith)) (omega arith) (omega arith) ((λ e. (refl, refl)), refl, refl))
       (then_reads _ (inner.reads true assignment g v z c (lower true assignment g v z c w (omega arith)) (omega arith) (omega arith) s)
       (kept limit (expr_height (tree.conditional a b c)) (tree.conditional a b c) z f))
@@ -124,7 +124,7 @@ module _ (limit : ℕ) (exp : Bool → Level → Parser tree.Expr) (body : Parse
       let fits = each_but_last Lower found a f in
       let a1 = separated_shorter (Assignment Exp Body true) (assignment_shorter Exp Body shorter body_shorter true) h in
       separated_behind r h fits.0 ((λ e. (refl, refl)), refl, refl)
-      (λ m less. one_more (Assignment Exp2 Body2 true) (reader.one limit exp body true) (Fits limit) (Stops true assignment) (suc bound) (assignment_reads limit exp body Exp2 Body2 bound inner true) (assignment_shorter Exp2 Body2 inner.shorter inner.body_shorter true) (λ i l y. ((λ e. (refl, refl)), refl, refl)) c y z found a r m (assignment_lower Exp Body Exp2 Body2 most lower lower_body true j y z a e fits.1.0) (omega arith) fits.1.1 s less k)
+      (λ m less. one_more (Assignment LowExp LowBody true) (reader.one limit exp body true) (Fits limit) (Stops true assignment) (suc bound) (assignment_reads limit exp body LowExp LowBody bound inner true) (assignment_shorter LowExp LowBody inner.shorter inner.body_shorter true) (λ i l y. ((λ e. (refl, refl)), refl, refl)) c y z found a r m (assignment_lower Exp Body LowExp LowBody most lower lower_body true j y z a e fits.1.0) (omega arith) fits.1.1 s less k)
 
   both : (found : List tree.Expr) → Each (IsLower most) found → Each (Fits limit) found → Each Lower found
   unfolding Lower
@@ -144,4 +144,4 @@ module _ (limit : ℕ) (exp : Bool → Level → Parser tree.Expr) (body : Parse
   sequence_behind {z = z} (sequenced {found = found} h) le f s =
       closing_is limit exp body group
       ∙ sym (then_then (and_then (head limit exp body group) (reader.assigned limit exp body true)) (reader.more_items limit exp body true) (reader.joined limit exp body))
-      ∙ then_reads _ (items_behind h le f s) (joined_reads limit exp body Exp2 Body2 bound inner found z f)
+      ∙ then_reads _ (items_behind h le f s) (joined_reads limit exp body LowExp LowBody bound inner found z f)

@@ -2,8 +2,8 @@
 use Rattle.std.proofs.Common.{◌≡◌, ℕ, zero, suc, ◌<◌, ◌≤◌, Bool, true, false, List, [], ◌∷◌, length, Option, Some, None, refl, subst, ap, arith}
 use Rattle.std.specs.Prelude.{if◌then◌else◌, nat_le}
 use Rattle.js_grammar.specs.declared.sign.Sign.{Sign}
-use Rattle.js_grammar.specs.Symbols.{Symbol, sign, identifier, unused, number, text, Lexeme}
-use Rattle.js_grammar.specs.Parser.{Parser, Outcome, and_then, sign_of, sign_at, tail, sees, expect, eat, taken, taken_by, within_limit, repeat}
+use Rattle.js_grammar.specs.Symbols.{Symbol, sign, identifier, unused, number, text, Lexeme, sign_of, sign_at}
+use Rattle.js_grammar.specs.Parser.{Parser, Outcome, and_then, tail, sees, expect, eat, taken, taken_by, within_limit, repeat}
 use Rattle.js_grammar.proofs.Signs.{sign_is}
 use Rattle.js_grammar.proofs.Steps.{true_le}
 

@@ -4,10 +4,11 @@ use Rattle.js_core.specs.Tree as tree
 use Rattle.js_core.specs.Tree.{stmts_of}
 use Rattle.js_core.specs.Height.{stmts_height}
 use Rattle.js_core.specs.declared.token.Punct.TheVariants as p
-use Rattle.js_grammar.specs.Symbols.{Lexeme}
-use Rattle.js_grammar.specs.Operators.{Level, construction, member, can_begin}
-use Rattle.js_grammar.specs.Parser.{Parser, sign_at}
+use Rattle.js_grammar.specs.Symbols.{Lexeme, sign_at}
+use Rattle.js_grammar.specs.Operators.{Level, construction, member}
+use Rattle.js_grammar.specs.Parser.{Parser}
 use Rattle.js_grammar.specs.Phrases.{Phrase, mark}
+use Rattle.js_grammar.proofs.Beginnings.{can_begin}
 use Rattle.js_grammar.proofs.Heights.{Fits}
 use Rattle.js_grammar.proofs.Stops.{Stops}
 

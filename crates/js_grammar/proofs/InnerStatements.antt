@@ -1,8 +1,8 @@
 -- What is known of the statements that stand inside another.
 use Rattle.std.proofs.Common.{◌≡◌, ℕ, ◌<◌, false, List, length, Some}
 use Rattle.js_core.specs.Tree as tree
-use Rattle.js_grammar.specs.Symbols.{Lexeme}
-use Rattle.js_grammar.specs.Parser.{Parser, sign_at}
+use Rattle.js_grammar.specs.Symbols.{Lexeme, sign_at}
+use Rattle.js_grammar.specs.Parser.{Parser}
 use Rattle.js_grammar.specs.Phrases.{Phrase}
 use Rattle.js_grammar.proofs.StatementHeights.{StatementFits}
 use Rattle.js_grammar.proofs.StatementShapes.{is_behind}

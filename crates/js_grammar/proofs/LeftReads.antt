@@ -5,9 +5,9 @@ use Rattle.js_core.specs.Tree.{exprs_of}
 use Rattle.js_core.specs.Height.{expr_height}
 use Rattle.js_core.specs.declared.token.Punct.TheVariants as p
 use Rattle.js_core.specs.declared.keyword.Keyword.TheVariants as kw
-use Rattle.js_grammar.specs.Symbols.{Symbol, Lexeme, member_name}
+use Rattle.js_grammar.specs.Symbols.{Symbol, Lexeme, member_name, sign_at}
 use Rattle.js_grammar.specs.Operators.{Level, sequence, construction, member, is_suffix, prefix_of}
-use Rattle.js_grammar.specs.Parser.{Parser, Outcome, sign_at, sees, expect, eat, taken, repeat}
+use Rattle.js_grammar.specs.Parser.{Parser, Outcome, sees, expect, eat, taken, repeat}
 use Rattle.js_grammar.specs.Phrases.{Phrase, mark, word}
 use Rattle.js_grammar.specs.Expressions.{Arguments, Primary, this_value, null_value, true_value, false_value, named, numeral, string, array, object, grouped, anonymous, function, Member, is_primary, dotted, indexed, called, constructed, LeftHandSide, is_member, is_call, constructed_plainly}
 use Rattle.js_grammar.specs.ExpressionReader as reader

@@ -7,9 +7,9 @@ use Rattle.js_core.specs.declared.token.Punct.TheVariants as p
 use Rattle.js_core.specs.declared.keyword.Keyword.TheVariants as kw
 use Rattle.js_grammar.specs.declared.sign.Sign.{Sign}
 use Rattle.js_grammar.specs.declared.sign.Sign.TheVariants.{Mark, Word}
-use Rattle.js_grammar.specs.Symbols.{Symbol, sign, identifier, unused, number, text, Lexeme, member_name}
+use Rattle.js_grammar.specs.Symbols.{Symbol, sign, identifier, unused, number, text, Lexeme, member_name, sign_of, sign_at}
 use Rattle.js_grammar.specs.Operators.{Level, sequence, member, is_suffix, Prefix, prefix_of, prefixed, step_of}
-use Rattle.js_grammar.specs.Parser.{Parser, and_then, tail, sign_of, sign_at, sees}
+use Rattle.js_grammar.specs.Parser.{Parser, and_then, tail, sees}
 use Rattle.js_grammar.specs.Phrases.{Phrase, mark, word}
 use Rattle.js_grammar.specs.Expressions.{Member, is_primary, dotted, indexed, called, constructed, LeftHandSide, is_member, is_call, constructed_plainly, Postfix, is_left, stepped, Unary, is_postfix, operated}
 use Rattle.js_grammar.specs.ExpressionReader as reader

@@ -1,3 +1,4 @@
+mod Beginnings
 mod BinaryReads
 mod BinarySound
 mod Booleans

@@ -1,6 +1,6 @@
 -- An expression is derived from its symbols also where line ends are put between them.
-use Rattle.std.proofs.Common.{◌≡◌, ℕ, Bool, true, false, List, [], ◌∷◌, Option, Some, None, refl, sym, subst, ap, ◌∙◌}
-use Rattle.std.specs.Prelude.{not, ◌||◌, ◌&&◌}
+use Rattle.std.proofs.Common.{◌≡◌, ℕ, Bool, true, false, List, ◌∷◌, Option, Some, None, refl, subst}
+use Rattle.std.specs.Prelude.{◌||◌, ◌&&◌}
 use Rattle.js_core.specs.Tree as tree
 use Rattle.js_core.specs.declared.token.Punct.{Punct}
 use Rattle.js_core.specs.declared.token.Punct.TheVariants as p
@@ -8,8 +8,8 @@ use Rattle.js_core.specs.declared.keyword.Keyword.TheVariants as kw
 use Rattle.js_grammar.specs.declared.sign.Sign.{Sign}
 use Rattle.js_grammar.specs.declared.sign.Sign.TheVariants.{Mark, Word}
 use Rattle.js_grammar.specs.LineEnds.{is_opening, is_closing, may_part, first_of, others_of, parted}
-use Rattle.js_grammar.specs.Operators.{Level, sequence, assignment, binary, construction, member, step_of, Infix, infix_of}
-use Rattle.js_grammar.specs.Symbols.{Symbol, Lexeme, sign, identifier, unused, number, text, member_name, field_name}
+use Rattle.js_grammar.specs.Operators.{Level, sequence, assignment, binary, construction, member, step_of}
+use Rattle.js_grammar.specs.Symbols.{Symbol, Lexeme, sign, identifier, unused, number, text, member_name}
 use Rattle.js_grammar.specs.Phrases.{Phrase, Name, name, Separated, only, further, Listed, nothing, something, Many, none, more, Divided, by_comma, by_close}
 use Rattle.js_grammar.specs.Expressions.{Element, absent, present, Field, field, Arguments, Procedure, procedure, Primary, this_value, null_value, true_value, false_value, named, numeral, string, array, object, grouped, anonymous, function, Member, is_primary, dotted, indexed, called, constructed, LeftHandSide, is_member, is_call, constructed_plainly, Postfix, is_left, stepped, Unary, is_postfix, operated, Binary, is_unary, tighter, combines, Assignment, is_binary, chosen, assigned, Sequence, sequenced, AtLevel}
 

@@ -1,24 +1,21 @@
 -- A script is derived from its symbols also where line ends are put between them.
-use Rattle.std.proofs.Common.{◌≡◌, ℕ, zero, suc, Bool, true, false, List, [], ◌∷◌, Option, Some, None, refl, sym, subst, ap, ◌∙◌}
+use Rattle.std.proofs.Common.{◌≡◌, ℕ, zero, suc, Bool, true, false, List, [], ◌∷◌, Some, refl, sym, subst, ap, ◌∙◌}
 use Rattle.std.specs.Prelude.{not, ◌||◌, ◌&&◌}
 use Rattle.js_core.specs.Tree as tree
-use Rattle.js_core.specs.declared.syntax.Declarator.{Declarator}
-use Rattle.js_core.specs.declared.token.Token.{Token}
 use Rattle.js_core.specs.declared.token.Punct.TheVariants as p
 use Rattle.js_core.specs.declared.keyword.Keyword.{Keyword}
 use Rattle.js_core.specs.declared.keyword.Keyword.TheVariants as kw
-use Rattle.js_grammar.specs.declared.sign.Sign.{Sign}
 use Rattle.js_grammar.specs.declared.sign.Sign.TheVariants.{Mark, Word}
-use Rattle.js_grammar.specs.Endings.{Ending, after_expression, after_all, may_end, ends_before, continues, is_right_brace, same_line, is_excluded}
-use Rattle.js_grammar.specs.LineEnds.{is_closing, may_part, first_of, others_of, parted, opening, LineEndsAreHarmless}
-use Rattle.js_grammar.specs.Operators.{Level, can_begin}
-use Rattle.js_grammar.specs.Parser.{sign_of, sign_at, is_sign}
-use Rattle.js_grammar.specs.Symbols.{Symbol, Lexeme, sign, identifier, unused, number, text, lexemes}
-use Rattle.js_grammar.specs.Phrases.{Phrase, Separated, Many}
+use Rattle.js_grammar.specs.Endings.{Ending, after_expression, after_all, may_end, continues, is_right_brace, same_line, is_excluded}
+use Rattle.js_grammar.specs.LineEnds.{is_closing, others_of, parted, opening, LineEndsAreHarmless}
+use Rattle.js_grammar.specs.Operators.{Level}
+use Rattle.js_grammar.specs.Symbols.{Symbol, Lexeme, sign, identifier, unused, number, text, lexemes, sign_of, sign_at, is_sign}
+use Rattle.js_grammar.specs.Phrases.{Phrase, Many}
 use Rattle.js_grammar.specs.Expressions.{Sequence}
-use Rattle.js_grammar.specs.Statements.{End, semicolon, automatic, Clause, Declaration, bare, initialised, Braced, braced, Maybe, missing, present, Init, nothing, variables, expression, Case, case, default, Statement, block, variable, empty, expressed, conditional, alternative, do_while, while, for_loop, for_in, for_in_variable, continue, break, return, return_value, throw, try_catch, try_finally, try_both, switch, Element, is_statement, declaration}
+use Rattle.js_grammar.specs.Statements.{End, semicolon, automatic, Declaration, bare, initialised, Braced, braced, Maybe, missing, present, Init, nothing, variables, expression, Case, case, default, Statement, block, variable, empty, expressed, conditional, alternative, do_while, while, for_loop, for_in, for_in_variable, continue, break, return, return_value, throw, try_catch, try_finally, try_both, switch, Element, is_statement, declaration}
 use Rattle.js_grammar.specs.Scripts as parts
 use Rattle.js_grammar.specs.Scripts.{Nested, Derives}
+use Rattle.js_grammar.proofs.Beginnings.{can_begin}
 use Rattle.js_grammar.proofs.ExpressionShapes.{sequence_begins}
 use Rattle.js_grammar.proofs.PartedExpressions.{Parts, Parted, Closed, many_parted, separated_parted, PartedInside, procedure_parted, left_parted, assignment_parted, sequence_parted, level_parted}
 

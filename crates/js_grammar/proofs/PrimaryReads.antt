@@ -6,13 +6,14 @@ use Rattle.js_core.specs.Height.{expr_height, exprs_height, code_height}
 use Rattle.js_core.specs.declared.token.Punct.{Punct}
 use Rattle.js_core.specs.declared.token.Punct.TheVariants as p
 use Rattle.js_grammar.specs.declared.sign.Sign.TheVariants.{Mark, Word}
-use Rattle.js_grammar.specs.Symbols.{Symbol, sign, identifier, unused, number, text, Lexeme, field_name}
-use Rattle.js_grammar.specs.Operators.{Level, sequence, assignment, can_begin}
-use Rattle.js_grammar.specs.Parser.{Parser, sign_of, sign_at, sees, is_sign, expect, taken, divided}
+use Rattle.js_grammar.specs.Symbols.{Symbol, sign, identifier, unused, number, text, Lexeme, field_name, sign_of, sign_at, is_sign}
+use Rattle.js_grammar.specs.Operators.{Level, sequence, assignment}
+use Rattle.js_grammar.specs.Parser.{Parser, sees, expect, taken, divided}
 use Rattle.js_grammar.specs.Phrases.{Phrase, mark, Name, name, Listed, Divided, by_comma, by_close}
 use Rattle.js_grammar.specs.Expressions.{Element, absent, present, Field, field, Arguments, Procedure, procedure, Primary, this_value, null_value, true_value, false_value, named, numeral, string, array, object, grouped, anonymous, function}
 use Rattle.js_grammar.specs.ExpressionReader as reader
 use Rattle.js_grammar.specs.ExpressionReader.{comes_before, identifier_of, maybe_identifier}
+use Rattle.js_grammar.proofs.Beginnings.{can_begin}
 use Rattle.js_grammar.proofs.Heights.{Each, Fits, exprs_fit, HoleFits, holes_fit, fields_fit}
 use Rattle.js_grammar.proofs.ListShapes.{name_shorter, listed_shorter}
 use Rattle.js_grammar.proofs.ExpressionShapes.{element_shorter, field_shorter}

@@ -9,9 +9,9 @@ use Rattle.js_core.specs.declared.keyword.Keyword.{Keyword}
 use Rattle.js_core.specs.declared.keyword.Keyword.TheVariants as kw
 use Rattle.js_grammar.specs.declared.sign.Sign.{Sign}
 use Rattle.js_grammar.specs.declared.sign.Sign.TheVariants.{Mark, Word}
-use Rattle.js_grammar.specs.Symbols.{Symbol, sign, identifier, unused, number, text, Lexeme, field_name}
+use Rattle.js_grammar.specs.Symbols.{Symbol, sign, identifier, unused, number, text, Lexeme, field_name, sign_at}
 use Rattle.js_grammar.specs.Operators.{Level, sequence, assignment}
-use Rattle.js_grammar.specs.Parser.{Parser, Outcome, tail, sign_at, sees, sees_comma, taken, divided}
+use Rattle.js_grammar.specs.Parser.{Parser, Outcome, tail, sees, sees_comma, taken, divided}
 use Rattle.js_grammar.specs.Phrases.{Phrase, mark, word, Name, name, Listed, Many, Divided, by_comma, by_close}
 use Rattle.js_grammar.specs.Expressions.{Element, absent, present, Field, field, Arguments, Procedure, procedure, Primary, this_value, null_value, true_value, false_value, named, numeral, string, array, object, grouped, anonymous, function}
 use Rattle.js_grammar.specs.ExpressionReader as reader

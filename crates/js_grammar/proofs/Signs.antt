@@ -1,5 +1,6 @@
 -- What the tables of signs say of one another.
 use Rattle.std.proofs.Common.{◌≡◌, ℕ, suc, ◌≤◌, Bool, true, false, Option, Some, None, refl, ap, arith, rules}
+use Rattle.std.proofs.lemmas.Bool.{or_parts}
 use Rattle.std.specs.Prelude.{nat_le}
 use Rattle.std.proofs.lemmas.Bool.Decides.{nat_tests}
 use denote.Enum.Bare.{same_true}
@@ -10,9 +11,9 @@ use Rattle.js_core.specs.contracts.token.Punct as punct
 use Rattle.js_core.specs.contracts.keyword.Keyword as keyword
 use Rattle.js_grammar.specs.declared.sign.Sign.{Sign}
 use Rattle.js_grammar.specs.declared.sign.Sign.TheVariants.{Mark, Word}
-use Rattle.js_grammar.specs.Operators.{Infix, either, both, operation, infix_of, level_of, climbs_by, climbs, step_of, assignment_of, is_assignment_by, is_question, is_later, is_suffix, can_begin}
-use Rattle.js_grammar.specs.Parser.{is_sign}
-use Rattle.js_grammar.proofs.Booleans.{or_false}
+use Rattle.js_grammar.specs.Operators.{Infix, either, both, operation, infix_of, level_of, climbs_by, climbs, step_of, assignment_of, is_assignment_by, is_question, is_later, is_suffix}
+use Rattle.js_grammar.specs.Symbols.{is_sign}
+use Rattle.js_grammar.proofs.Beginnings.{can_begin}
 
 -- ---- one sign
 
@@ -124,10 +125,10 @@ none_by None e = refl
 none_by (Some f) e = absurd (cc)
 
 pub no_assignment : (s : Option Sign) → is_later s ≡ false → assignment_of s ≡ None
-no_assignment s h = none_by (assignment_of s) (or_false (is_question s) _ h).1
+no_assignment s h = none_by (assignment_of s) (or_parts (is_question s) _ h).1
 
 pub no_question : (s : Option Sign) → is_later s ≡ false → is_sign (Mark p.QuestionMark) s ≡ false
-no_question s h = not_sign is_question (Mark p.QuestionMark) s refl (or_false (is_question s) _ h).0
+no_question s h = not_sign is_question (Mark p.QuestionMark) s refl (or_parts (is_question s) _ h).0
 
 -- ---- suffixes
 

@@ -3,9 +3,9 @@ use Rattle.std.proofs.Common.{◌≡◌, ℕ, ◌<◌, ◌≤◌, Bool, true, fa
 use Rattle.js_core.specs.Tree as tree
 use Rattle.js_core.specs.declared.token.Punct.TheVariants as p
 use Rattle.js_grammar.specs.declared.sign.Sign.TheVariants.{Mark}
-use Rattle.js_grammar.specs.Symbols.{Lexeme}
+use Rattle.js_grammar.specs.Symbols.{Lexeme, sign_at}
 use Rattle.js_grammar.specs.Operators.{Level, sequence, assignment, binary, construction, member, climbs, is_suffix}
-use Rattle.js_grammar.specs.Parser.{Parser, sign_at, sees}
+use Rattle.js_grammar.specs.Parser.{Parser, sees}
 use Rattle.js_grammar.specs.Phrases.{Phrase}
 use Rattle.js_grammar.proofs.Heights.{Fits}
 use Rattle.js_grammar.proofs.Holds.{Holds}

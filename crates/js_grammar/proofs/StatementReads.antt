@@ -1,5 +1,6 @@
 -- Statements and source elements are read as the grammar has them.
 use Rattle.std.proofs.Common.{◌≡◌, ℕ, suc, ◌+◌, ◌<◌, ◌≤◌, Bool, true, false, List, [], ◌∷◌, length, Option, Some, None, refl, subst, ◌∙◌, arith}
+use Rattle.std.proofs.lemmas.Bool.{not-true}
 use Rattle.js_core.specs.Tree as tree
 use Rattle.js_core.specs.Tree.{stmts_of, maybe_expr, no_body, one_body, no_catch, one_catch}
 use Rattle.js_core.specs.Views.{declarators_of}
@@ -9,15 +10,16 @@ use Rattle.js_core.specs.declared.token.Punct.TheVariants as p
 use Rattle.js_core.specs.declared.keyword.Keyword.TheVariants as kw
 use Rattle.js_grammar.specs.declared.sign.Sign.{Sign}
 use Rattle.js_grammar.specs.declared.sign.Sign.TheVariants.{Mark, Word}
-use Rattle.js_grammar.specs.Symbols.{Lexeme}
-use Rattle.js_grammar.specs.Operators.{Level, can_begin}
-use Rattle.js_grammar.specs.Parser.{Parser, Outcome, and_then, sign_of, sign_at, sees, expect, eat, taken}
+use Rattle.js_grammar.specs.Symbols.{Lexeme, sign_of, sign_at}
+use Rattle.js_grammar.specs.Operators.{Level}
+use Rattle.js_grammar.specs.Parser.{Parser, Outcome, and_then, sees, expect, eat, taken}
 use Rattle.js_grammar.specs.Phrases.{Phrase, mark, word, Separated, only, further}
 use Rattle.js_grammar.specs.Expressions.{Sequence}
 use Rattle.js_grammar.specs.Endings.{Ending, after_expression, after_name, after_all, is_right_brace, same_line, is_excluded}
 use Rattle.js_grammar.specs.Statements.{body_of, Clause, cases_from, End, semicolon, automatic, Declaration, bare, initialised, braced, Case, case, default, Statement, block, variable, empty, expressed, conditional, alternative, do_while, while, for_loop, for_in, for_in_variable, continue, break, return, return_value, throw, try_catch, try_finally, try_both, switch, Element, is_statement, declaration, Elements}
 use Rattle.js_grammar.specs.StatementReader as reader
 use Rattle.js_grammar.specs.StatementReader.{ended, has_more, has_more_in_clause, returns}
+use Rattle.js_grammar.proofs.Beginnings.{can_begin}
 use Rattle.js_grammar.proofs.Heights.{Fits}
 use Rattle.js_grammar.proofs.StatementHeights.{StatementFits, statements_fit, body_fits, ClauseFits, clauses_fit}
 use Rattle.js_grammar.proofs.ExpressionShapes.{sequence_shorter, sequence_begins}
@@ -32,7 +34,7 @@ use Rattle.js_grammar.proofs.PrimaryReads.{procedure_reads}
 use Rattle.js_grammar.proofs.ExpressionReads.{sequence_reads}
 use Rattle.js_grammar.proofs.DeclarationReads.{DeclaratorStops, declarations_read, endings_are, braced_reads, condition_reads}
 use Rattle.js_grammar.proofs.ForReads.{for_loop_statement, for_in_statement, for_in_variable_statement}
-use Rattle.js_grammar.proofs.Booleans.{or_true, not_true}
+use Rattle.js_grammar.proofs.Booleans.{or_true}
 
 -- what begins an expression statement begins no other statement
 by_expression : (limit : ℕ) (exp : Bool → Level → Parser tree.Expr) (body : Parser (List tree.Stmt)) (statement : Parser tree.Stmt) (s : Option Sign) (x : List Lexeme) → can_begin s ≡ true → is_excluded s ≡ false → reader.statement_by limit exp body statement s x ≡ reader.expressed limit exp body statement x
@@ -69,7 +71,7 @@ no_brace (Some (Word _)) e = refl
 operand_follows : (x : List Lexeme) → same_line x ≡ true → can_begin (sign_at x) ≡ true → returns x ≡ false
 unfolding sees
 operand_follows [] e f = absurd (cc)
-operand_follows (t ∷ ts) e f = rw (not_first (Mark p.Semicolon) (sign_of t.0) refl f, no_brace (sign_of t.0) f, not_true t.1 e) refl
+operand_follows (t ∷ ts) e f = rw (not_first (Mark p.Semicolon) (sign_of t.0) refl f, no_brace (sign_of t.0) f, not-true t.1 e) refl
 
 module _ (limit : ℕ) (exp : Bool → Level → Parser tree.Expr) (body : Parser (List tree.Stmt)) (statement : Parser tree.Stmt) (Exp : Bool → Level → Bool → Phrase tree.Expr) (Body : Phrase (List tree.Stmt)) (Stm : Phrase tree.Stmt) (bound : ℕ) (inner : Inner limit exp body Exp Body bound) (stm : InnerStatements limit statement Stm bound) where
   -- an expression and the end of the statement

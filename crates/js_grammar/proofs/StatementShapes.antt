@@ -1,5 +1,6 @@
 -- What a statement takes, and what it begins with.
 use Rattle.std.proofs.Common.{◌≡◌, ◌<◌, ◌≤◌, Bool, true, false, List, [], ◌∷◌, length, Option, Some, None, refl, arith}
+use Rattle.std.proofs.lemmas.Bool.{or_parts}
 use Rattle.std.specs.Prelude.{◌||◌}
 use Rattle.js_core.specs.Tree as tree
 use Rattle.js_core.specs.declared.syntax.Declarator.{Declarator}
@@ -7,17 +8,16 @@ use Rattle.js_core.specs.declared.token.Punct.TheVariants as p
 use Rattle.js_core.specs.declared.keyword.Keyword.TheVariants as kw
 use Rattle.js_grammar.specs.declared.sign.Sign.{Sign}
 use Rattle.js_grammar.specs.declared.sign.Sign.TheVariants.{Mark, Word}
-use Rattle.js_grammar.specs.Symbols.{Lexeme}
-use Rattle.js_grammar.specs.Operators.{Level, can_begin}
-use Rattle.js_grammar.specs.Parser.{sign_of, sign_at}
+use Rattle.js_grammar.specs.Symbols.{Lexeme, sign_of, sign_at}
+use Rattle.js_grammar.specs.Operators.{Level}
 use Rattle.js_grammar.specs.Phrases.{Phrase, mark, word, Separated, Many}
 use Rattle.js_grammar.specs.Expressions.{Sequence}
 use Rattle.js_grammar.specs.Endings.{Ending, is_right_brace}
 use Rattle.js_grammar.specs.Statements.{End, semicolon, automatic, Clause, Declaration, bare, initialised, Braced, braced, Maybe, missing, present, Init, nothing, variables, expression, Case, case, default, Statement, block, variable, empty, expressed, conditional, alternative, do_while, while, for_loop, for_in, for_in_variable, continue, break, return, return_value, throw, try_catch, try_finally, try_both, switch, Element, is_statement, declaration, Elements}
 use Rattle.js_grammar.specs.StatementReader.{begins_clause, has_more, has_more_in_clause}
+use Rattle.js_grammar.proofs.Beginnings.{can_begin}
 use Rattle.js_grammar.proofs.ListShapes.{separated_shorter, many_shorter}
 use Rattle.js_grammar.proofs.ExpressionShapes.{procedure_shorter, left_shorter, assignment_shorter, sequence_shorter, sequence_begins}
-use Rattle.js_grammar.proofs.Booleans.{or_false}
 
 pub end_shorter : {e : Ending} {x z : List Lexeme} → End e x z → length z ≤ length x
 end_shorter semicolon = omega arith
@@ -37,10 +37,10 @@ begins_none (Some (Word _)) e = refl
 
 pub more_at : (x z : List Lexeme) → length z < length x → is_behind (sign_at x) ≡ false → has_more x ≡ true
 more_at [] z lt h = absurd (omega arith)
-more_at (t ∷ ts) z lt h = rw ((or_false (is_right_brace (sign_of t.0)) (begins_clause (sign_of t.0)) h).0) refl
+more_at (t ∷ ts) z lt h = rw ((or_parts (is_right_brace (sign_of t.0)) (begins_clause (sign_of t.0)) h).0) refl
 
 pub more_in_clause : (x z : List Lexeme) → length z < length x → is_behind (sign_at x) ≡ false → has_more_in_clause x ≡ true
-more_in_clause x z lt h = rw (more_at x z lt h, (or_false (is_right_brace (sign_at x)) (begins_clause (sign_at x)) h).1) refl
+more_in_clause x z lt h = rw (more_at x z lt h, (or_parts (is_right_brace (sign_at x)) (begins_clause (sign_at x)) h).1) refl
 
 module _ (Exp : Bool → Level → Bool → Phrase tree.Expr) (Body : Phrase (List tree.Stmt)) (Stm : Phrase tree.Stmt) (shorter : (inn : Bool) (level : Level) (g : Bool) (x z : List Lexeme) (a : tree.Expr) → Exp inn level g x z a → length z < length x) (body_shorter : (x z : List Lexeme) (found : List tree.Stmt) → Body x z found → length z ≤ length x) (stm_shorter : (x z : List Lexeme) (s : tree.Stmt) → Stm x z s → length z < length x) where
   expression_shorter : {inn g : Bool} {x z : List Lexeme} {a : tree.Expr} → Sequence Exp Body inn g x z a → length z < length x

@@ -9,9 +9,9 @@ use Rattle.js_core.specs.declared.token.Punct.TheVariants as p
 use Rattle.js_core.specs.declared.keyword.Keyword.TheVariants as kw
 use Rattle.js_grammar.specs.declared.sign.Sign.{Sign}
 use Rattle.js_grammar.specs.declared.sign.Sign.TheVariants.{Mark, Word}
-use Rattle.js_grammar.specs.Symbols.{sign, identifier, Lexeme}
+use Rattle.js_grammar.specs.Symbols.{sign, identifier, Lexeme, sign_of, sign_at, is_sign}
 use Rattle.js_grammar.specs.Operators.{Level}
-use Rattle.js_grammar.specs.Parser.{Parser, Outcome, and_then, tail, sign_of, sign_at, is_sign, sees}
+use Rattle.js_grammar.specs.Parser.{Parser, Outcome, and_then, tail, sees}
 use Rattle.js_grammar.specs.Phrases.{Phrase, mark, word, Many}
 use Rattle.js_grammar.specs.Expressions.{Sequence}
 use Rattle.js_grammar.specs.Endings.{after_expression, after_all, is_right_brace, same_line, is_excluded}

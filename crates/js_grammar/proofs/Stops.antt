@@ -1,8 +1,8 @@
 -- What ends an expression.
 use Rattle.std.proofs.Common.{◌≡◌, Bool, true, false, List, None}
-use Rattle.js_grammar.specs.Symbols.{Lexeme}
+use Rattle.js_grammar.specs.Symbols.{Lexeme, sign_at}
 use Rattle.js_grammar.specs.Operators.{Level, sequence, assignment, binary, construction, member, climbs, is_later, is_suffix}
-use Rattle.js_grammar.specs.Parser.{sign_at, sees_comma}
+use Rattle.js_grammar.specs.Parser.{sees_comma}
 use Rattle.js_grammar.specs.ExpressionReader.{step_at}
 
 -- where `(`, `[`, a point, `++` or `--` would go on with it, none comes

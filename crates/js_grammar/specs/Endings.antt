@@ -8,9 +8,8 @@ use Rattle.js_grammar.specs.declared.sign.Sign.{Sign}
 use Rattle.js_grammar.specs.declared.sign.Sign.TheVariants.{Mark, Word}
 use Rattle.js_core.specs.declared.token.TokenKind.{TokenKind}
 use Rattle.js_lexer.specs.Directives as directives
-use Rattle.js_grammar.specs.Symbols.{Lexeme, symbol_of}
+use Rattle.js_grammar.specs.Symbols.{Lexeme, symbol_of, sign_of, is_sign}
 use Rattle.js_grammar.specs.Operators.{climbs, is_later, is_suffix}
-use Rattle.js_grammar.specs.Parser.{sign_of, is_sign}
 
 -- a binary, logical, relational, conditional, assignment or comma operator
 abbrev pub is_operator : Option Sign → Bool

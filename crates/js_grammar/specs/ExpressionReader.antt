@@ -9,9 +9,9 @@ use Rattle.js_core.specs.declared.operators.BinaryOp.{BinaryOp}
 use Rattle.js_core.specs.declared.keyword.Keyword.TheVariants as kw
 use Rattle.js_grammar.specs.declared.sign.Sign.{Sign}
 use Rattle.js_grammar.specs.declared.sign.Sign.TheVariants.{Mark, Word}
-use Rattle.js_grammar.specs.Symbols.{Symbol, identifier, number, text, Lexeme, member_name, field_name}
+use Rattle.js_grammar.specs.Symbols.{Symbol, identifier, number, text, Lexeme, member_name, field_name, sign_at, sign_of}
 use Rattle.js_grammar.specs.Operators.{Level, sequence, assignment, binary, construction, member, Infix, infix_of, level_of, combined, climbs, Prefix, prefix_of, prefixed, step_of, assignment_of, is_suffix}
-use Rattle.js_grammar.specs.Parser.{Parser, ◌>>=◌, ◌>>◌, pure, refuse, peek, skip, tail, sign_at, sign_of, sees, sees_comma, expect, eat, taken, within_limit, repeat, added_behind_comma, separated, listed, many, divided}
+use Rattle.js_grammar.specs.Parser.{Parser, ◌>>=◌, ◌>>◌, pure, refuse, peek, skip, tail, sees, sees_comma, expect, eat, taken, within_limit, repeat, added_behind_comma, separated, listed, many, divided}
 
 -- ---- single symbols
 

@@ -1,14 +1,13 @@
 -- Where line ends may be put between the symbols of a script: behind `{` and `;`, before `}`, and behind a `}` where no `++`
 -- or `--` follows. Statements begin there and end there, and no rule on semicolons looks at a line end there (section 7.9).
-use Rattle.std.specs.Prelude.{◌≡◌, Bool, true, false, not, ◌||◌, ◌&&◌, List, [], ◌∷◌, Some, is_some}
+use Rattle.std.specs.Prelude.{◌≡◌, Bool, true, false, not, ◌||◌, ◌&&◌, List, [], ◌∷◌, is_some}
 use Rattle.js_core.specs.Tree as tree
 use Rattle.js_core.specs.declared.token.Punct.TheVariants as p
 use Rattle.js_core.specs.declared.token.Token.{Token}
 use Rattle.js_grammar.specs.declared.sign.Sign.TheVariants.{Mark}
 use Rattle.js_grammar.specs.Operators.{step_of}
-use Rattle.js_grammar.specs.Parser.{sign_of}
 use Rattle.js_grammar.specs.Scripts.{Derives}
-use Rattle.js_grammar.specs.Symbols.{Symbol, sign, Lexeme, lexemes}
+use Rattle.js_grammar.specs.Symbols.{Symbol, sign, Lexeme, lexemes, sign_of}
 
 abbrev pub is_opening : Symbol → Bool
 is_opening (sign (Mark p.LeftBrace)) = true

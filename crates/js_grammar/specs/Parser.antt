@@ -1,32 +1,15 @@
 -- What a reader is made of: steps on a list of lexemes, from the left, with one of lookahead.
 use Rattle.std.specs.Prelude.{ℕ, zero, suc, Bool, true, false, nat_le, if◌then◌else◌, List, [], ◌∷◌, ◌++◌, length, Option, Some, None}
-use denote.Enum.Bare.{sameb}
 use Rattle.js_core.specs.declared.token.Punct.TheVariants as p
-use Rattle.js_core.specs.contracts.token.Punct as punct
-use Rattle.js_core.specs.contracts.keyword.Keyword as keyword
 use Rattle.js_grammar.specs.declared.sign.Sign.{Sign}
-use Rattle.js_grammar.specs.declared.sign.Sign.TheVariants.{Mark, Word}
-use Rattle.js_grammar.specs.Symbols.{Symbol, sign, Lexeme}
+use Rattle.js_grammar.specs.declared.sign.Sign.TheVariants.{Mark}
+use Rattle.js_grammar.specs.Symbols.{Symbol, Lexeme, sign_at, is_sign}
 
 -- ---- the next lexeme
-
-abbrev pub sign_of : Symbol → Option Sign
-sign_of (sign s) = Some s
-sign_of s = None
-
--- the next sign, where a sign comes next
-abbrev pub sign_at : List Lexeme → Option Sign
-sign_at [] = None
-sign_at (t ∷ ts) = sign_of t.0
 
 abbrev pub tail : List Lexeme → List Lexeme
 tail [] = []
 tail (t ∷ ts) = ts
-
-abbrev pub is_sign : Sign → Option Sign → Bool
-is_sign (Mark m) (Some (Mark n)) = sameb punct.the_type n m
-is_sign (Word m) (Some (Word n)) = sameb keyword.the_type n m
-is_sign s t = false
 
 -- whether this sign comes next
 unfoldable pub sees : Sign → List Lexeme → Bool

@@ -29,7 +29,8 @@ opens_group level inn i = false
 
 -- A part, where parts nest less deep than the second and the third number. The third counts all of them, as the grammar does:
 -- each begins behind the one that it stands in, so as many as there are lexemes, and one, are enough. The second leaves out
--- the groups with which expressions begin. What is left makes height, so a number that goes with the limit is enough.
+-- the groups with which expressions begin. Of what is left all makes height but the block that is a body, so `room_of` the limit is
+-- enough.
 unfoldable pub inside : ℕ → ℕ → ℕ → (what : Inside) → Parser (Read what)
 inside limit room zero what = λ i. None
 inside limit zero (suc depth) what = λ i. None

@@ -10,9 +10,9 @@ use Rattle.js_core.specs.declared.token.Punct.TheVariants as p
 use Rattle.js_core.specs.declared.keyword.Keyword.TheVariants as kw
 use Rattle.js_grammar.specs.declared.sign.Sign.{Sign}
 use Rattle.js_grammar.specs.declared.sign.Sign.TheVariants.{Mark, Word}
-use Rattle.js_grammar.specs.Symbols.{Lexeme}
+use Rattle.js_grammar.specs.Symbols.{Lexeme, sign_of, sign_at}
 use Rattle.js_grammar.specs.Operators.{Level, Prefix, prefix_of}
-use Rattle.js_grammar.specs.Parser.{Parser, ◌>>=◌, ◌>>◌, pure, refuse, peek, skip, tail, sign_of, sign_at, sees, expect, eat, taken, within_limit, separated, many}
+use Rattle.js_grammar.specs.Parser.{Parser, ◌>>=◌, ◌>>◌, pure, refuse, peek, skip, tail, sees, expect, eat, taken, within_limit, separated, many}
 use Rattle.js_grammar.specs.ExpressionReader as reader
 use Rattle.js_grammar.specs.ExpressionReader.{identifier_of}
 use Rattle.js_grammar.specs.Endings.{Ending, after_expression, after_name, after_all, may_end, same_line, is_right_brace}

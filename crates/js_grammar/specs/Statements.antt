@@ -7,9 +7,8 @@ use Rattle.js_core.specs.declared.syntax.Declarator.{Declarator}
 use Rattle.js_core.specs.declared.token.Punct.TheVariants as p
 use Rattle.js_core.specs.declared.keyword.Keyword.TheVariants as kw
 use Rattle.js_grammar.specs.declared.sign.Sign.TheVariants.{Word}
-use Rattle.js_grammar.specs.Symbols.{identifier, Lexeme}
+use Rattle.js_grammar.specs.Symbols.{identifier, Lexeme, sign_at, is_sign}
 use Rattle.js_grammar.specs.Operators.{Level}
-use Rattle.js_grammar.specs.Parser.{sign_at, is_sign}
 use Rattle.js_grammar.specs.Phrases.{Phrase, mark, word, Separated, Many}
 use Rattle.js_grammar.specs.Expressions.{LeftHandSide, Assignment, Sequence, Procedure}
 use Rattle.js_grammar.specs.Endings.{Ending, after_expression, after_name, after_all, may_end, same_line, is_excluded}

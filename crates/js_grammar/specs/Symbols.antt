@@ -1,10 +1,13 @@
 -- The terminal symbols of the grammar, as tokens give them.
-use Rattle.std.specs.Prelude.{ℕ, suc, ◌++◌, ℤ, pos, negsuc, Bool, if◌then◌else◌, List, [], ◌∷◌, Option, Some, None, codes, decimal}
+use Rattle.std.specs.Prelude.{ℕ, suc, ◌++◌, ℤ, pos, negsuc, Bool, false, if◌then◌else◌, List, [], ◌∷◌, Option, Some, None, codes, decimal}
+use denote.Enum.Bare.{sameb}
 use Rattle.js_core.specs.Spelling.{keyword_of, keyword_text, is_unused_word}
 use Rattle.js_core.specs.declared.token.Token.{Token}
 use Rattle.js_core.specs.declared.token.TokenKind.{TokenKind}
 use Rattle.js_core.specs.declared.token.TokenKind.TheVariants as kind
 use Rattle.js_core.specs.declared.keyword.Keyword.{Keyword}
+use Rattle.js_core.specs.contracts.keyword.Keyword as keyword
+use Rattle.js_core.specs.contracts.token.Punct as punct
 use Rattle.js_grammar.specs.declared.sign.Sign.{Sign}
 use Rattle.js_grammar.specs.declared.sign.Sign.TheVariants.{Mark, Word}
 
@@ -39,6 +42,23 @@ lexeme_of t = (symbol_of t.what, t.after_line)
 abbrev pub lexemes : List Token → List Lexeme
 lexemes [] = []
 lexemes (t ∷ ts) = lexeme_of t ∷ lexemes ts
+
+-- ---- signs
+
+abbrev pub sign_of : Symbol → Option Sign
+sign_of (sign s) = Some s
+sign_of s = None
+
+-- the sign that comes next, where one does
+abbrev pub sign_at : List Lexeme → Option Sign
+sign_at [] = None
+sign_at (t ∷ ts) = sign_of t.0
+
+-- whether it is this one
+abbrev pub is_sign : Sign → Option Sign → Bool
+is_sign (Mark m) (Some (Mark n)) = sameb punct.the_type n m
+is_sign (Word m) (Some (Word n)) = sameb keyword.the_type n m
+is_sign s t = false
 
 -- ---- names of properties
 

@@ -1,5 +1,5 @@
 -- Which trees some tokens have: rules on trees alone (sections 7.6, 11 to 14). Every part of such a tree is one, too.
-use Rattle.std.specs.Prelude.{ℕ, Bool, true, false, not, ◌&&◌, IsTrue, List, [], ◌∷◌, Option, Some, None}
+use Rattle.std.specs.Prelude.{ℕ, Bool, true, false, not, ◌&&◌, IsTrue, List, Option, Some, None}
 use Rattle.std.specs.List.{list_all}
 use Rattle.js_core.specs.Spelling.{is_reserved_word}
 use Rattle.js_core.specs.Tree as tree

@@ -8,12 +8,12 @@ use Rattle.js_core.specs.declared.keyword.Keyword.TheVariants as keyword
 use Rattle.js_grammar.specs.declared.sign.Sign.{Sign}
 use Rattle.js_grammar.specs.declared.sign.Sign.TheVariants.{Mark, Word}
 use Rattle.js_grammar.specs.Symbols as symbols
-use Rattle.js_grammar.specs.Operators.{can_begin}
-use Rattle.js_grammar.specs.Parser.{sign_at, is_sign}
+use Rattle.js_grammar.specs.Symbols.{sign_at, is_sign}
 use Rattle.js_grammar.specs.Endings.{is_excluded, same_line}
 use Rattle.js_grammar.specs.Phrases.{Phrase, mark, Many, none}
 use Rattle.js_grammar.specs.Statements.{body_of, Braced, braced, Statement, block}
 use Rattle.js_grammar.specs.Scripts.{statement}
+use Rattle.js_grammar.proofs.Callers.{can_begin}
 use Rattle.js_print.specs.declared.lexeme.Lexeme.{Lexeme}
 use Rattle.js_print.specs.declared.lexeme.Lexeme.TheVariants.{Punct}
 use Rattle.js_print.specs.Lexemes.{stmt_lexemes, stmts_lexemes}

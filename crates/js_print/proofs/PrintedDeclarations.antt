@@ -10,7 +10,7 @@ use Rattle.js_core.specs.declared.keyword.Keyword.TheVariants as keyword
 use Rattle.js_grammar.specs.declared.ending.Ending.{Ending}
 use Rattle.js_grammar.specs.declared.ending.Ending.TheVariants.{AfterExpression, AfterName}
 use Rattle.js_grammar.specs.Symbols as symbols
-use Rattle.js_grammar.specs.Parser.{sign_at}
+use Rattle.js_grammar.specs.Symbols.{sign_at}
 use Rattle.js_grammar.specs.Phrases.{mark, Separated, only, Many, none}
 use Rattle.js_grammar.specs.Statements.{Clause, cases_from, Declaration, bare, initialised, Maybe, missing, present, Init, nothing, variables, expression, Case, case, default}
 use Rattle.js_print.specs.declared.lexeme.Lexeme.TheVariants.{Name, Punct}

@@ -18,13 +18,13 @@ use Rattle.js_grammar.specs.declared.operators.Infix.TheVariants as infixes
 use Rattle.js_grammar.specs.declared.operators.Prefix.{Prefix}
 use Rattle.js_grammar.specs.declared.operators.Prefix.TheVariants as prefixes
 use Rattle.js_grammar.specs.Symbols as symbols
-use Rattle.js_grammar.specs.Symbols.{Symbol, sign, identifier, symbol_of, member_name}
-use Rattle.js_grammar.specs.Parser.{sign_of, sign_at}
-use Rattle.js_grammar.specs.Operators.{can_begin, combined, prefixed, infix_of, level_of, assignment_of}
+use Rattle.js_grammar.specs.Symbols.{Symbol, sign, identifier, symbol_of, member_name, sign_of, sign_at}
+use Rattle.js_grammar.specs.Operators.{combined, prefixed, infix_of, level_of, assignment_of}
 use Rattle.js_grammar.specs.Endings.{is_excluded}
 use Rattle.js_grammar.specs.Phrases.{mark}
 use Rattle.js_grammar.specs.Expressions.{sequence_of, Procedure, procedure, this_value, null_value, true_value, false_value, named, numeral, string, array, object, anonymous, function, Member, is_primary, dotted, indexed, called, constructed, stepped, Unary, is_postfix, operated, Binary, combines, is_binary, chosen, assigned, sequenced}
 use Rattle.js_grammar.specs.Scripts.{expression, body, Nested}
+use Rattle.js_grammar.proofs.Callers.{can_begin}
 use Rattle.js_print.specs.declared.lexeme.Lexeme.{Lexeme}
 use Rattle.js_print.specs.declared.lexeme.Lexeme.TheVariants.{Keyword, Name, Punct}
 use Rattle.js_print.specs.declared.place.Place.TheVariants.{Operand, Base, Constructor, Part}

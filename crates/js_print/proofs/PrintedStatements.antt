@@ -8,7 +8,7 @@ use Rattle.js_core.specs.declared.token.TokenKind.{TokenKind}
 use Rattle.js_core.specs.declared.token.Punct.TheVariants as punct
 use Rattle.js_core.specs.declared.keyword.Keyword.TheVariants as keyword
 use Rattle.js_grammar.specs.Symbols as symbols
-use Rattle.js_grammar.specs.Parser.{sign_at}
+use Rattle.js_grammar.specs.Symbols.{sign_at}
 use Rattle.js_grammar.specs.Phrases.{mark, word}
 use Rattle.js_grammar.specs.Statements.{body_of, Clause, cases_from, has_one_default, semicolon, Statement, variable, empty, expressed, conditional, alternative, do_while, while, for_loop, for_in, for_in_variable, continue, break, return, return_value, throw, try_catch, try_finally, try_both, switch}
 use Rattle.js_print.specs.declared.lexeme.Lexeme.{Lexeme}

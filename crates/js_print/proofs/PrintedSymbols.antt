@@ -12,10 +12,9 @@ use Rattle.js_core.specs.declared.token.Punct.{Punct}
 use Rattle.js_core.specs.declared.keyword.Keyword.{Keyword as Word}
 use Rattle.js_grammar.specs.declared.sign.Sign.{Sign}
 use Rattle.js_grammar.specs.Symbols as symbols
-use Rattle.js_grammar.specs.Symbols.{Symbol, sign, identifier, unused, number, text, symbol_of, word_symbol, member_name, field_name, number_text}
-use Rattle.js_grammar.specs.Parser.{sign_of}
-use Rattle.js_grammar.specs.Operators.{can_begin}
+use Rattle.js_grammar.specs.Symbols.{Symbol, sign, identifier, unused, number, text, symbol_of, word_symbol, member_name, field_name, number_text, sign_of}
 use Rattle.js_grammar.specs.Endings.{is_excluded}
+use Rattle.js_grammar.proofs.Callers.{can_begin}
 use Rattle.js_print.specs.declared.lexeme.Lexeme.{Lexeme}
 use Rattle.js_print.specs.ReadBack.{kind_of, AreTokensOf, none, more}
 

@@ -17,9 +17,8 @@ use Rattle.js_core.specs.declared.keyword.Keyword.TheVariants as keyword
 use Rattle.js_lexer.specs.Written.{is_identifier_name, can_be_written}
 use Rattle.js_grammar.specs.declared.sign.Sign.TheVariants as signs
 use Rattle.js_grammar.specs.Symbols as symbols
-use Rattle.js_grammar.specs.Symbols.{sign, identifier, unused, word_symbol, member_name}
+use Rattle.js_grammar.specs.Symbols.{sign, identifier, unused, word_symbol, member_name, sign_at}
 use Rattle.js_grammar.specs.Operators.{assignment_of}
-use Rattle.js_grammar.specs.Parser.{sign_at}
 use Rattle.js_grammar.specs.Phrases.{Phrase}
 use Rattle.js_grammar.specs.Statements.{Clause, cases_from, Element, is_statement, declaration}
 use Rattle.js_grammar.specs.Statements as clauses

@@ -18,11 +18,11 @@ use Rattle.js_grammar.specs.ExpressionReader as reader
 use Rattle.js_grammar.specs.ExpressionReader.{in_line, step_at}
 use Rattle.js_grammar.specs.declared.operators.Level.{Level}
 use Rattle.js_grammar.specs.Operators.{climbs, assignment_of, is_assignment_by, is_later, is_question, is_suffix, step_of}
-use Rattle.js_grammar.specs.Parser.{Parser, Outcome, and_then, eat, is_sign, repeat, sees, sees_comma, separated, sign_at, sign_of, taken, within_limit}
+use Rattle.js_grammar.specs.Parser.{Parser, Outcome, and_then, eat, repeat, sees, sees_comma, separated, taken, within_limit}
 use Rattle.js_grammar.specs.Scripts.{height_limit}
 use Rattle.js_grammar.specs.StatementReader as statements
 use Rattle.js_grammar.specs.StatementReader.{ended, read_expression}
-use Rattle.js_grammar.specs.Symbols.{Lexeme, lexemes, symbol_of, text, word_symbol}
+use Rattle.js_grammar.specs.Symbols.{Lexeme, lexemes, symbol_of, text, word_symbol, is_sign, sign_at, sign_of}
 use Rattle.js_lexer.specs.Directives as directives
 use Rattle.js_lexer.specs.Directives.{behind_statement, is_semicolon}
 

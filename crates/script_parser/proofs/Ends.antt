@@ -3,10 +3,9 @@ use Rattle.std.proofs.Common.{◌≡◌, Bool, true, false, List, [], ◌∷◌,
 use Rattle.std.specs.Prelude.{not}
 use Rattle.js_grammar.specs.declared.ending.Ending.{Ending}
 use Rattle.js_grammar.specs.Endings.{may_end, ends_before, is_right_brace}
-use Rattle.js_grammar.specs.Parser.{sign_at}
 use Rattle.js_core.specs.declared.syntax.Declarator.{Declarator}
 use Rattle.js_grammar.specs.StatementReader.{has_more, ending_by, ending_of}
-use Rattle.js_grammar.specs.Symbols.{Lexeme}
+use Rattle.js_grammar.specs.Symbols.{Lexeme, sign_at}
 use Rattle.expression_parser.specs.Reads.{after_line}
 
 same_some : {A : Type 0} (a b : A) → ◌≡◌ {A = Option A} (Some a) (Some b) → a ≡ b

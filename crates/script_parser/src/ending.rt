@@ -4,7 +4,7 @@ ghost use Rattle.std.specs.Prelude.{◌≡◌, ◌||◌, Some, true};
 ghost use Rattle.js_core.specs.declared.token.Punct.TheVariants as p;
 ghost use Rattle.js_grammar.specs.declared.sign.Sign.TheVariants.{Mark};
 ghost use Rattle.js_grammar.specs.Operators as operators;
-ghost use Rattle.js_grammar.specs.Parser.{is_sign};
+ghost use Rattle.js_grammar.specs.Symbols.{is_sign};
 ghost use Rattle.js_grammar.specs.Endings as spec;
 ghost use Rattle.js_grammar.specs.StatementReader as reader;
 ghost use Rattle.expression_parser.specs.Reads.{Reads};
