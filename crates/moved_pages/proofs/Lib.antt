@@ -1,5 +1,6 @@
 pub mod Accepted
 pub mod InForm
+pub mod EventStores
 pub mod Joining
 pub mod LinedPage
 pub mod Moved
