@@ -10,20 +10,20 @@ use Rattle.page_meaning.specs.Elements.{list_in, on_list, on_some}
 use Rattle.page_meaning.specs.Errors.{raise}
 use Rattle.page_meaning.specs.Rows.{list_row_on}
 use Rattle.page_meaning.specs.Store.{Store}
-use Rattle.page_state.specs.declared.fault.Fault.{Fault}
+use Rattle.js_core.specs.declared.memory.Failure.{Failure}
 use Rattle.page_state.specs.declared.turns.Halt.TheVariants as halt
 use Rattle.page_state.specs.Does.{Raises, itself}
 use Rattle.page_state.specs.Turns.{Halts}
 use Rattle.page_state.proofs.Callers.{asked_ends, raises_halts}
 
-on_none : (o : Option ObjId) (f : Calls → ObjId → Act) (s t : Store) (n : ℕ) (e : Fault) → o ≡ None → Raises (λ _. raise WrongArgument) s t e → Halts (λ c. on_some (f c) o) s n t n (halt.Fault e)
+on_none : (o : Option ObjId) (f : Calls → ObjId → Act) (s t : Store) (n : ℕ) (e : Failure Value) → o ≡ None → Raises (λ _. raise WrongArgument) s t e → Halts (λ c. on_some (f c) o) s n t n (halt.Fault e)
 on_none None f s t n e none r = raises_halts (λ _. raise WrongArgument) s t n e r
 on_none (Some at) f s t n e none r = cc none
 
-pub no_list : (v : Value) (f : Calls → ObjId → Act) (s t : Store) (n : ℕ) (e : Fault) → list_in v s ≡ None → Raises (λ _. raise WrongArgument) s t e → Halts (λ c. on_list v (f c)) s n t n (halt.Fault e)
+pub no_list : (v : Value) (f : Calls → ObjId → Act) (s t : Store) (n : ℕ) (e : Failure Value) → list_in v s ≡ None → Raises (λ _. raise WrongArgument) s t e → Halts (λ c. on_list v (f c)) s n t n (halt.Fault e)
 no_list v f s t n e none r = asked_ends (list_in v) (λ c. on_some (f c)) itself s t n n (Err (halt.Fault e)) (on_none (list_in v s) f s t n e none r)
 
-pub unbuilt : (which : BuiltIn) (vs : List Value) (at : ObjId) (length : ℕ) (s t : Store) (n : ℕ) (e : Fault)
+pub unbuilt : (which : BuiltIn) (vs : List Value) (at : ObjId) (length : ℕ) (s t : Store) (n : ℕ) (e : Failure Value)
     → (which ≡ built_in.ArrayPrototypeConcat → ⊥)
     → (which ≡ built_in.ArrayPrototypeJoin → ⊥)
     → (which ≡ built_in.ArrayPrototypePop → ⊥)

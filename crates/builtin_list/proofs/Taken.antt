@@ -7,7 +7,7 @@ use Rattle.page_meaning.specs.Act.{Act, Calls, also, bind}
 use Rattle.page_meaning.specs.Elements.{turns_down, turns_up}
 use Rattle.page_meaning.specs.Primitives.{take_step}
 use Rattle.page_meaning.specs.Store.{Store}
-use Rattle.page_state.specs.declared.fault.Fault.{Fault}
+use Rattle.js_core.specs.declared.memory.Failure.{Failure}
 use Rattle.page_state.specs.declared.turns.Halt.{Halt}
 use Rattle.page_state.specs.declared.turns.Halt.TheVariants as halt
 use Rattle.page_state.specs.Does.{Does, Raises, no_value}
@@ -28,7 +28,7 @@ module _ {B : Type 0} (act first : Calls → Act) (rest : Calls → Value → Ac
       (turn_ends (λ c. also (first c) (rest c)) f s u n h j r taken (did_on first rest f v s t u h j r d e))
 
   -- or threw
-  pub turn_fails : (s t : Store) (n h : ℕ) (e : Fault) (r : Result B Halt) → n ≡ suc h → Raises first s t e → IsErr r × IsErrAnd r (λ d. d ≡ halt.Fault e) → Ends f act s n t h r
+  pub turn_fails : (s t : Store) (n h : ℕ) (e : Failure Value) (r : Result B Halt) → n ≡ suc h → Raises first s t e → IsErr r × IsErrAnd r (λ d. d ≡ halt.Fault e) → Ends f act s n t h r
   turn_fails s t n h e r taken d g =
       same_ends act (λ c. bind take_step (λ _. also (first c) (rest c))) f s t n h r is
       (turn_ends (λ c. also (first c) (rest c)) f s t n h h r taken (failed_at first rest f s t h e r d g))
@@ -46,7 +46,7 @@ module _ (body : ℕ → Act) where
   up_on f m i v s t u n h j r there =
       turn_on (λ _. turns_up body i (m - i)) (λ _. body i) (λ _ _. turns_up body (i + 1) (m - (i + 1))) f (λ _. up_is i m there) v s t u n h j r
 
-  pub up_fails : {B : Type 0} (f : B → Value) (m i : ℕ) (s t : Store) (n h : ℕ) (e : Fault) (r : Result B Halt) → i < m → n ≡ suc h → Raises (λ _. body i) s t e
+  pub up_fails : {B : Type 0} (f : B → Value) (m i : ℕ) (s t : Store) (n h : ℕ) (e : Failure Value) (r : Result B Halt) → i < m → n ≡ suc h → Raises (λ _. body i) s t e
       → IsErr r × IsErrAnd r (λ d. d ≡ halt.Fault e) → Ends f (λ _. turns_up body i (m - i)) s n t h r
   up_fails f m i s t n h e r there =
       turn_fails (λ _. turns_up body i (m - i)) (λ _. body i) (λ _ _. turns_up body (i + 1) (m - (i + 1))) f (λ _. up_is i m there) s t n h e r
@@ -69,7 +69,7 @@ module _ (body : ℕ → Act) where
   down_on f k v s t u n h j r there =
       turn_on (λ _. turns_down body k) (λ _. body (k - 1)) (λ _ _. turns_down body (k - 1)) f (λ _. down_is k there) v s t u n h j r
 
-  pub down_fails : {B : Type 0} (f : B → Value) (k : ℕ) (s t : Store) (n h : ℕ) (e : Fault) (r : Result B Halt) → 0 < k → n ≡ suc h → Raises (λ _. body (k - 1)) s t e
+  pub down_fails : {B : Type 0} (f : B → Value) (k : ℕ) (s t : Store) (n h : ℕ) (e : Failure Value) (r : Result B Halt) → 0 < k → n ≡ suc h → Raises (λ _. body (k - 1)) s t e
       → IsErr r × IsErrAnd r (λ d. d ≡ halt.Fault e) → Ends f (λ _. turns_down body k) s n t h r
   down_fails f k s t n h e r there =
       turn_fails (λ _. turns_down body k) (λ _. body (k - 1)) (λ _ _. turns_down body (k - 1)) f (λ _. down_is k there) s t n h e r

@@ -3,7 +3,7 @@ use Rattle.std.specs.Prelude.{List, ℕ, Result, Ok, Err}
 use Rattle.js_values.specs.declared.ids.ObjId.{ObjId}
 use Rattle.js_values.specs.declared.value.Value.{Value}
 use Rattle.js_values.specs.declared.value.Value.TheVariants.{Text, Object}
-use Rattle.page_state.specs.declared.fault.Fault.{Fault}
+use Rattle.js_core.specs.declared.memory.Failure.{Failure}
 use Rattle.page_state.specs.declared.turns.Halt.{Halt}
 use Rattle.page_state.specs.declared.turns.Halt.TheVariants as halt
 
@@ -16,6 +16,6 @@ abbrev pub for_text : List ℕ → Unit {0} → Value
 for_text t u = Text t
 
 -- what is done at once halts by its faults alone
-abbrev pub lifted : Result Value Fault → Result Value Halt
+abbrev pub lifted : Result Value (Failure Value) → Result Value Halt
 lifted (Ok v) = Ok v
 lifted (Err e) = Err (halt.Fault e)

@@ -8,7 +8,7 @@ use Rattle.page_meaning.specs.declared.signal.Signal.TheVariants.{Value as Val}
 use Rattle.page_meaning.specs.Act.{Act, Calls, also, asking, bind, done, give, nothing, then_on}
 use Rattle.page_meaning.specs.Primitives.{put_line}
 use Rattle.page_meaning.specs.Store.{Store}
-use Rattle.page_state.specs.declared.fault.Fault.{Fault}
+use Rattle.js_core.specs.declared.memory.Failure.{Failure}
 use Rattle.page_state.specs.Does.{Does, Gives, Raises}
 use Rattle.page_state.proofs.Callers.{also_gives, failed}
 

@@ -7,10 +7,10 @@ use Rattle.js_values.specs.declared.value.Value.{Value}
 use Rattle.page_meaning.specs.Errors.{raise}
 use Rattle.page_meaning.specs.Rows.{object_row}
 use Rattle.page_meaning.specs.Store.{Store}
-use Rattle.page_state.specs.declared.fault.Fault.{Fault}
+use Rattle.js_core.specs.declared.memory.Failure.{Failure}
 use Rattle.page_state.specs.Does.{Raises}
 
-pub unbuilt : (construct : Bool) (which : BuiltIn) (this : Value) (vs : List Value) (s t : Store) (e : Fault)
+pub unbuilt : (construct : Bool) (which : BuiltIn) (this : Value) (vs : List Value) (s t : Store) (e : Failure Value)
     → (which ≡ built_in.Alert → ⊥)
     → (which ≡ built_in.ConsoleLog → ⊥)
     → (which ≡ built_in.Object → ⊥)

@@ -15,11 +15,11 @@ use Rattle.page_meaning.specs.ObjectRows.{create, define_properties, has_own, is
 use Rattle.page_meaning.specs.Primitives.{make}
 use Rattle.page_meaning.specs.Store.{Store}
 use Rattle.page_meaning.specs.ValueRows.{error_from, error_saying, is_array, saying_fit, truth_itself, truth_text}
-use Rattle.page_state.specs.declared.fault.Fault.{Fault}
+use Rattle.js_core.specs.declared.memory.Failure.{Failure}
 use Rattle.page_state.specs.Does.{Gives, Raises}
 
 -- an argument that is no object
-pub no_object : (v : Value) (f : Calls → ObjId → Act) (s t : Store) (e : Fault) → ((o : ObjId) → v ≡ Object o → ⊥) → Raises (λ _. raise WrongArgument) s t e → Raises (λ c. on_object v (f c)) s t e
+pub no_object : (v : Value) (f : Calls → ObjId → Act) (s t : Store) (e : Failure Value) → ((o : ObjId) → v ≡ Object o → ⊥) → Raises (λ _. raise WrongArgument) s t e → Raises (λ c. on_object v (f c)) s t e
 no_object (Object o) f s t e h r = absurd (h o refl)
 no_object Undefined f s t e h r = r
 no_object Null f s t e h r = r
@@ -97,7 +97,7 @@ lists_none v x (inl e) = rw e refl
 lists_none v x (inr e) = rw e refl
 
 -- an error that is given a message
-pub with_message : (k : ErrorKind) (v : Value) (s t : Store) (r : Result ObjId Fault) → (v ≡ Undefined → ⊥)
+pub with_message : (k : ErrorKind) (v : Value) (s t : Store) (r : Result ObjId (Failure Value)) → (v ≡ Undefined → ⊥)
     → Gives Object (λ calls. also (to_text calls v) (λ x. bind (make (error_saying k (text_in x)) (saying_fit k (text_in x))) object_of)) s t r → Gives Object (λ calls. error_from calls k v) s t r
 with_message k Undefined s t r h g = absurd (h refl)
 with_message k Null s t r h g = g
@@ -106,7 +106,7 @@ with_message k (Num n) s t r h g = g
 with_message k (Text x) s t r h g = g
 with_message k (Object o) s t r h g = g
 
-pub text_descriptors : (t : List ℕ) (at : ObjId) (s u : Store) (e : Fault) → 1 ≤ length t → Raises (λ _. raise WrongArgument) s u e → Raises (λ _. define_properties (Text t) at) s u e
+pub text_descriptors : (t : List ℕ) (at : ObjId) (s u : Store) (e : Failure Value) → 1 ≤ length t → Raises (λ _. raise WrongArgument) s u e → Raises (λ _. define_properties (Text t) at) s u e
 text_descriptors [] at s u e h r = absurd (omega arith)
 text_descriptors (x ∷ t) at s u e h r = r
 

@@ -6,7 +6,7 @@ use Rattle.js_values.specs.declared.value.Value.{Value}
 use Rattle.page_meaning.specs.declared.signal.Signal.TheVariants.{Value as Val}
 use Rattle.page_meaning.specs.Act.{Act, Calls, also}
 use Rattle.page_meaning.specs.Store.{Store}
-use Rattle.page_state.specs.declared.fault.Fault.{Fault}
+use Rattle.js_core.specs.declared.memory.Failure.{Failure}
 use Rattle.page_state.specs.Does.{Does, Gives, Raises}
 use Rattle.page_state.proofs.Callers.{also_gives, failed}
 
@@ -15,12 +15,12 @@ module _ {A B : Type 0} (all : Calls → List Value → A → Act) (one : Calls 
   rest_is vs k v a there is c =
       ap (λ ws. all c ws a) (drop_more vs k v there ∙ ap (λ w. w ∷ drop (k + 1) vs) (sym is)) ∙ unfolds c v (drop (k + 1) vs) a
 
-  pub each_on : (vs : List Value) (k : ℕ) (v : Value) (a : A) (w : Value) (s t u : Store) (r : Result B Fault) → k < length vs → v ≡ get_or vs k v → Does (λ c. one c v a) s (Val w) t
+  pub each_on : (vs : List Value) (k : ℕ) (v : Value) (a : A) (w : Value) (s t u : Store) (r : Result B (Failure Value)) → k < length vs → v ≡ get_or vs k v → Does (λ c. one c v a) s (Val w) t
       → Gives f (λ c. all c (drop (k + 1) vs) (next w a)) t u r → Gives f (λ c. all c (drop k vs) a) s u r
   each_on vs k v a w s t u r there is d g =
       subst (λ m. Gives f m s u r) (sym (λ i c. rest_is vs k v a there is c i)) (also_gives (λ c. one c v a) (λ c x. all c (drop (k + 1) vs) (next x a)) f w s t u r d g)
 
-  pub each_fails : (vs : List Value) (k : ℕ) (v : Value) (a : A) (s t : Store) (e : Fault) (r : Result B Fault) → k < length vs → v ≡ get_or vs k v → Raises (λ c. one c v a) s t e
+  pub each_fails : (vs : List Value) (k : ℕ) (v : Value) (a : A) (s t : Store) (e : Failure Value) (r : Result B (Failure Value)) → k < length vs → v ≡ get_or vs k v → Raises (λ c. one c v a) s t e
       → IsErr r × IsErrAnd r (λ d. d ≡ e) → Gives f (λ c. all c (drop k vs) a) s t r
   each_fails vs k v a s t e r there is d h =
       subst (λ m. Gives f m s t r) (sym (λ i c. rest_is vs k v a there is c i)) (failed (λ c. one c v a) (λ c x. all c (drop (k + 1) vs) (next x a)) f s t e r d h)

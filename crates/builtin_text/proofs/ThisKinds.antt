@@ -8,10 +8,10 @@ use Rattle.page_meaning.specs.Errors.{raise}
 use Rattle.page_meaning.specs.NumberRows.{on_number}
 use Rattle.page_meaning.specs.Store.{Store}
 use Rattle.page_meaning.specs.StringRows.{list_of_parts, on_text, parts_of, split_by}
-use Rattle.page_state.specs.declared.fault.Fault.{Fault}
+use Rattle.js_core.specs.declared.memory.Failure.{Failure}
 use Rattle.page_state.specs.Does.{Raises}
 
-pub no_text : (v : Value) (f : Calls → List ℕ → Act) (s t : Store) (e : Fault) → ((x : List ℕ) → v ≡ Text x → ⊥) → Raises (λ _. raise WrongArgument) s t e → Raises (λ c. on_text v (f c)) s t e
+pub no_text : (v : Value) (f : Calls → List ℕ → Act) (s t : Store) (e : Failure Value) → ((x : List ℕ) → v ≡ Text x → ⊥) → Raises (λ _. raise WrongArgument) s t e → Raises (λ c. on_text v (f c)) s t e
 no_text (Text x) f s t e h r = absurd (h x refl)
 no_text Undefined f s t e h r = r
 no_text Null f s t e h r = r
@@ -19,7 +19,7 @@ no_text (Truth b) f s t e h r = r
 no_text (Num n) f s t e h r = r
 no_text (Object o) f s t e h r = r
 
-pub no_number : (v : Value) (f : Calls → Option ℤ → Act) (s t : Store) (e : Fault) → ((n : Option ℤ) → v ≡ Num n → ⊥) → Raises (λ _. raise WrongArgument) s t e → Raises (λ c. on_number v (f c)) s t e
+pub no_number : (v : Value) (f : Calls → Option ℤ → Act) (s t : Store) (e : Failure Value) → ((n : Option ℤ) → v ≡ Num n → ⊥) → Raises (λ _. raise WrongArgument) s t e → Raises (λ c. on_number v (f c)) s t e
 no_number (Num n) f s t e h r = absurd (h n refl)
 no_number Undefined f s t e h r = r
 no_number Null f s t e h r = r

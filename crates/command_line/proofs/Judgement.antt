@@ -10,8 +10,10 @@ use Rattle.page_meaning.specs.Store.{Store}
 use Rattle.page_writer.specs.Literals.{HaveLiterals}
 use Rattle.page_writer.specs.Page.{saved_page}
 use Rattle.page_writer.specs.Sizes.{Judged, many, long, fault, memory, text_limit, things_limit}
-use Rattle.page_writer.specs.declared.save_fault.SaveFault.{SaveFault}
-use Rattle.page_writer.specs.declared.save_fault.SaveFault.TheVariants.{TooMany, TooLong, WriteFault, OutOfMemory}
+use Rattle.js_core.specs.declared.memory.Failure.{Failure}
+use Rattle.page_writer.specs.declared.save_fault.NotSaved.{NotSaved}
+use Rattle.js_core.specs.declared.memory.Failure.TheVariants.{Cause, OutOfMemory}
+use Rattle.page_writer.specs.declared.save_fault.NotSaved.TheVariants.{TooMany, TooLong, WriteFault}
 use Rattle.rebuild_plan.specs.Compact.{compact}
 use Rattle.rebuild_plan.specs.Plan.{plan}
 use Rattle.command_line.specs.Moving.{CanBeSaved, IsOverweight}
@@ -22,11 +24,11 @@ not_much : (w : Weight) → w.things ≤ things_limit → w.text ≤ text_limit 
 not_much w things text (inl more) = omega (arith, things, more)
 not_much w things text (inr more) = omega (arith, text, more)
 
-abbrev Failed : SaveFault → Result (Unit {0}) SaveFault
+abbrev Failed : Failure NotSaved → Result (Unit {0}) (Failure NotSaved)
 Failed f = Err f
 
 module _ (s : Store) (things : List ℕ) (old new : SinkSeen) where
-  abbrev WasJudged : SaveFault → Type 0
+  abbrev WasJudged : Failure NotSaved → Type 0
   WasJudged f = Judged (told (load_of s things)) old new (saved_page s things) (Err f)
 
   overweight : (v : Weight) → IsWalk s things → told (load_of s things) ≡ v → IsTooMuch (told (load_of s things)) → new ≡ old
@@ -43,22 +45,22 @@ module _ (s : Store) (things : List ℕ) (old new : SinkSeen) where
     ),
   )
 
-  pub answer_large : (f : SaveFault) (v : Weight) → IsWalk s things → f ≡ TooMany v → WasJudged f
+  pub answer_large : (f : Failure NotSaved) (v : Weight) → IsWalk s things → f ≡ Cause (TooMany v) → WasJudged f
       → (new ≡ old) × ((x : List ℕ) × IsOverweight s x v)
   answer_large f v walk e (many more none) = overweight v walk (cc e) (inl more) none
   answer_large f v walk e (long few more none) = cc e
   answer_large f v walk e (fault few little front rose) = cc e
   answer_large f v walk e (memory few little front) = cc e
 
-  pub answer_long : (f : SaveFault) (v : Weight) → IsWalk s things → f ≡ TooLong v → WasJudged f
+  pub answer_long : (f : Failure NotSaved) (v : Weight) → IsWalk s things → f ≡ Cause (TooLong v) → WasJudged f
       → (new ≡ old) × ((x : List ℕ) × IsOverweight s x v)
   answer_long f v walk e (many more none) = cc e
   answer_long f v walk e (long few more none) = overweight v walk (cc e) (inr more) none
   answer_long f v walk e (fault few little front rose) = cc e
   answer_long f v walk e (memory few little front) = cc e
 
-  pub answer_fault : (f : SaveFault) → IsWalk s things → f ≡ WriteFault → WasJudged f
-      → (Failed f ≡ Failed WriteFault → HaveLiterals (plan (compact s things)))
+  pub answer_fault : (f : Failure NotSaved) → IsWalk s things → f ≡ Cause WriteFault → WasJudged f
+      → (Failed f ≡ Failed (Cause WriteFault) → HaveLiterals (plan (compact s things)))
       → (x : List ℕ) × CanBeSaved s x × TakesFront old.taken new.taken (saved_page s x) × Rose old.faults new.faults
   answer_fault f walk e (many more none) literals = cc e
   answer_fault f walk e (long few more none) literals = cc e
@@ -74,7 +76,7 @@ module _ (s : Store) (things : List ℕ) (old new : SinkSeen) where
   )
   answer_fault f walk e (memory few little front) literals = cc e
 
-  pub answer_memory : (f : SaveFault) → IsWalk s things → f ≡ OutOfMemory → WasJudged f
+  pub answer_memory : (f : Failure NotSaved) → IsWalk s things → f ≡ OutOfMemory → WasJudged f
       → (new ≡ old) ⊎ ((x : List ℕ) × IsWalk s x × TakesFront old.taken new.taken (saved_page s x))
   answer_memory f walk e (many more none) = cc e
   answer_memory f walk e (long few more none) = cc e

@@ -9,7 +9,7 @@ ghost use Rattle.command_line.specs.Replay.{IsEventFile};
 ghost use Rattle.command_line.specs.Stages.{Of};
 
 use crate::status::Status;
-use event_file::{EventFault, calls};
+use event_file::{EventFault, NotEvents, calls};
 use js_core::{EVENT_FILE_LIMIT, OutOfMemory, PAGE_LIMIT};
 use js_values::Event;
 use opened_pages::{law_opened_pages_are_accepted, law_opened_pages_put_out_the_same, open_page};
@@ -42,7 +42,7 @@ fn accept_bytes(alloc: Global, bytes: &[u8]) -> Result<Accepted, Status>
 {
     match accept(alloc, bytes) {
         Ok(accepted) => Ok(accepted),
-        Err(AcceptFault::Refused(refusal)) => Err(Status::PageRefused(Some(refusal))),
+        Err(AcceptFault::Cause(refusal)) => Err(Status::PageRefused(Some(refusal))),
         Err(AcceptFault::OutOfMemory) => Err(Status::OutOfMemory),
     }
 }
@@ -124,7 +124,7 @@ pub fn read_events<F: Files>(alloc: Global, files: &mut F, name: &str) -> Result
     };
     match calls(alloc, &bytes) {
         Ok(list) => Ok(list),
-        Err(EventFault::NotEvents(number)) => Err(Status::EventsRefused(number)),
+        Err(EventFault::Cause(NotEvents(number))) => Err(Status::EventsRefused(number)),
         Err(EventFault::OutOfMemory) => Err(Status::OutOfMemory),
     }
 }

@@ -16,7 +16,7 @@ use opened_pages::open_checked;
 use page_check::CheckedPage;
 use page_io::Sink;
 use page_state::State;
-use page_writer::{SaveFault, write_walked};
+use page_writer::{NotSaved, SaveFault, write_walked};
 use std::alloc::Global;
 
 /// Puts the page as it is after the events, with opened scopes, where it is not too large.
@@ -64,9 +64,9 @@ fn save_walked<O: Sink>(state: &State, walked: &Walked, out: &mut O) -> Status
 {
     match write_walked(state, walked, out) {
         Ok(()) => Status::Ok,
-        Err(SaveFault::TooMany(weight)) => Status::TooLarge(weight),
-        Err(SaveFault::TooLong(weight)) => Status::TooLarge(weight),
-        Err(SaveFault::WriteFault) => Status::WriteFault,
+        Err(SaveFault::Cause(NotSaved::TooMany(weight))) => Status::TooLarge(weight),
+        Err(SaveFault::Cause(NotSaved::TooLong(weight))) => Status::TooLarge(weight),
+        Err(SaveFault::Cause(NotSaved::WriteFault)) => Status::WriteFault,
         Err(SaveFault::OutOfMemory) => Status::OutOfMemory,
     }
 }

@@ -3,7 +3,7 @@ use Rattle.std.proofs.Common.{◌≡◌, refl, sym, ap, subst, ◌∙◌, ℕ, z
 use Rattle.std.proofs.lemmas.Bool.{eqb-true, ne_eqb, or_parts}
 use Rattle.std.specs.List.{flat_map}
 use Rattle.js_values.specs.declared.ids.NodeId.{NodeId}
-use Rattle.dom_tree.specs.declared.fault.DomFault.TheVariants.{Hierarchy, NotFound}
+use Rattle.dom_tree.specs.declared.fault.DomError.TheVariants.{Hierarchy, NotFound}
 use Rattle.dom_tree.specs.Change.{breaks_hierarchy, inserted, is_above, is_above_within, is_missing, of_parent, put_before, put_under, taken_from, taken_out, without}
 use Rattle.dom_tree.specs.DomText.{closing, closing_of, dom_text, dom_texts, is_empty, joined_texts, opening, opening_of, own_text, text_content, text_unit}
 use Rattle.dom_tree.specs.Fits.{IsReady, in_or_end}

@@ -2,8 +2,8 @@
 use Rattle.std.specs.Prelude.{◌≡◌, ℕ, zero, suc, Bool, false, ◌&&◌, ◌||◌, not, cond, List, [], ◌∷◌, Option, Some, None, Result, Ok, Err, length, nat_eq, if◌then◌else◌}
 use Rattle.std.specs.List.{list_any}
 use Rattle.js_values.specs.declared.ids.NodeId.{NodeId}
-use Rattle.dom_tree.specs.declared.fault.DomFault.{DomFault}
-use Rattle.dom_tree.specs.declared.fault.DomFault.TheVariants.{Hierarchy, NotFound}
+use Rattle.dom_tree.specs.declared.fault.DomError.{DomError}
+use Rattle.dom_tree.specs.declared.fault.DomError.TheVariants.{Hierarchy, NotFound}
 use Rattle.dom_tree.specs.Node.{Nodes, children_at, has, is_document, is_element, is_text, is_this, kind_at, may_have_children, parent_at, with_children, with_parent}
 
 -- the list without the node
@@ -63,8 +63,8 @@ is_missing t p None = false
 is_missing t p (Some r) = not (has r.0 (children_at t p))
 
 -- the error of an insertion, if there is one; the hierarchy is tried before
-abbrev pub insertion_fault : Nodes → NodeId → NodeId → Option NodeId → Option DomFault
-insertion_fault t p c before =
+abbrev pub insertion_error : Nodes → NodeId → NodeId → Option NodeId → Option DomError
+insertion_error t p c before =
     if breaks_hierarchy t p.0 c.0 then Some Hierarchy else (if is_missing t p.0 before then Some NotFound else None)
 
 -- a node that is in a tree is taken out before it is inserted; a node before itself changes nothing
@@ -72,10 +72,10 @@ abbrev pub inserted : Nodes → NodeId → NodeId → Option NodeId → Nodes
 inserted t p c before = if is_this c.0 before then t else put_under (taken_out t c) p c before
 
 -- the error of a removal, if there is one
-abbrev pub removal_fault : Nodes → NodeId → NodeId → Option DomFault
-removal_fault t p c = if has c.0 (children_at t p.0) then None else Some NotFound
+abbrev pub removal_error : Nodes → NodeId → NodeId → Option DomError
+removal_error t p c = if has c.0 (children_at t p.0) then None else Some NotFound
 
 -- a call did what was tried, or answered the error and changed nothing
-abbrev pub Answers : Option DomFault → Nodes → Nodes → Nodes → Result (Unit {0}) DomFault → Type 0
+abbrev pub Answers : Option DomError → Nodes → Nodes → Nodes → Result (Unit {0}) DomError → Type 0
 Answers fault after old new (Ok u) = (fault ≡ None) × (new ≡ after)
 Answers fault after old new (Err e) = (fault ≡ Some e) × (new ≡ old)

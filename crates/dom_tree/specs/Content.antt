@@ -5,8 +5,10 @@ use Rattle.dom_tree.specs.declared.content.Content.{Content}
 use Rattle.dom_tree.specs.declared.content.Kind.{Kind}
 use Rattle.dom_tree.specs.declared.content.Kind.TheVariants.{Comment, Document, Element}
 use Rattle.dom_tree.specs.declared.content.Kind.TheVariants as kind
-use Rattle.dom_tree.specs.declared.fault.DomFault.{DomFault}
-use Rattle.dom_tree.specs.declared.fault.DomFault.TheVariants as fault
+use Rattle.js_core.specs.declared.memory.Failure.{Failure}
+use Rattle.dom_tree.specs.declared.fault.DomError.{DomError}
+use Rattle.js_core.specs.declared.memory.Failure.TheVariants.{Cause, OutOfMemory}
+use Rattle.dom_tree.specs.declared.fault.DomError.TheVariants.{BadName}
 use Rattle.dom_tree.specs.Attributes.{Pairs, with_value_of, without_value_of}
 use Rattle.dom_tree.specs.Name.{folded, is_name}
 
@@ -59,7 +61,7 @@ type_of (Comment text) = 8
 type_of Document = 9
 
 -- a name is refused exactly where it is none; memory can run out only where it is one
-abbrev pub IsNameFault : Text → DomFault → Type 0
-IsNameFault name fault.BadName = is_name name ≡ false
-IsNameFault name fault.OutOfMemory = is_name name ≡ true
+abbrev pub IsNameFault : Text → Failure DomError → Type 0
+IsNameFault name (Cause BadName) = is_name name ≡ false
+IsNameFault name OutOfMemory = is_name name ≡ true
 IsNameFault name f = ⊥

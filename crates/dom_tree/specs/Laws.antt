@@ -4,7 +4,7 @@ use Rattle.std.specs.List.{flat_map}
 use Rattle.js_core.specs.Text.{Text}
 use Rattle.js_values.specs.declared.ids.NodeId.{NodeId}
 use Rattle.dom_tree.specs.declared.content.Kind.TheVariants as kind
-use Rattle.dom_tree.specs.Change.{inserted, insertion_fault, is_above, without}
+use Rattle.dom_tree.specs.Change.{inserted, insertion_error, is_above, without}
 use Rattle.dom_tree.specs.DomText.{closing_of, dom_text, opening_of, own_text, text_content, text_unit}
 use Rattle.dom_tree.specs.Node.{Nodes, children_at, has, is_this, kind_at, next_of, node_at, parent_at}
 use Rattle.dom_tree.specs.Sound.{IsSound}
@@ -14,7 +14,7 @@ pub record Inserts (t : Nodes) (p c : NodeId) (before : Option NodeId) : Type 0 
   pub sound : IsSound t
   pub parent : p.0 < length t
   pub child : c.0 < length t
-  pub accepted : insertion_fault t p c before ≡ None
+  pub accepted : insertion_error t p c before ≡ None
   pub apart : is_this c.0 before ≡ false
 
 -- the child stands under the parent, directly before the reference or as the last one, and nowhere else

@@ -35,7 +35,7 @@ ghost use Rattle.dom_tree.specs.Sound.{IsSound, elements_of, is_proper, takes_va
 
 use crate::attributes::Attributes;
 use crate::content::{Content, Kind};
-use crate::fault::DomFault;
+use crate::fault::{DomError, DomFault};
 use crate::links::{Linked, Links, link_in, link_out};
 use crate::names::is_name;
 use js_core::{OutOfMemory, Units};
@@ -222,7 +222,7 @@ impl Dom {
         ensures kept { OnErr result (self.new ≡ self.old) }
     {
         if !is_name(name) {
-            return Err(DomFault::BadName);
+            return Err(DomFault::Cause(DomError::BadName));
         }
         let value = value.clone()?;
         let attributes = &mut self.nodes[node.0 as usize].content.attributes;

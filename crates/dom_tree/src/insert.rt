@@ -2,10 +2,10 @@
 
 ghost use Rattle.std.specs.Prelude.{◌≡◌, ◌<◌, length};
 ghost use Rattle.std.specs.Option.{ForSome};
-ghost use Rattle.dom_tree.specs.Change.{Answers, breaks_hierarchy, has_other_element, inserted, insertion_fault, is_above, is_missing, removal_fault, taken_out};
+ghost use Rattle.dom_tree.specs.Change.{Answers, breaks_hierarchy, has_other_element, inserted, insertion_error, is_above, is_missing, removal_error, taken_out};
 
 use crate::dom::{Dom, is_this};
-use crate::fault::DomFault;
+use crate::fault::DomError;
 use js_values::NodeId;
 
 impl Dom {
@@ -19,19 +19,19 @@ impl Dom {
         parent: NodeId,
         child: NodeId,
         before: Option<NodeId>,
-    ) -> Result<(), DomFault>
+    ) -> Result<(), DomError>
         requires parent { parent.0 < length self.old }
         requires child { child.0 < length self.old }
         requires before { ForSome before (λ r. r.0 < length self.old) }
-        ensures { Answers (insertion_fault self.old parent child before)
+        ensures { Answers (insertion_error self.old parent child before)
             (inserted self.old parent child before) self.old self.new result }
     {
         self.recall_sound();
         if self.breaks_hierarchy(parent, child) {
-            return Err(DomFault::Hierarchy);
+            return Err(DomError::Hierarchy);
         }
         if self.is_missing(parent, before) {
-            return Err(DomFault::NotFound);
+            return Err(DomError::NotFound);
         }
         if is_this(child, before) {
             return Ok(());
@@ -43,14 +43,14 @@ impl Dom {
 
     /// Takes the child out from under the parent. Answers `NotFound` exactly where it is no child of the parent; then
     /// nothing has changed. No memory.
-    pub fn remove_child(&mut self, parent: NodeId, child: NodeId) -> Result<(), DomFault>
+    pub fn remove_child(&mut self, parent: NodeId, child: NodeId) -> Result<(), DomError>
         requires parent { parent.0 < length self.old }
         requires child { child.0 < length self.old }
-        ensures { Answers (removal_fault self.old parent child)
+        ensures { Answers (removal_error self.old parent child)
             (taken_out self.old child) self.old self.new result }
     {
         if self.is_missing(parent, Some(child)) {
-            return Err(DomFault::NotFound);
+            return Err(DomError::NotFound);
         }
         self.take_out(child);
         Ok(())

@@ -3,7 +3,7 @@
 ghost use Rattle.std.specs.Prelude.{◌≡◌, ◌<◌, length, IfErr, IfOk, OnOk, OnErr, true, option_copied, option_map, slice_get};
 ghost use Rattle.std.specs.Map.Iter.{deref_pair};
 ghost use Rattle.dom_tree.specs.declared.content.Kind.TheVariants as kind;
-ghost use Rattle.dom_tree.specs.declared.fault.DomFault.TheVariants as fault;
+ghost use Rattle.js_core.specs.declared.memory.Failure.TheVariants as fault;
 ghost use Rattle.dom_tree.specs.Attributes.{value_of};
 ghost use Rattle.dom_tree.specs.Content.{IsNameFault, name_of, new_content, text_of, type_of};
 ghost use Rattle.dom_tree.specs.Name.{folded, is_name};
@@ -12,7 +12,7 @@ ghost use Rattle.dom_tree.specs.Node.{node_at, with_new};
 use crate::attributes::Attributes;
 use crate::content::{Content, Kind};
 use crate::dom::Dom;
-use crate::fault::DomFault;
+use crate::fault::{DomError, DomFault};
 use crate::names::{fold, is_name};
 use js_core::Units;
 use js_values::NodeId;
@@ -30,7 +30,7 @@ impl Dom {
         ensures kept { OnErr result (self.new ≡ self.old) }
     {
         if !is_name(name) {
-            return Err(DomFault::BadName);
+            return Err(DomFault::Cause(DomError::BadName));
         }
         let name = fold(alloc, name)?;
         Ok(self.push(new_content(alloc, Kind::Element(name)))?)

@@ -5,7 +5,7 @@ ghost use Rattle.std.specs.Prelude.{IsTrue, ◌<◌, length};
 ghost use Rattle.std.specs.Option.{ForSome};
 
 use crate::dom::Dom;
-use crate::fault::DomFault;
+use crate::fault::{DomError, DomFault};
 use js_core::Units;
 use js_values::NodeId;
 use std::alloc::Global;
@@ -31,20 +31,20 @@ fn number(word: &str) -> Option<NodeId> {
     }
 }
 
-fn end(answer: Result<(), DomFault>) -> &'static str {
+fn end(answer: Result<(), DomError>) -> &'static str {
     match answer {
         Ok(()) => "ok",
-        Err(DomFault::Hierarchy) => "hierarchy",
-        Err(DomFault::NotFound) => "missing",
-        Err(DomFault::BadName) => "name",
-        Err(DomFault::OutOfMemory) => "memory",
+        Err(DomError::Hierarchy) => "hierarchy",
+        Err(DomError::NotFound) => "missing",
+        Err(DomError::BadName) => "name",
     }
 }
 
-fn made(answer: Result<NodeId, DomFault>) -> &'static str {
+fn made<T: Drop>(answer: Result<T, DomFault>) -> &'static str {
     match answer {
         Ok(_) => "ok",
-        Err(fault) => end(Err(fault)),
+        Err(DomFault::Cause(error)) => end(Err(error)),
+        Err(DomFault::OutOfMemory) => "memory",
     }
 }
 
@@ -54,7 +54,7 @@ fn change(dom: &mut Dom, node: NodeId, name: &Units, value: Option<&Units>) -> &
         return "none";
     }
     match value {
-        Some(value) => end(dom.set_attribute(node, name, value)),
+        Some(value) => made(dom.set_attribute(node, name, value)),
         None => {
             dom.remove_attribute(node, name);
             "ok"

@@ -7,8 +7,9 @@ use Rattle.serde_json.specs.Find.{as_array}
 use Rattle.serde_json.specs.Read.{read}
 use Rattle.event_file.specs.Items.{event_of}
 use Rattle.js_values.specs.declared.event.Event.{Event}
-use Rattle.event_file.specs.declared.fault.EventFault.{EventFault}
-use Rattle.event_file.specs.declared.fault.EventFault.TheVariants.{NotEvents, OutOfMemory}
+use Rattle.js_core.specs.declared.memory.Failure.{Failure}
+use Rattle.event_file.specs.declared.fault.NotEvents.{NotEvents}
+use Rattle.js_core.specs.declared.memory.Failure.TheVariants.{Cause, OutOfMemory}
 use Rattle.event_file.specs.declared.kind.Kinds.{Kinds}
 use Rattle.event_file.specs.declared.kind.Kinds.TheVariants.{All, Calls}
 
@@ -51,7 +52,7 @@ abbrev pub calls_of : List ℕ → Result (List Event) ℕ
 calls_of bytes = events_among Calls bytes
 
 -- what was found is answered, or memory ran out
-abbrev pub Finds : Result (List Event) ℕ → Result (Vec Event Global) EventFault → Type 0
+abbrev pub Finds : Result (List Event) ℕ → Result (Vec Event Global) (Failure NotEvents) → Type 0
 Finds found (Ok v) = found ≡ Ok v.items
-Finds found (Err (NotEvents i)) = found ≡ Err i
+Finds found (Err (Cause why)) = found ≡ Err why.0
 Finds found (Err OutOfMemory) = Unit {0}

@@ -9,6 +9,6 @@ mod reading;
 #[cfg(test)]
 mod tests;
 
-pub use fault::EventFault;
+pub use fault::{EventFault, NotEvents};
 pub use laws::law_numbers_items;
 pub use reading::{calls, events};

@@ -6,7 +6,7 @@ ghost use Rattle.js_values.specs.Event.{IsEvent};
 ghost use Rattle.serde_json.specs.View.{items_view};
 ghost use Rattle.event_file.specs.Events as spec;
 
-use crate::fault::EventFault;
+use crate::fault::{EventFault, NotEvents};
 use crate::item::to_event;
 use crate::kind::Kinds;
 use js_core::EVENT_LIMIT;
@@ -23,11 +23,11 @@ fn each(alloc: Global, kinds: Kinds, items: &[Value]) -> Result<Vec<Event>, Even
     let mut number = 1;
     for item in items {
         if number > EVENT_LIMIT {
-            return Err(EventFault::NotEvents(number));
+            return Err(EventFault::Cause(NotEvents(number)));
         }
         match to_event(alloc, kinds, item)? {
             Some(event) => found.push(event)?,
-            None => return Err(EventFault::NotEvents(number)),
+            None => return Err(EventFault::Cause(NotEvents(number))),
         }
         number += 1;
     }
@@ -43,12 +43,12 @@ fn events_among(alloc: Global, kinds: Kinds, bytes: &[u8]) -> Result<Vec<Event>,
             if e.is_memory() {
                 Err(EventFault::OutOfMemory)
             } else {
-                Err(EventFault::NotEvents(0))
+                Err(EventFault::Cause(NotEvents(0)))
             }
         }
         Ok(value) => match value.as_array() {
             Some(items) => each(alloc, kinds, items),
-            None => Err(EventFault::NotEvents(0)),
+            None => Err(EventFault::Cause(NotEvents(0))),
         },
     }
 }

@@ -1,4 +1,4 @@
-use crate::{EventFault, calls, events};
+use crate::{EventFault, NotEvents, calls, events};
 use js_core::Units;
 use js_values::Event;
 use std::test::Fail;
@@ -29,11 +29,11 @@ fn reads_items_of_each_kind(rt: HostRuntime) -> Result<(), Fail> {
 fn tells_the_number_of_the_item_that_is_refused(rt: HostRuntime) -> Result<(), Fail> {
     assert_eq!(rt;
         events(rt.alloc(), b"{}").err(),
-        Some(EventFault::NotEvents(0))
+        Some(EventFault::Cause(NotEvents(0)))
     );
     assert_eq!(rt;
         calls(rt.alloc(), FILE).err(),
-        Some(EventFault::NotEvents(2))
+        Some(EventFault::Cause(NotEvents(2)))
     );
     Ok(())
 }

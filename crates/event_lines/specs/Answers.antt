@@ -3,8 +3,9 @@ use Rattle.std.specs.Prelude.{◌≡◌, ℕ, Bool, List, [], ◌∷◌, ◌++�
 use Rattle.std.specs.List.{flat_map}
 use Rattle.std.specs.declared.alloc.Global.{Global}
 use Rattle.event_file.specs.Events.{calls_of, events_of}
-use Rattle.event_file.specs.declared.fault.EventFault.{EventFault}
-use Rattle.event_file.specs.declared.fault.EventFault.TheVariants.{NotEvents, OutOfMemory}
+use Rattle.js_core.specs.declared.memory.Failure.{Failure}
+use Rattle.event_file.specs.declared.fault.NotEvents.{NotEvents}
+use Rattle.js_core.specs.declared.memory.Failure.TheVariants.{Cause, OutOfMemory}
 use Rattle.js_core.specs.LineText.{line_text}
 use Rattle.js_values.specs.declared.event.Event.{Event}
 use Rattle.js_values.specs.declared.event.Event.TheVariants.{Fire, Input, Tick, Call, Dom}
@@ -44,9 +45,9 @@ abbrev pub reading_text : Result (List Event) ℕ → List ℕ
 reading_text (Ok events) = codes "events" ++ events_text events
 reading_text (Err number) = codes "refused " ++ decimal number
 
-abbrev pub Writes : Result (Vec Event Global) EventFault → List ℕ → List ℕ → Type 0
+abbrev pub Writes : Result (Vec Event Global) (Failure NotEvents) → List ℕ → List ℕ → Type 0
 Writes (Ok events) old new = new ≡ old ++ reading_text (Ok events.items)
-Writes (Err (NotEvents number)) old new = new ≡ old ++ reading_text (Err number)
+Writes (Err (Cause why)) old new = new ≡ old ++ reading_text (Err why.0)
 Writes (Err OutOfMemory) old new = ⊥
 
 -- the answer to a line: what it is read as, a tab, what it is where calls alone are events, and LF

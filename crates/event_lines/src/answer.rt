@@ -4,7 +4,7 @@ ghost use Rattle.std.specs.Prelude.{◌≡◌, ◌++◌, OnOk};
 ghost use Rattle.event_file.specs.Events.{calls_of, events_of};
 ghost use Rattle.event_lines.specs.Answers as spec;
 
-use event_file::{EventFault, calls, events};
+use event_file::{EventFault, NotEvents, calls, events};
 use js_core::{OutOfMemory, Units};
 use js_values::Event;
 use std::alloc::Global;
@@ -104,7 +104,7 @@ fn push_reading(
             out.extend_from_slice(b"events")?;
             push_events(alloc, events.as_slice(), out)
         }
-        Err(EventFault::NotEvents(number)) => {
+        Err(EventFault::Cause(NotEvents(number))) => {
             let refusal = format!(in alloc; "refused {number}")?;
             out.extend_from_slice(refusal.as_bytes())?;
             Ok(())

@@ -6,7 +6,8 @@ use Rattle.js_grammar.specs.declared.operators.Level.{Level}
 use Rattle.js_grammar.specs.ExpressionReader.{joined}
 use Rattle.js_grammar.specs.Parser.{Parser, within_limit}
 use Rattle.js_grammar.specs.Symbols.{Lexeme}
-use Rattle.expression_parser.specs.declared.fault.ParseFault.{ParseFault}
+use Rattle.js_core.specs.declared.memory.Failure.{Failure}
+use Rattle.expression_parser.specs.declared.fault.NotScript.{NotScript}
 use Rattle.expression_parser.specs.Inside.{limit, Builds, Joins}
 use Rattle.expression_parser.specs.Reads.{Reads}
 
@@ -15,12 +16,12 @@ joins_only [] a d long e = absurd (omega arith)
 joins_only (b ∷ []) a d long e = ap Some e
 joins_only (b ∷ c ∷ es) a d long e = absurd (omega arith)
 
-pub joins_several : (es : List tree.Expr) (result : Result tree.Expr ParseFault) → length es ≢ 1 → Builds (tree.comma (exprs_of es)) result → Joins es result
+pub joins_several : (es : List tree.Expr) (result : Result tree.Expr (Failure NotScript)) → length es ≢ 1 → Builds (tree.comma (exprs_of es)) result → Joins es result
 joins_several [] result long h = h
 joins_several (b ∷ []) result long h = absurd (long refl)
 joins_several (b ∷ c ∷ es) result long h = h
 
-pub joins_read : (exp : Bool → Level → Parser tree.Expr) (body : Parser (List tree.Stmt)) (es : List tree.Expr) (result : Result tree.Expr ParseFault) (i : List Lexeme) → Joins es result → Reads (joined limit exp body es i) result i
+pub joins_read : (exp : Bool → Level → Parser tree.Expr) (body : Parser (List tree.Stmt)) (es : List tree.Expr) (result : Result tree.Expr (Failure NotScript)) (i : List Lexeme) → Joins es result → Reads (joined limit exp body es i) result i
 unfolding within_limit
 joins_read exp body [] (Ok a) i h = rw (h.0, h.1) refl
 joins_read exp body [] (Err e) i h = λ n. rw (h n) refl

@@ -7,8 +7,9 @@ use Rattle.js_grammar.specs.declared.operators.Level.{Level}
 use Rattle.js_grammar.specs.Parser.{Parser}
 use Rattle.js_grammar.specs.ScriptReader as script
 use Rattle.js_grammar.specs.Scripts.{height_limit}
-use Rattle.expression_parser.specs.declared.fault.ParseFault.{ParseFault}
-use Rattle.expression_parser.specs.declared.fault.ParseFault.TheVariants.{OutOfMemory}
+use Rattle.js_core.specs.declared.memory.Failure.{Failure}
+use Rattle.expression_parser.specs.declared.fault.NotScript.{NotScript}
+use Rattle.js_core.specs.declared.memory.Failure.TheVariants.{OutOfMemory}
 use Rattle.expression_parser.specs.declared.nesting.Nesting.{Nesting}
 use Rattle.expression_parser.specs.Reads.{Gives}
 
@@ -29,14 +30,14 @@ unfoldable pub statement_in : Nesting → Parser tree.Stmt
 statement_in depth = script.inside limit depth.room depth.all script.statement
 
 -- what a function ensures that builds a tree: the tree, unless it is too high or memory fails
-abbrev pub Keeps : {A : Type 0} → ℕ → A → Result A ParseFault → Type 0
+abbrev pub Keeps : {A : Type 0} → ℕ → A → Result A (Failure NotScript) → Type 0
 Keeps height t (Ok a) = (nat_le height limit ≡ true) × (a ≡ t)
 Keeps height t (Err e) = e ≢ OutOfMemory → nat_le height limit ≡ false
 
-abbrev pub Builds : tree.Expr → Result tree.Expr ParseFault → Type 0
+abbrev pub Builds : tree.Expr → Result tree.Expr (Failure NotScript) → Type 0
 Builds t result = Keeps (expr_height t) t result
 
 -- what a function ensures that puts commas between expressions: one alone has none
-abbrev pub Joins : List tree.Expr → Result tree.Expr ParseFault → Type 0
+abbrev pub Joins : List tree.Expr → Result tree.Expr (Failure NotScript) → Type 0
 Joins (a ∷ []) result = Gives (Some a) result
 Joins es result = Builds (tree.comma (exprs_of es)) result

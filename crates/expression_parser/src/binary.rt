@@ -6,7 +6,7 @@ ghost use Rattle.expression_parser.specs.Inside.{limit, expression_in, body_in};
 ghost use Rattle.expression_parser.specs.Reads.{Reads};
 
 use crate::cursor::Cursor;
-use crate::fault::ParseFault;
+use crate::fault::{NotScript, ParseFault};
 use crate::grammar::Grammar;
 use crate::inside::Inside;
 use crate::nodes;
@@ -58,7 +58,7 @@ impl<I: Inside> Grammar<I> {
                 let right = self.expression(inn, level, tokens)?;
                 nodes::combined(self.alloc, operator, left, right)
             }
-            None => Err(ParseFault::NotScript),
+            None => Err(ParseFault::Cause(NotScript)),
         }
     }
 }

@@ -6,11 +6,10 @@ ghost use Rattle.js_grammar.specs.Endings.{same_line};
 ghost use Rattle.js_grammar.specs.ExpressionReader as reader;
 ghost use Rattle.js_grammar.specs.Operators as operators;
 ghost use Rattle.js_grammar.specs.Parser as parser;
-ghost use Rattle.js_grammar.specs.Parser as parser;
 ghost use Rattle.js_grammar.specs.Symbols.{lexemes, symbol_of, member_name, field_name, number_text as spec_number_text, sign_of, sign_at, is_sign};
 ghost use Rattle.expression_parser.specs.Reads.{Reads, Gives, after_line};
 
-use crate::fault::ParseFault;
+use crate::fault::{NotScript, ParseFault};
 use itoa::Buffer;
 use js_core::{
     Expr, ExprNode, Punct, Token, TokenKind, Units, Whole, ascii_text, is_unused_word, keyword_of,
@@ -89,7 +88,7 @@ impl<'a> Cursor<'a> {
         ensures { Reads (parser.expect sign self.old) result self.new }
     {
         if !self.sees(sign) {
-            return Err(ParseFault::NotScript);
+            return Err(ParseFault::Cause(NotScript));
         }
         self.skip();
         Ok(())
@@ -119,7 +118,7 @@ impl<'a> Cursor<'a> {
         if self.sees(close) {
             Ok(())
         } else {
-            Err(ParseFault::NotScript)
+            Err(ParseFault::Cause(NotScript))
         }
     }
 
@@ -138,7 +137,7 @@ impl<'a> Cursor<'a> {
                 self.skip();
                 Ok(name)
             }
-            None => Err(ParseFault::NotScript),
+            None => Err(ParseFault::Cause(NotScript)),
         }
     }
 
@@ -176,7 +175,7 @@ impl<'a> Cursor<'a> {
                 self.skip();
                 Ok(name)
             }
-            None => Err(ParseFault::NotScript),
+            None => Err(ParseFault::Cause(NotScript)),
         }
     }
 
@@ -192,7 +191,7 @@ impl<'a> Cursor<'a> {
                 self.skip();
                 Ok(name)
             }
-            None => Err(ParseFault::NotScript),
+            None => Err(ParseFault::Cause(NotScript)),
         }
     }
 
@@ -207,7 +206,7 @@ impl<'a> Cursor<'a> {
                 self.skip();
                 Ok(atom)
             }
-            None => Err(ParseFault::NotScript),
+            None => Err(ParseFault::Cause(NotScript)),
         }
     }
 
@@ -315,7 +314,7 @@ fn field_name_in(alloc: Global, kind: &TokenKind) -> Result<Units, ParseFault>
         TokenKind::Word(word) => Ok(word.clone()?),
         TokenKind::Text(text) => Ok(text.clone()?),
         TokenKind::Number(number) => number_text(alloc, *number),
-        TokenKind::Punct(_) => Err(ParseFault::NotScript),
+        TokenKind::Punct(_) => Err(ParseFault::Cause(NotScript)),
     }
 }
 
@@ -339,7 +338,7 @@ fn atom_in(kind: &TokenKind, sign: Option<Sign>) -> Result<Expr, ParseFault>
         TokenKind::Text(text) => ExprNode::Text(text.clone()?),
         _ => match identifier_in(kind, sign) {
             Some(name) => ExprNode::Name(name.clone()?),
-            None => return Err(ParseFault::NotScript),
+            None => return Err(ParseFault::Cause(NotScript)),
         },
     };
     Ok(Expr::new(node))

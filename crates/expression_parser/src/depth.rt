@@ -1,4 +1,4 @@
-//! How deep parts may nest.
+//! Parts inside others: how deep they may nest, and what reads them.
 
 ghost use Rattle.std.specs.Prelude.{◌≡◌};
 ghost use Rattle.expression_parser.specs.Inside.{expression_in, body_in, statement_in};

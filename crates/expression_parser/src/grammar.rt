@@ -25,7 +25,7 @@ pub struct Grammar<I: Inside> {
 }
 
 impl<I: Inside> Grammar<I> {
-    /// Whose parts, which this reads, nest less deep than `depth`.
+    /// The grammar of phrases whose parts nest less deep than `depth`; `inside` reads them.
     pub fn new(alloc: Global, depth: Nesting, inside: I) -> Grammar<I>
         requires { I.nests inside depth }
         ensures { result.depth ≡ depth }

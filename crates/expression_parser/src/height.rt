@@ -3,7 +3,7 @@
 ghost use Rattle.std.specs.Prelude.{◌≤◌, OnOk};
 ghost use Rattle.expression_parser.specs.Inside.{Keeps};
 
-use crate::fault::ParseFault;
+use crate::fault::{NotScript, ParseFault};
 use js_core::HEIGHT_LIMIT;
 
 /// Refuses a height above the limit.
@@ -13,7 +13,7 @@ pub fn check_height(height: u64) -> Result<(), ParseFault>
     ensures low { OnOk result (height ≤ 440) }
 {
     if height > HEIGHT_LIMIT {
-        return Err(ParseFault::NotScript);
+        return Err(ParseFault::Cause(NotScript));
     }
     Ok(())
 }

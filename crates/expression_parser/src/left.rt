@@ -6,7 +6,7 @@ ghost use Rattle.expression_parser.specs.Inside.{limit, expression_in, body_in};
 ghost use Rattle.expression_parser.specs.Reads.{Reads, ReadsAll};
 
 use crate::cursor::Cursor;
-use crate::fault::ParseFault;
+use crate::fault::{NotScript, ParseFault};
 use crate::grammar::Grammar;
 use crate::inside::Inside;
 use crate::lists::listed;
@@ -102,7 +102,7 @@ impl<I: Inside> Grammar<I> {
                 tokens.skip();
                 self.called(left, tokens)
             }
-            _ => Err(ParseFault::NotScript),
+            _ => Err(ParseFault::Cause(NotScript)),
         }
     }
 

@@ -26,7 +26,7 @@ mod unary;
 
 pub use cursor::Cursor;
 pub use depth::Depth;
-pub use fault::ParseFault;
+pub use fault::{NotScript, ParseFault};
 pub use grammar::Grammar;
 pub use height::check_height;
 pub use inside::Inside;

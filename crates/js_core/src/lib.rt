@@ -26,7 +26,7 @@ pub use limits::{
     TEXT_LIMIT, TICK_LIMIT, TIMER_LIMIT,
 };
 pub use line_text::{push_line_text, push_unit_escape, truncate_on_error};
-pub use memory::OutOfMemory;
+pub use memory::{Failure, OutOfMemory};
 pub use operators::{BinaryOp, UnaryOp};
 pub use syntax::{Case, Catch, Code, Declarator, Expr, ExprNode, ForInit, Script, Stmt, StmtNode};
 pub use token::{Punct, Token, TokenKind};

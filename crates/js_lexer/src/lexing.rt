@@ -1,14 +1,15 @@
 //! The tokens of a text.
 
-ghost use Rattle.std.specs.Prelude.{◌≡◌, ◌==◌, ◌<◌, ◌≤◌, [], ℕ, List, true, false, length, IfOk, IfSome, IsErrOf, MatchOption};
+ghost use Rattle.std.specs.Prelude.{◌≡◌, ◌==◌, ◌<◌, ◌≤◌, [], ℕ, List, true, false, length, IfOk, IfSome, MatchOption};
 ghost use Rattle.std.specs.List.{prefix_len};
+ghost use Rattle.js_core.specs.Memory.{IfCause};
 ghost use Rattle.js_core.specs.declared.token.Token.{Token as PureToken};
 ghost use Rattle.js_core.specs.declared.token.TokenKind.{TokenKind as PureKind};
 ghost use Rattle.js_lexer.specs.Characters as characters;
 ghost use Rattle.js_lexer.specs.Tokens.{TokenAt, Tokens};
 
 use crate::characters::{is_decimal_digit, is_identifier_part, is_identifier_start, is_quote};
-use crate::fault::LexFault;
+use crate::fault::{LexFault, NotTokens};
 use crate::numbers::{literal_len, value_of};
 use crate::punctuators::punctuator;
 use crate::separators::behind_gap;
@@ -22,16 +23,17 @@ use std::alloc::Global;
 /// text has no such reading. The time is linear in the text.
 pub fn tokens(alloc: Global, text: &Units) -> Result<Vec<Token>, LexFault>
     ensures read { IfOk result (λ tokens. Tokens text.now tokens.items) }
-    ensures refused { IsErrOf result LexFault.NotTokens → (tokens : List PureToken)
-        → Tokens text.now tokens → ⊥ }
+    ensures refused { IfCause result (λ _. (tokens : List PureToken)
+        → Tokens text.now tokens → ⊥) }
 {
     tokens_of(alloc, text.as_slice())
 }
 
+#[tactic(auto, using(crate::proofs::AllTokens::tokens_refused))]
 fn tokens_of(alloc: Global, text: &[u16]) -> Result<Vec<Token>, LexFault>
     ensures read { IfOk result (λ tokens. Tokens text.now tokens.items) }
-    ensures refused { IsErrOf result LexFault.NotTokens → (tokens : List PureToken)
-        → Tokens text.now tokens → ⊥ }
+    ensures refused { IfCause result (λ _. (tokens : List PureToken)
+        → Tokens text.now tokens → ⊥) }
 {
     let mut tokens = Vec::new(alloc);
     let mut words = Words::new(alloc)?;
@@ -60,34 +62,35 @@ fn token<'a>(
 ) -> Result<(TokenKind, &'a [u16]), LexFault>
     ensures read { IfOk result (λ split. TokenAt text.now split.1.now split.0) }
     ensures shorter { IfOk result (λ split. length split.1.now < length text.now) }
-    ensures refused { IsErrOf result LexFault.NotTokens → (rest : List ℕ) (what : PureKind)
-        → TokenAt text.now rest what → ⊥ }
+    ensures refused { IfCause result (λ _. (rest : List ℕ) (what : PureKind)
+        → TokenAt text.now rest what → ⊥) }
 {
     let [unit, ..] = text else {
-        return Err(LexFault::NotTokens);
+        return Err(LexFault::Cause(NotTokens));
     };
     if is_quote(*unit) {
         return string_token(alloc, text);
     }
     if is_decimal_digit(*unit) {
-        return number(text).ok_or(LexFault::NotTokens);
+        return number(text).ok_or(LexFault::Cause(NotTokens));
     }
     if is_identifier_start(*unit) {
         return Ok(word(words, text)?);
     }
-    punctuator_token(text).ok_or(LexFault::NotTokens)
+    punctuator_token(text).ok_or(LexFault::Cause(NotTokens))
 }
 
 /// The string with which the text begins.
+#[tactic(auto, using(crate::proofs::OneToken::string_refused))]
 fn string_token(alloc: Global, text: &[u16]) -> Result<(TokenKind, &[u16]), LexFault>
     requires { characters.begins_with characters.is_quote text.now ≡ true }
     ensures read { IfOk result (λ split. TokenAt text.now split.1.now split.0) }
     ensures shorter { IfOk result (λ split. length split.1.now < length text.now) }
-    ensures refused { IsErrOf result LexFault.NotTokens → (rest : List ℕ) (what : PureKind)
-        → TokenAt text.now rest what → ⊥ }
+    ensures refused { IfCause result (λ _. (rest : List ℕ) (what : PureKind)
+        → TokenAt text.now rest what → ⊥) }
 {
     let [quote, behind @ ..] = text else {
-        return Err(LexFault::NotTokens);
+        return Err(LexFault::Cause(NotTokens));
     };
     let (value, rest) = string(alloc, *quote, behind)?;
     Ok((TokenKind::Text(value), rest))

@@ -15,6 +15,6 @@ mod tests;
 mod words;
 
 pub use directives::strict;
-pub use fault::LexFault;
+pub use fault::{LexFault, NotTokens};
 pub use laws::{law_one_reading, law_tokens_are_longest};
 pub use lexing::tokens;

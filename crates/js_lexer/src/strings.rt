@@ -1,12 +1,13 @@
 //! String literals (ECMA-262 5.1 section 7.8.4).
 
-ghost use Rattle.std.specs.Prelude.{◌≡◌, ◌==◌, ◌&&◌, ◌<◌, ◌≤◌, ◌∷◌, ℕ, List, length, if◌then◌else◌, drop, true, false, not, IfOk, IfSome, IsErrOf, MatchOption, None, Some};
+ghost use Rattle.std.specs.Prelude.{◌≡◌, ◌==◌, ◌&&◌, ◌<◌, ◌≤◌, ◌∷◌, ℕ, List, length, if◌then◌else◌, drop, true, false, not, IfOk, IfSome, MatchOption, None, Some};
+ghost use Rattle.js_core.specs.Memory.{IfCause};
 ghost use Rattle.js_lexer.specs.Characters as characters;
 ghost use Rattle.js_lexer.specs.Strings as spec;
 ghost use Rattle.js_lexer.specs.Strings.{Closes};
 
 use crate::characters::{digit_value, is_decimal_digit, is_hex_digit};
-use crate::fault::LexFault;
+use crate::fault::{LexFault, NotTokens};
 use js_core::{Units, is_line_end};
 use std::alloc::Global;
 
@@ -18,8 +19,8 @@ const LINE_FEED: u16 = 0x0a;
 pub fn string(alloc: Global, quote: u16, text: &[u16]) -> Result<(Units, &[u16]), LexFault>
     ensures read { IfOk result (λ split. Closes quote text.now split.1.now split.0) }
     ensures within { IfOk result (λ split. length split.1.now ≤ length text.now) }
-    ensures refused { IsErrOf result LexFault.NotTokens → (rest value : List ℕ)
-        → Closes quote text.now rest value → ⊥ }
+    ensures refused { IfCause result (λ _. (rest value : List ℕ)
+        → Closes quote text.now rest value → ⊥) }
 {
     let mut units = Vec::new(alloc);
     let mut rest = text;
@@ -31,7 +32,7 @@ pub fn string(alloc: Global, quote: u16, text: &[u16]) -> Result<(Units, &[u16])
     }
     match behind_quote(quote, rest) {
         Some(behind) => Ok((Units::of(alloc, units.as_slice())?, behind)),
-        None => Err(LexFault::NotTokens),
+        None => Err(LexFault::Cause(NotTokens)),
     }
 }
 

@@ -1,7 +1,7 @@
 //! Whole texts and their tokens.
 
 use crate::directives::strict;
-use crate::fault::LexFault;
+use crate::fault::{LexFault, NotTokens};
 use crate::lexing::tokens;
 use js_core::{Punct, Token, TokenKind, Units};
 use std::fmt::Write;
@@ -60,7 +60,7 @@ fn refuses(rt: &(impl Abort + AllocGlobal), texts: &[&str]) -> Result<(), Fail> 
     for text in texts {
         let units = Units::from_utf8(rt.alloc(), *text)?;
         let found = tokens(rt.alloc(), &units);
-        assert!(rt; matches!(found, Err(LexFault::NotTokens)), "{text}");
+        assert!(rt; matches!(found, Err(LexFault::Cause(NotTokens))), "{text}");
     }
     Ok(())
 }

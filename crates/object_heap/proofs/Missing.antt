@@ -5,7 +5,7 @@ use Rattle.js_values.specs.declared.throw.Throw.{Throw}
 use Rattle.js_values.specs.declared.throw.Throw.TheVariants.{CannotDefine, CannotDelete, CannotSet}
 use Rattle.js_values.specs.declared.value.Value.{Value}
 use Rattle.object_heap.specs.declared.property.Change.{Change}
-use Rattle.object_heap.specs.declared.fault.HeapFault.TheVariants as fault
+use Rattle.js_core.specs.declared.memory.Failure.TheVariants as fault
 use Rattle.object_heap.specs.Attempt.{Attempt, Follows, throws}
 use Rattle.object_heap.specs.Chain.{can_put, get_property, object_at}
 use Rattle.object_heap.specs.Define as object
@@ -48,8 +48,8 @@ prevent_absent h k past =
     ap (λ o. at_object h k (object.prevented o)) (object_absent h.objects k past) ∙ refused h k (throws no_object CannotDefine) past
 
 -- which is what a call answers that does nothing
-pub follows : {A : Type 0} (a : Attempt A) (x : A) (t : Throw) → a ≡ throws x t → Follows a x x (Err (fault.Throw t))
-follows a x t e = subst (λ b. Follows b x x (Err (fault.Throw t))) (sym e) (refl, refl)
+pub follows : {A : Type 0} (a : Attempt A) (x : A) (t : Throw) → a ≡ throws x t → Follows a x x (Err (fault.Cause t))
+follows a x t e = subst (λ b. Follows b x x (Err (fault.Cause t))) (sym e) (refl, refl)
 
 -- nothing is found from there
 pub get_absent : (objects : List Object) (k : ℕ) (name : List ℕ) → length objects ≤ k → get_property objects k name ≡ None

@@ -11,8 +11,9 @@ use Rattle.js_core.specs.declared.memory.OutOfMemory.{OutOfMemory}
 use Rattle.js_values.specs.declared.ids.EnvId.{EnvId}
 use Rattle.js_values.specs.declared.ids.ObjId.{ObjId}
 use Rattle.js_values.specs.declared.value.Value.{Value}
-use Rattle.object_heap.specs.declared.fault.HeapFault.{HeapFault}
-use Rattle.object_heap.specs.declared.fault.HeapFault.TheVariants as fault
+use Rattle.js_core.specs.declared.memory.Failure.{Failure}
+use Rattle.js_values.specs.declared.throw.Throw.{Throw}
+use Rattle.js_core.specs.declared.memory.Failure.TheVariants as fault
 use Rattle.object_heap.specs.declared.object.Class.{Class}
 use Rattle.object_heap.specs.declared.object.Class.TheVariants.{Bound as BoundFunction, Event}
 use Rattle.object_heap.specs.declared.object.EventParts.{EventParts}
@@ -191,15 +192,15 @@ sound_at h k o sound right = by (cases_lt k (length h.objects))
     by (inr past) = rw (set_past h.objects k o past) sound
 
 -- a call did what was tried on an object that is there
-followed : (k : ℕ) (attempt : Attempt Object) (o p : Object) (result : Result (Unit {0}) HeapFault) → Follows attempt o p result → IsRight k o → IsRight k attempt.after → IsRight k p
+followed : (k : ℕ) (attempt : Attempt Object) (o p : Object) (result : Result (Unit {0}) (Failure Throw)) → Follows attempt o p result → IsRight k o → IsRight k attempt.after → IsRight k p
 followed k attempt o p (Ok u) h before after = subst (IsRight k) (sym h.0) after
-followed k attempt o p (Err (fault.Throw t)) h before after = subst (IsRight k) (sym h.0) after
+followed k attempt o p (Err (fault.Cause t)) h before after = subst (IsRight k) (sym h.0) after
 followed k attempt o p (Err fault.OutOfMemory) h before after = subst (IsRight k) (sym h) before
 
 pub right_there : (h : Contents) (k : ℕ) (o : Object) → k < length h.objects → IsSound h → o ≡ slice_index_or h.objects k o → IsRight k o
 right_there h k o there sound is = subst (IsRight k) (sym (is ∙ get_or_default h.objects k o no_object there)) (right_at h k sound)
 
-pub changed : (h : Contents) (k : ℕ) (o p : Object) (attempt : Attempt Object) (result : Result (Unit {0}) HeapFault)
+pub changed : (h : Contents) (k : ℕ) (o p : Object) (attempt : Attempt Object) (result : Result (Unit {0}) (Failure Throw))
     → k < length h.objects → IsSound h → o ≡ slice_index_or h.objects k o → Follows attempt o p result → Stays o attempt.after → IsSound (with_object h k p)
 changed h k o p attempt result there sound is follows stays =
     let own = right_there h k o there sound is in

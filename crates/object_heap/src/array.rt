@@ -70,7 +70,7 @@ impl Object {
             return self.define_ordinary(name, change, refused);
         }
         let Some(length) = self.writable_length()? else {
-            return Err(HeapFault::Throw(refused.throw()));
+            return Err(HeapFault::Cause(refused.throw()));
         };
         match self.define_ordinary(name, change, refused) {
             Ok(()) => {
@@ -97,7 +97,7 @@ impl Object {
             return self.define_ordinary(name, change, refused);
         };
         let Some(end) = valid_length(value) else {
-            return Err(HeapFault::Throw(Throw::InvalidLength));
+            return Err(HeapFault::Cause(Throw::InvalidLength));
         };
         if self.array_length() <= end {
             return self.define_ordinary(name, change, refused);
@@ -120,10 +120,10 @@ impl Object {
             (own_property self.old.props length_name)) self.old self.new result }
     {
         let Some(prop) = self.own(name) else {
-            return Err(HeapFault::Throw(refused.throw()));
+            return Err(HeapFault::Cause(refused.throw()));
         };
         if !prop.writable || !prop.may_update(change) {
-            return Err(HeapFault::Throw(refused.throw()));
+            return Err(HeapFault::Cause(refused.throw()));
         }
         let updated = change.updated(prop)?;
         let len = self.array_length();
@@ -132,7 +132,7 @@ impl Object {
         if kept == end {
             Ok(())
         } else {
-            Err(HeapFault::Throw(refused.throw()))
+            Err(HeapFault::Cause(refused.throw()))
         }
     }
 

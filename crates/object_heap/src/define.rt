@@ -104,7 +104,7 @@ impl Object {
         match self.own(name) {
             Some(prop) => {
                 if !prop.may_update(change) {
-                    return Err(HeapFault::Throw(refused.throw()));
+                    return Err(HeapFault::Cause(refused.throw()));
                 }
                 let updated = change.updated(prop)?;
                 self.set_property(name, updated);
@@ -112,7 +112,7 @@ impl Object {
             }
             None => {
                 if !self.is_extensible() {
-                    return Err(HeapFault::Throw(refused.throw()));
+                    return Err(HeapFault::Cause(refused.throw()));
                 }
                 let created = change.created()?;
                 self.push_property(name, created)?;

@@ -3,27 +3,12 @@
 ghost use Rattle.std.specs.Prelude.{◌≡◌};
 ghost use Rattle.object_heap.specs.Refused.{throw_of};
 
-use js_core::OutOfMemory;
+use js_core::Failure;
 use js_values::Throw;
 
-/// Why a call on the heap did not do what it was asked.
-#[derive(Debug, Drop)]
-pub enum HeapFault {
-    /// The language rejects it, by this error.
-    Throw(Throw),
-    /// Memory ran out, and nothing has changed.
-    OutOfMemory,
-}
-
-impl From<OutOfMemory> for HeapFault {
-    ghost use Rattle.object_heap.specs.declared.fault.HeapFault.TheVariants as fault;
-
-    ghost from_gives = { λ _ e. e ≡ fault.OutOfMemory };
-
-    fn from(_error: OutOfMemory) -> HeapFault {
-        HeapFault::OutOfMemory
-    }
-}
+/// Why a call on the heap did not do what it was asked: the cause is the error by which the language rejects it. Where memory ran
+/// out, nothing has changed.
+pub type HeapFault = Failure<Throw>;
 
 /// What was asked of a property where it is rejected.
 #[derive(Clone, Copy, Debug, PartialEq, Eq)]

@@ -288,7 +288,7 @@ impl Heap {
         ensures { Follows (put self.old at.0 name.now value) self.old self.new result }
     {
         if at.0 as usize >= self.objects.len() {
-            return Err(HeapFault::Throw(Throw::CannotSet));
+            return Err(HeapFault::Cause(Throw::CannotSet));
         }
         let may_put = can_put(self.objects.as_slice(), at, name);
         self.objects[at.0 as usize].put_own(may_put, name, value)
@@ -302,7 +302,7 @@ impl Heap {
         ensures { Follows (define_own self.old at.0 name.now change.now) self.old self.new result }
     {
         if at.0 as usize >= self.objects.len() {
-            return Err(HeapFault::Throw(Throw::CannotDefine));
+            return Err(HeapFault::Cause(Throw::CannotDefine));
         }
         self.objects[at.0 as usize].define_own(name, change)
     }
@@ -314,7 +314,7 @@ impl Heap {
         ensures { Follows (delete self.old at.0 name.now) self.old self.new result }
     {
         if at.0 as usize >= self.objects.len() {
-            return Err(HeapFault::Throw(Throw::CannotDelete));
+            return Err(HeapFault::Cause(Throw::CannotDelete));
         }
         self.objects[at.0 as usize].delete_own(name)
     }
@@ -326,7 +326,7 @@ impl Heap {
         ensures { Follows (prevent_extensions self.old at.0) self.old self.new result }
     {
         if at.0 as usize >= self.objects.len() {
-            return Err(HeapFault::Throw(Throw::CannotDefine));
+            return Err(HeapFault::Cause(Throw::CannotDefine));
         }
         self.objects[at.0 as usize].prevent_extensions()
     }

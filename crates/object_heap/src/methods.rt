@@ -31,7 +31,7 @@ impl Object {
         ensures { Follows (define_own self.old name.now change.now) self.old self.new result }
     {
         if self.is_closed_at(name) {
-            return Err(HeapFault::Throw(Refused::Define.throw()));
+            return Err(HeapFault::Cause(Refused::Define.throw()));
         }
         self.define(name, change, Refused::Define)
     }
@@ -47,7 +47,7 @@ impl Object {
         ensures { Follows (put_own may_put self.old name.now value) self.old self.new result }
     {
         if self.is_closed_at(name) || !may_put {
-            return Err(HeapFault::Throw(Refused::Put.throw()));
+            return Err(HeapFault::Cause(Refused::Put.throw()));
         }
         let change = self.put_change(name, value);
         self.define(name, &change, Refused::Put)
@@ -78,10 +78,10 @@ impl Object {
         ensures { Follows (delete_own self.old name.now) self.old self.new result }
     {
         if self.is_closed_at(name) {
-            return Err(HeapFault::Throw(Refused::Delete.throw()));
+            return Err(HeapFault::Cause(Refused::Delete.throw()));
         }
         match self.own(name) {
-            Some(prop) if !prop.configurable => Err(HeapFault::Throw(Refused::Delete.throw())),
+            Some(prop) if !prop.configurable => Err(HeapFault::Cause(Refused::Delete.throw())),
             Some(_) => {
                 self.remove_property(name);
                 Ok(())
@@ -107,7 +107,7 @@ impl Object {
         ensures { Follows (prevented self.old) self.old self.new result }
     {
         if self.is_closed() || self.class().is_window() {
-            return Err(HeapFault::Throw(Refused::Define.throw()));
+            return Err(HeapFault::Cause(Refused::Define.throw()));
         }
         self.make_not_extensible();
         Ok(())

@@ -5,8 +5,8 @@ use Rattle.std.specs.Str.{IsUtf8}
 use Rattle.js_core.specs.Tree as tree
 use Rattle.page_check.specs.Accept.{AreNotScripts, ArePageScripts, IsAcceptedAt, IsRefusedFrom, IsRefusedScript, IsRefused, IsNotAccepted, IsScriptRefusal, text_of}
 use Rattle.page_check.specs.Frame.{IsFrameAt, IsFramePage, part}
-use Rattle.page_check.specs.declared.page.AcceptFault.{AcceptFault}
-use Rattle.page_check.specs.declared.page.AcceptFault.TheVariants.{Refused, OutOfMemory}
+use Rattle.js_core.specs.declared.memory.Failure.{Failure}
+use Rattle.js_core.specs.declared.memory.Failure.TheVariants.{Cause, OutOfMemory}
 use Rattle.page_check.specs.declared.page.Kind.{Kind}
 use Rattle.page_check.specs.declared.page.Place.{Place}
 use Rattle.page_check.specs.declared.page.Refusal.{Refusal}
@@ -36,9 +36,9 @@ texts_as : (page text bytes : List ℕ) (places : List Place) (texts : List (Lis
     → texts ≡ map (part (text_of bytes)) places
 texts_as page text bytes places texts e f g = g ∙ ap (λ (u : List ℕ). map (part u) places) (e ∙ ap text_of f)
 
-pub not_accepted : (page text bytes : List ℕ) (kind : Kind) (with_body : Bool) (places : List Place) (texts : List (List ℕ)) (fault : AcceptFault) → IsUtf8 bytes
+pub not_accepted : (page text bytes : List ℕ) (kind : Kind) (with_body : Bool) (places : List Place) (texts : List (List ℕ)) (fault : Failure Refusal) → IsUtf8 bytes
     → page ≡ text_of text → text ≡ bytes → IsFrameAt page kind with_body places → texts ≡ map (part page) places → AreNotScripts kind texts fault → IsNotAccepted bytes fault
-not_accepted page text bytes kind with_body places texts (Refused r) utf8 e f framed g off =
+not_accepted page text bytes kind with_body places texts (Cause r) utf8 e f framed g off =
     refused_script bytes kind (map (part (text_of bytes)) places) r utf8 (framed_as page text bytes kind with_body places e f framed).page
     (subst (λ (ts : List (List ℕ)). IsRefusedFrom kind 1 ts r) (texts_as page text bytes places texts e f g) off)
 not_accepted page text bytes kind with_body places texts OutOfMemory utf8 e f framed g off = tt

@@ -5,8 +5,9 @@ use Rattle.js_core.specs.Tree as tree
 use Rattle.page_check.specs.Accept.{AreNotScripts, ArePageScripts, IsNotScript, IsPageScript, IsScriptRefusal}
 use Rattle.page_check.specs.Frame.{IsFramePage}
 use Rattle.page_check.specs.Rules.{AllKeepRules, KeepsRules}
-use Rattle.page_check.specs.declared.page.AcceptFault.{AcceptFault}
-use Rattle.page_check.specs.declared.page.AcceptFault.TheVariants.{Refused, OutOfMemory}
+use Rattle.js_core.specs.declared.memory.Failure.{Failure}
+use Rattle.page_check.specs.declared.page.Refusal.{Refusal}
+use Rattle.js_core.specs.declared.memory.Failure.TheVariants.{Cause, OutOfMemory}
 use Rattle.page_check.specs.declared.page.Kind.{Kind}
 
 -- of the texts of a page, all but the rest are read as these scripts
@@ -45,9 +46,9 @@ as_many kind (t ∷ ts) (x ∷ xs) h = ap suc (as_many kind ts xs h.1)
 as_many kind [] (x ∷ xs) h = absurd h
 as_many kind (t ∷ ts) [] h = absurd h
 
-pub none_read : (kind : Kind) (texts rest behind : List (List ℕ)) (scripts : List tree.Stmts) (text : List ℕ) (number : ℕ) (fault : AcceptFault)
+pub none_read : (kind : Kind) (texts rest behind : List (List ℕ)) (scripts : List tree.Stmts) (text : List ℕ) (number : ℕ) (fault : Failure Refusal)
     → ReadUntil kind texts rest scripts → rest ≡ text ∷ behind → number ≡ length scripts + 1 → IsNotScript kind number text fault → AreNotScripts kind texts fault
-none_read kind texts rest behind scripts text number (Refused r) so e n off = record {
+none_read kind texts rest behind scripts text number (Cause r) so e n off = record {
   before = so.before;
   scripts = scripts;
   read = so.read;

@@ -10,8 +10,8 @@ use Rattle.js_lexer.specs.Tokens.{Tokens}
 use Rattle.scope_analysis.specs.EarlyRules.{early_rule}
 use Rattle.page_check.specs.Frame.{IsFramePage, places_of, with_line_feeds}
 pub use Rattle.page_check.specs.Rules.{Page, is_too_deep, keeps_form}
-use Rattle.page_check.specs.declared.page.AcceptFault.{AcceptFault}
-use Rattle.page_check.specs.declared.page.AcceptFault.TheVariants.{Refused, OutOfMemory}
+use Rattle.js_core.specs.declared.memory.Failure.{Failure}
+use Rattle.js_core.specs.declared.memory.Failure.TheVariants.{Cause, OutOfMemory}
 use Rattle.page_check.specs.declared.page.Kind.{Kind}
 use Rattle.page_check.specs.declared.page.Kind.TheVariants.{Plain, Form}
 use Rattle.page_check.specs.declared.page.Place.{Place}
@@ -57,8 +57,8 @@ IsScriptRefusal kind k text (ReservedName n) = (n ≡ k) × (script : tree.Stmts
 IsScriptRefusal kind k text (NotForm n) = (n ≡ k) × (script : tree.Stmts) × (kind ≡ Form) × IsLow kind text script × (keeps_form kind script ≡ false)
 
 -- want of memory is free
-abbrev pub IsNotScript : Kind → ℕ → List ℕ → AcceptFault → Type 0
-IsNotScript kind k text (Refused refusal) = IsScriptRefusal kind k text refusal
+abbrev pub IsNotScript : Kind → ℕ → List ℕ → Failure Refusal → Type 0
+IsNotScript kind k text (Cause refusal) = IsScriptRefusal kind k text refusal
 IsNotScript kind k text OutOfMemory = Unit {0}
 
 -- each text is that of a script of such a page, with the tree at the same place of the list
@@ -78,8 +78,8 @@ pub record IsRefusedFrom (kind : Kind) (k : ℕ) (texts : List (List ℕ)) (refu
   pub off : IsScriptRefusal kind (length before + k) text refusal
 
 -- want of memory is free
-abbrev pub AreNotScripts : Kind → List (List ℕ) → AcceptFault → Type 0
-AreNotScripts kind texts (Refused refusal) = IsRefusedFrom kind 1 texts refusal
+abbrev pub AreNotScripts : Kind → List (List ℕ) → Failure Refusal → Type 0
+AreNotScripts kind texts (Cause refusal) = IsRefusedFrom kind 1 texts refusal
 AreNotScripts kind texts OutOfMemory = Unit {0}
 
 -- the text that UTF-8 bytes write, with its line ends made LF
@@ -117,6 +117,6 @@ IsRefused bytes NotPage = IsUtf8 bytes × ((kind : Kind) (texts : List (List ℕ
 IsRefused bytes refusal = IsRefusedScript bytes refusal
 
 -- want of memory is free
-abbrev pub IsNotAccepted : List ℕ → AcceptFault → Type 0
-IsNotAccepted bytes (Refused refusal) = IsRefused bytes refusal
+abbrev pub IsNotAccepted : List ℕ → Failure Refusal → Type 0
+IsNotAccepted bytes (Cause refusal) = IsRefused bytes refusal
 IsNotAccepted bytes OutOfMemory = Unit {0}

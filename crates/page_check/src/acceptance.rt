@@ -22,11 +22,11 @@ pub fn accept(alloc: Global, bytes: &[u8]) -> Result<Accepted, AcceptFault>
     ensures refused { IfErr result (IsNotAccepted bytes.now) }
 {
     let Ok(text) = str::from_utf8(bytes) else {
-        return Err(AcceptFault::Refused(Refusal::NotUtf8));
+        return Err(AcceptFault::Cause(Refusal::NotUtf8));
     };
     let page = page_text(alloc, text)?;
     let Some(found) = frame(page.as_slice()) else {
-        return Err(AcceptFault::Refused(Refusal::NotPage));
+        return Err(AcceptFault::Cause(Refusal::NotPage));
     };
     let places = vec![in alloc; found.place]?;
     let texts = parts(alloc, page.as_slice(), places.as_slice())?;

@@ -3,9 +3,8 @@
 ghost use Rattle.std.specs.Prelude.{◌≡◌};
 ghost use Rattle.page_check.specs.Rules.{AllKeepRules};
 
-use js_core::{OutOfMemory, Script};
+use js_core::{Failure, Script};
 use scope_analysis::EarlyRule;
-use std::alloc::AllocFailed;
 use std::marker::Model;
 
 /// What a page is.
@@ -124,33 +123,5 @@ pub enum Refusal {
     NotForm(u64),
 }
 
-/// Why bytes are not accepted as a page.
-#[derive(Clone, Copy, Debug, PartialEq, Eq)]
-pub enum AcceptFault {
-    /// The page is refused.
-    Refused(Refusal),
-    /// Memory ran out.
-    OutOfMemory,
-}
-
-impl From<OutOfMemory> for AcceptFault {
-    ghost use Rattle.std.specs.Prelude.{◌≡◌};
-    ghost use Rattle.page_check.specs.declared.page.AcceptFault.TheVariants.{OutOfMemory as WantOfMemory};
-
-    ghost from_gives = { λ _ e. e ≡ WantOfMemory };
-
-    fn from(_: OutOfMemory) -> AcceptFault {
-        AcceptFault::OutOfMemory
-    }
-}
-
-impl<T: Drop> From<AllocFailed<T>> for AcceptFault {
-    ghost use Rattle.std.specs.Prelude.{◌≡◌};
-    ghost use Rattle.page_check.specs.declared.page.AcceptFault.TheVariants.{OutOfMemory as WantOfMemory};
-
-    ghost from_gives = { λ _ e. e ≡ WantOfMemory };
-
-    fn from(_: AllocFailed<T>) -> AcceptFault {
-        AcceptFault::OutOfMemory
-    }
-}
+/// Why bytes are not accepted as a page: the page is refused, or memory ran out.
+pub type AcceptFault = Failure<Refusal>;

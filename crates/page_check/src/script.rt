@@ -8,10 +8,10 @@ ghost use Rattle.page_check.specs.Rules.{KeepsRules};
 ghost use Rattle.page_check.specs.declared.page.Kind.{Kind as PageKind};
 
 use crate::page::{AcceptFault, Kind, Refusal};
-use expression_parser::ParseFault;
+use expression_parser::{NotScript, ParseFault};
 use js_core::{FORM_HEIGHT_LIMIT, OutOfMemory, PLAIN_HEIGHT_LIMIT, Script, Units};
 use js_grammar::law_derived_trees_are_syntax;
-use js_lexer::{LexFault, strict, tokens};
+use js_lexer::{LexFault, NotTokens, strict, tokens};
 use js_print::law_tokens_can_be_written;
 use scope_analysis::{early, has_high_function, has_reserved_name, in_form};
 use script_parser::script;
@@ -31,17 +31,17 @@ pub fn page_script(
 {
     let script = strict_script(alloc, number, text)?;
     if let Some(rule) = early(alloc, &script)? {
-        return Err(AcceptFault::Refused(Refusal::Early(number, rule)));
+        return Err(AcceptFault::Cause(Refusal::Early(number, rule)));
     }
     if is_too_deep(alloc, kind, &script)? {
-        return Err(AcceptFault::Refused(Refusal::TooDeep(number)));
+        return Err(AcceptFault::Cause(Refusal::TooDeep(number)));
     }
     if keeps_form(alloc, kind, &script)? {
         return Ok(script);
     }
     match kind {
-        Kind::Plain => Err(AcceptFault::Refused(Refusal::ReservedName(number))),
-        Kind::Form => Err(AcceptFault::Refused(Refusal::NotForm(number))),
+        Kind::Plain => Err(AcceptFault::Cause(Refusal::ReservedName(number))),
+        Kind::Form => Err(AcceptFault::Cause(Refusal::NotForm(number))),
     }
 }
 
@@ -55,20 +55,20 @@ fn strict_script(alloc: Global, number: u64, text: Units) -> Result<Script, Acce
     law_derived_trees_are_syntax();
     let tokens = match tokens(alloc, &text) {
         Ok(tokens) => tokens,
-        Err(LexFault::NotTokens) => {
-            return Err(AcceptFault::Refused(Refusal::NotTokens(number)));
+        Err(LexFault::Cause(NotTokens)) => {
+            return Err(AcceptFault::Cause(Refusal::NotTokens(number)));
         }
         Err(LexFault::OutOfMemory) => return Err(AcceptFault::OutOfMemory),
     };
     let script = match script(alloc, tokens.as_slice()) {
         Ok(script) => script,
-        Err(ParseFault::NotScript) => {
-            return Err(AcceptFault::Refused(Refusal::NotScript(number)));
+        Err(ParseFault::Cause(NotScript)) => {
+            return Err(AcceptFault::Cause(Refusal::NotScript(number)));
         }
         Err(ParseFault::OutOfMemory) => return Err(AcceptFault::OutOfMemory),
     };
     if !strict(tokens.as_slice()) {
-        return Err(AcceptFault::Refused(Refusal::NotStrict(number)));
+        return Err(AcceptFault::Cause(Refusal::NotStrict(number)));
     }
     Ok(script)
 }

@@ -57,7 +57,7 @@ fn run_script(state: &mut State, code: FunctionCode, meter: &mut Meter) -> Resul
 {
     match declare(state, &code) {
         Ok(()) => run_body(state, code, meter),
-        Err(Fault::Thrown(value)) => Ok(End::Ended(Signal::Thrown(value))),
+        Err(Fault::Cause(value)) => Ok(End::Ended(Signal::Thrown(value))),
         Err(Fault::OutOfMemory) => Err(OutOfMemory),
     }
 }
@@ -90,7 +90,7 @@ fn call_name(state: &mut State, name: &Units, meter: &mut Meter) -> Result<End, 
 {
     match state.read_name(None, name) {
         Ok(callee) => call(state, callee, meter),
-        Err(Fault::Thrown(value)) => Ok(End::Ended(Signal::Thrown(value))),
+        Err(Fault::Cause(value)) => Ok(End::Ended(Signal::Thrown(value))),
         Err(Fault::OutOfMemory) => Err(OutOfMemory),
     }
 }

@@ -12,10 +12,10 @@ use Rattle.dom_tree.specs.declared.content.Content.{Content}
 use Rattle.dom_tree.specs.declared.content.Kind.{Kind}
 use Rattle.dom_tree.specs.declared.content.Kind.TheVariants.{Comment, Document, Element}
 use Rattle.dom_tree.specs.declared.content.Kind.TheVariants as kind
-use Rattle.dom_tree.specs.declared.fault.DomFault.{DomFault}
-use Rattle.dom_tree.specs.declared.fault.DomFault.TheVariants.{Hierarchy}
+use Rattle.dom_tree.specs.declared.fault.DomError.{DomError}
+use Rattle.dom_tree.specs.declared.fault.DomError.TheVariants.{Hierarchy}
 use Rattle.dom_tree.specs.Attributes.{Pairs, value_of}
-use Rattle.dom_tree.specs.Change.{Answers, breaks_hierarchy, inserted, insertion_fault, is_above, is_above_within, is_misplaced, of_parent}
+use Rattle.dom_tree.specs.Change.{Answers, breaks_hierarchy, inserted, insertion_error, is_above, is_above_within, is_misplaced, of_parent}
 use Rattle.dom_tree.specs.Content.{new_content, with_attribute}
 use Rattle.dom_tree.specs.Laws.{OthersStay}
 use Rattle.dom_tree.specs.Name.{folded}
@@ -57,7 +57,7 @@ not_above w k none trees (suc n) p e = by_parent (parent_at w p) refl (λ q h. n
 all_false : (a b c d : Bool) → a ≡ true → b ≡ false → c ≡ false → d ≡ false → (not a || b || c || d) ≡ false
 all_false a b c d e f g h = rw (e, f, g, h) refl
 
-no_fault : (w : Nodes) (p child : NodeId) → IsSound w → children_at w child.0 ≡ [] → is_document (kind_at w child.0) ≡ false → may_have_children (kind_at w p.0) ≡ true → nat_eq child.0 p.0 ≡ false → (is_document (kind_at w p.0) && is_misplaced w child.0) ≡ false → insertion_fault w p child None ≡ None
+no_fault : (w : Nodes) (p child : NodeId) → IsSound w → children_at w child.0 ≡ [] → is_document (kind_at w child.0) ≡ false → may_have_children (kind_at w p.0) ≡ true → nat_eq child.0 p.0 ≡ false → (is_document (kind_at w p.0) && is_misplaced w child.0) ≡ false → insertion_error w p child None ≡ None
 no_fault w p child sound none kind may apart placed =
     let above = not_above w child.0 none sound.trees (length w) p.0 apart in
     let free : breaks_hierarchy w p.0 child.0 ≡ false = all_false (may_have_children (kind_at w p.0)) (is_document (kind_at w child.0)) (is_above w child.0 p.0) (is_document (kind_at w p.0) && is_misplaced w child.0) may kind above placed in
@@ -69,7 +69,7 @@ no_document (Element name) e = refl
 no_document (kind.Text text) e = absurd (cc)
 no_document (Comment text) e = absurd (cc)
 
-pub free_under_element : (w t : Nodes) (c : Content) (p child : NodeId) → IsSound w → w ≡ with_new t c → child.0 ≡ length t → is_document c.kind ≡ false → is_element (kind_at t p.0) ≡ true → insertion_fault w p child None ≡ None
+pub free_under_element : (w t : Nodes) (c : Content) (p child : NodeId) → IsSound w → w ≡ with_new t c → child.0 ≡ length t → is_document c.kind ≡ false → is_element (kind_at t p.0) ≡ true → insertion_error w p child None ≡ None
 free_under_element w t c p child sound e i kind element =
     let there = is_there t p.0 element in
     let same : kind_at w p.0 ≡ kind_at t p.0 = ap (λ x. kind_at x p.0) e ∙ ap (λ n. n.content.kind) (old_node t c p.0 there) in
@@ -92,7 +92,7 @@ no_text (Comment text) e = absurd (cc)
 root_fits : (c : Content) → is_element c.kind ≡ true → (is_document (kind_at (with_new document_alone c) 0) && is_misplaced (with_new document_alone c) 1) ≡ false
 root_fits c element = let text = no_text c.kind element in rw (text, element) refl
 
-pub free_under_document : (w : Nodes) (c : Content) (p child : NodeId) → IsSound w → w ≡ with_new document_alone c → child.0 ≡ 1 → p.0 ≡ 0 → is_element c.kind ≡ true → insertion_fault w p child None ≡ None
+pub free_under_document : (w : Nodes) (c : Content) (p child : NodeId) → IsSound w → w ≡ with_new document_alone c → child.0 ≡ 1 → p.0 ≡ 0 → is_element c.kind ≡ true → insertion_error w p child None ≡ None
 free_under_document w c p child sound e i z element =
     let kind : is_document c.kind ≡ false = no_document c.kind element in
     let node = ap (λ k. node_at w k) i ∙ ap (λ x. node_at x 1) e in
@@ -102,11 +102,11 @@ free_under_document w c p child sound e i z element =
 
 -- What the call answers
 
-pub answered : (r : Result (Unit {0}) DomFault) (fault : Option DomFault) (after old new : Nodes) → fault ≡ None → Answers fault after old new r → new ≡ after
+pub answered : (r : Result (Unit {0}) DomError) (fault : Option DomError) (after old new : Nodes) → fault ≡ None → Answers fault after old new r → new ≡ after
 answered (Ok u) fault after old new f a = a.1
 answered (Err e) fault after old new f a = absurd (let g = a.0 in cc)
 
-pub kept : (w u : Nodes) (p child : NodeId) → OthersStay → IsSound w → p.0 < length w → child.0 < length w → insertion_fault w p child None ≡ None → u ≡ inserted w p child None → KeepsElements w u
+pub kept : (w u : Nodes) (p child : NodeId) → OthersStay → IsSound w → p.0 < length w → child.0 < length w → insertion_error w p child None ≡ None → u ≡ inserted w p child None → KeepsElements w u
 kept w u p child stay sound parent there free e k h =
     let same = (stay w p child None (record { sound = sound; parent = parent; child = there; accepted = free; apart = refl })).0 k in
     ap (λ x. is_element (kind_at x k)) e ∙ ap (λ x. is_element x.kind) same ∙ h

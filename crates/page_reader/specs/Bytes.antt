@@ -6,6 +6,8 @@ use Rattle.dom_tree.specs.Node.{Nodes}
 use Rattle.page_tokens.specs.declared.token.PageToken.{PageToken}
 use Rattle.page_tokens.specs.declared.token.RawText.{RawText}
 use Rattle.page_tokens.specs.Tokens.{Tokens}
+use Rattle.page_reader.specs.declared.fault.PageError.{PageError}
+use Rattle.page_reader.specs.declared.fault.PageError.TheVariants.{NotUtf8, NotPage}
 use Rattle.page_reader.specs.declared.page.ScriptText.{ScriptText}
 use Rattle.page_reader.specs.Pages.{PageOf}
 use Rattle.page_reader.specs.Text.{byte_place, has_zero, mark_size, page_text, without_mark}
@@ -37,3 +39,8 @@ pub record IsUnitsPage (units : Text) (nodes : Nodes) (scripts : List ScriptText
 pub record IsPageOf (bytes : List ℕ) (nodes : Nodes) (scripts : List ScriptText) : Type 0 where
   pub utf8 : IsUtf8 bytes
   pub units : IsUnitsPage (utf16_of bytes) nodes scripts
+
+-- what each error says of the bytes
+abbrev pub IsNoPage : List ℕ → PageError → Type 0
+IsNoPage bytes NotUtf8 = ¬ IsUtf8 bytes
+IsNoPage bytes NotPage = IsUtf8 bytes × ((nodes : Nodes) (scripts : List ScriptText) → IsPageOf bytes nodes scripts → ⊥)

@@ -14,7 +14,7 @@ mod tests;
 mod text;
 mod tree;
 
-pub use fault::{PageFault, TreeFault};
+pub use fault::{NotPage, PageError, PageFault, TreeFault};
 pub use laws::{law_fronts, law_one_page, law_one_reading, law_replaced_scripts, law_script_pages};
 pub use page::{Page, ScriptText};
 pub use reader::read_page;

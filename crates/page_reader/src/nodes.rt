@@ -3,7 +3,7 @@
 ghost use Rattle.std.specs.Prelude.{◌≡◌, ◌<◌, ◌+◌, ℕ, length, true, IfOk, OnOk, None};
 ghost use Rattle.dom_tree.specs.declared.content.Content.{Content as PureContent};
 ghost use Rattle.dom_tree.specs.declared.content.Kind.TheVariants as kind;
-ghost use Rattle.dom_tree.specs.Change.{inserted, insertion_fault};
+ghost use Rattle.dom_tree.specs.Change.{inserted, insertion_error};
 ghost use Rattle.dom_tree.specs.Content.{new_content};
 ghost use Rattle.dom_tree.specs.Node.{Nodes, document_alone, is_element, kind_at, with_new};
 ghost use Rattle.page_reader.specs.Elements.{is_allowed};
@@ -20,7 +20,7 @@ use std::alloc::Global;
 fn append(dom: &mut Dom, parent: NodeId, child: NodeId)
     requires parent { parent.0 < length dom.old }
     requires child { child.0 < length dom.old }
-    requires free { insertion_fault dom.old parent child None ≡ None }
+    requires free { insertion_error dom.old parent child None ≡ None }
     ensures ok { dom.new ≡ inserted dom.old parent child None }
     ensures kept { KeepsElements dom.old dom.new }
 {

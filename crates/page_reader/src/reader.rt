@@ -1,40 +1,37 @@
 //! Pages from bytes.
 
-ghost use Rattle.std.specs.Prelude.{◌≡◌, ◌<◌, ◌^◌, List, IfOk, IsErrOf};
-ghost use Rattle.std.specs.Str.{IsUtf8};
+ghost use Rattle.std.specs.Prelude.{◌≡◌, ◌<◌, ◌^◌, List, IfOk};
+ghost use Rattle.js_core.specs.Memory.{IfCause};
 ghost use Rattle.dom_tree.specs.Node.{Nodes};
 ghost use Rattle.page_tokens.specs.declared.token.RawText.{RawText as PureRawText};
 ghost use Rattle.page_reader.specs.declared.page.ScriptText.{ScriptText as PureScript};
-ghost use Rattle.page_reader.specs.Bytes.{IsPageOf, IsTextPage, IsUnitsPage};
+ghost use Rattle.page_reader.specs.Bytes.{IsNoPage, IsPageOf, IsTextPage, IsUnitsPage};
 ghost use Rattle.page_reader.specs.Text as spec;
 
-use crate::fault::{PageFault, TreeFault};
+use crate::fault::{NotPage, PageError, PageFault, TreeFault};
 use crate::page::Page;
 use crate::places::placed;
 use crate::text::{has_mark, has_zero, with_line_feeds};
 use crate::tree::page_of_tokens;
 use dom_tree::Dom;
 use js_core::Units;
-use page_tokens::{RawText, TokenFault, law_one_reading, tokens_of};
+use page_tokens::{NotTokens, RawText, TokenFault, law_one_reading, tokens_of};
 use std::alloc::Global;
 
 /// The page that the bytes are: its nodes, and its scripts with their places in the bytes. `NotUtf8` where they are no UTF-8,
 /// and `NotPage` where they are and have no reading. The time is linear in the bytes.
 pub fn read_page(alloc: Global, bytes: &[u8]) -> Result<Page, PageFault>
     ensures read { IfOk result (λ page. IsPageOf bytes.now page.dom page.scripts.items) }
-    ensures not_utf8 { IsErrOf result PageFault.NotUtf8 → ¬ IsUtf8 bytes.now }
-    ensures utf8 { IsErrOf result PageFault.NotPage → IsUtf8 bytes.now }
-    ensures not_page { IsErrOf result PageFault.NotPage
-        → (nodes : Nodes) (scripts : List PureScript) → IsPageOf bytes.now nodes scripts → ⊥ }
+    ensures refused { IfCause result (IsNoPage bytes.now) }
 {
     let Ok(text) = str::from_utf8(bytes) else {
-        return Err(PageFault::NotUtf8);
+        return Err(PageFault::Cause(PageError::NotUtf8));
     };
     let _size = bytes.len();
     let units = Units::from_utf8(alloc, text)?;
     match page_of_units(alloc, units.as_slice()) {
         Ok(page) => Ok(page),
-        Err(TreeFault::NotPage) => Err(PageFault::NotPage),
+        Err(TreeFault::Cause(NotPage)) => Err(PageFault::Cause(PageError::NotPage)),
         Err(TreeFault::OutOfMemory) => Err(PageFault::OutOfMemory),
     }
 }
@@ -43,11 +40,11 @@ pub fn read_page(alloc: Global, bytes: &[u8]) -> Result<Page, PageFault>
 fn page_of_units(alloc: Global, units: &[u16]) -> Result<Page, TreeFault>
     requires short { spec.size_of units.now < 2 ^ 64 }
     ensures read { IfOk result (λ page. IsUnitsPage units.now page.dom page.scripts.items) }
-    ensures refused { IsErrOf result TreeFault.NotPage
-        → (nodes : Nodes) (scripts : List PureScript) → IsUnitsPage units.now nodes scripts → ⊥ }
+    ensures refused { IfCause result (λ _. (nodes : Nodes) (scripts : List PureScript)
+        → IsUnitsPage units.now nodes scripts → ⊥) }
 {
     if has_zero(units) {
-        return Err(TreeFault::NotPage);
+        return Err(TreeFault::Cause(NotPage));
     }
     let (skipped, inner) = behind_mark(units);
     let text = with_line_feeds(alloc, inner)?;
@@ -71,13 +68,13 @@ fn behind_mark(units: &[u16]) -> (u64, &[u16])
 /// The nodes and the scripts of the page whose text this is.
 fn page_of_text(alloc: Global, text: &[u16]) -> Result<(Dom, Vec<RawText>), TreeFault>
     ensures read { IfOk result (λ page. IsTextPage text.now page.0 page.1.items) }
-    ensures refused { IsErrOf result TreeFault.NotPage
-        → (nodes : Nodes) (raws : List PureRawText) → IsTextPage text.now nodes raws → ⊥ }
+    ensures refused { IfCause result (λ _. (nodes : Nodes) (raws : List PureRawText)
+        → IsTextPage text.now nodes raws → ⊥) }
 {
     law_one_reading();
     match tokens_of(alloc, text) {
         Ok(tokens) => page_of_tokens(alloc, tokens.as_slice()),
-        Err(TokenFault::NotTokens) => Err(TreeFault::NotPage),
+        Err(TokenFault::Cause(NotTokens)) => Err(TreeFault::Cause(NotPage)),
         Err(TokenFault::OutOfMemory) => Err(TreeFault::OutOfMemory),
     }
 }

@@ -1,6 +1,6 @@
 //! Whole texts and the pages that they are.
 
-use crate::fault::PageFault;
+use crate::fault::{PageError, PageFault};
 use crate::page::ScriptText;
 use crate::reader::read_page;
 use crate::replacing::replace_scripts;
@@ -109,7 +109,7 @@ fn refuses_what_is_no_page(rt: HostRuntime) -> Result<(), Fail> {
 fn shown_bytes(alloc: Global, bytes: &[u8]) -> Result<Vec<u16>, Fail> {
     let mut out = Vec::new(alloc);
     match read_page(alloc, bytes) {
-        Err(PageFault::NotUtf8) => out.push(u16::from(b'?'))?,
+        Err(PageFault::Cause(PageError::NotUtf8)) => out.push(u16::from(b'?'))?,
         Err(_) => out.push(u16::from(b'-'))?,
         Ok(page) => {
             page.dom.dom_text(NodeId(0), &mut out)?;

@@ -1,8 +1,9 @@
 //! The nodes and the scripts of a page.
 
-ghost use Rattle.std.specs.Prelude.{◌≡◌, List, [], ◌∷◌, IfOk, IsErrOf, OnOk, MatchOption, bytes_eq, option_copied, reverse, true, false};
+ghost use Rattle.std.specs.Prelude.{◌≡◌, List, [], ◌∷◌, IfOk, OnOk, MatchOption, bytes_eq, option_copied, reverse, true, false};
 ghost use Rattle.std.specs.List.{list_all};
 ghost use Rattle.std.specs.Option.{ForSome};
+ghost use Rattle.js_core.specs.Memory.{IfCause};
 ghost use Rattle.dom_tree.specs.Node.{Nodes, is_element, kind_at};
 ghost use Rattle.page_tokens.specs.declared.token.PageToken.{PageToken as PureToken};
 ghost use Rattle.page_tokens.specs.declared.token.RawText.{RawText as PureRawText};
@@ -15,7 +16,7 @@ ghost use Rattle.page_reader.specs.Reading.{AreOpen, Follows, KeepsElements, Pen
 ghost use Rattle.page_tokens.specs.Characters.{is_space as space_spec};
 
 use crate::elements::{is_allowed, is_script};
-use crate::fault::TreeFault;
+use crate::fault::{NotPage, TreeFault};
 use crate::nodes::{append_comment, append_element, append_root, append_text};
 use dom_tree::{Dom, is_void};
 use js_core::{OutOfMemory, Units};
@@ -35,14 +36,14 @@ pub struct Frame {
 /// elements are kept in a list, so that nesting costs no depth.
 pub fn page_of_tokens(alloc: Global, tokens: &[PageToken]) -> Result<(Dom, Vec<RawText>), TreeFault>
     ensures read { IfOk result (λ page. PageOf tokens.now page.0 page.1.items) }
-    ensures refused { IsErrOf result TreeFault.NotPage
-        → (nodes : Nodes) (scripts : List PureRawText) → PageOf tokens.now nodes scripts → ⊥ }
+    ensures refused { IfCause result (λ _. (nodes : Nodes) (scripts : List PureRawText)
+        → PageOf tokens.now nodes scripts → ⊥) }
 {
     let Some((token, rest)) = behind_prolog(tokens).split_first() else {
-        return Err(TreeFault::NotPage);
+        return Err(TreeFault::Cause(NotPage));
     };
     let Some(tag) = html_tag(token) else {
-        return Err(TreeFault::NotPage);
+        return Err(TreeFault::Cause(NotPage));
     };
     let mut dom = Dom::new(alloc)?;
     let mut scripts = Vec::new(alloc);
@@ -52,7 +53,7 @@ pub fn page_of_tokens(alloc: Global, tokens: &[PageToken]) -> Result<(Dom, Vec<R
     if are_outside(behind) {
         Ok((dom, scripts))
     } else {
-        Err(TreeFault::NotPage)
+        Err(TreeFault::Cause(NotPage))
     }
 }
 
@@ -116,8 +117,8 @@ fn content<'a>(
     requires { is_element (kind_at dom.old html.node.0) ≡ true }
     ensures read { IfOk result (λ rest. Follows
         (html ∷ []) tokens.now dom.old scripts.old.items [] rest.now dom.new scripts.new.items) }
-    ensures refused { IsErrOf result TreeFault.NotPage → (nodes : Nodes) (all : List PureRawText)
-        → Pending (html ∷ []) tokens.now dom.old scripts.old.items nodes all → ⊥ }
+    ensures refused { IfCause result (λ _. (nodes : Nodes) (all : List PureRawText)
+        → Pending (html ∷ []) tokens.now dom.old scripts.old.items nodes all → ⊥) }
 {
     let mut top = html;
     let mut below = Vec::new(alloc);
@@ -128,7 +129,7 @@ fn content<'a>(
         }
         rest = behind;
     }
-    Err(TreeFault::NotPage)
+    Err(TreeFault::Cause(NotPage))
 }
 
 /// Reads a token in the open elements, and answers whether it ended the last of them.
@@ -146,15 +147,15 @@ fn step(
         (reading.left ended top.new below.new.items) ts dom.new scripts.new.items) }
     ensures open { IfOk result (λ ended. AreOpen dom.new
         (reading.left ended top.new below.new.items)) }
-    ensures refused { IsErrOf result TreeFault.NotPage
-        → (ts : List PureToken) (nodes : Nodes) (all : List PureRawText)
+    ensures refused { IfCause result (λ _. (ts : List PureToken) (nodes : Nodes)
+        (all : List PureRawText)
         → Pending (top.old ∷ reverse below.old.items)
-        (token.now ∷ ts) dom.old scripts.old.items nodes all → ⊥ }
+        (token.now ∷ ts) dom.old scripts.old.items nodes all → ⊥) }
 {
     if let PageToken::EndTag(name) = token {
         return match close(top, below, name) {
             Some(ended) => Ok(ended),
-            None => Err(TreeFault::NotPage),
+            None => Err(TreeFault::Cause(NotPage)),
         };
     }
     let opened = place(alloc, dom, scripts, top, token)?;
@@ -213,8 +214,8 @@ fn place(
     ensures open { IfOk result (λ frame. ForSome frame
         (λ f. is_element (kind_at dom.new f.node.0) ≡ true)) }
     ensures kept { OnOk result (KeepsElements dom.old dom.new) }
-    ensures refused { IsErrOf result TreeFault.NotPage
-        → part_of parent.now.name token.now ≡ spec.Part.misplaced }
+    ensures refused { IfCause result
+        (λ _. part_of parent.now.name token.now ≡ spec.Part.misplaced) }
 {
     match token {
         PageToken::Space(text) | PageToken::Text(text) => {
@@ -230,7 +231,7 @@ fn place(
             place_raw(alloc, dom, scripts, parent, tag, raw)?;
             Ok(None)
         }
-        _ => Err(TreeFault::NotPage),
+        _ => Err(TreeFault::Cause(NotPage)),
     }
 }
 

@@ -4,7 +4,7 @@ ghost use Rattle.std.specs.Prelude.{◌<◌};
 
 use js_core::Units;
 use js_values::NodeId;
-use page_reader::{Page, PageFault, ScriptText, read_page};
+use page_reader::{Page, PageError, PageFault, ScriptText, read_page};
 use std::alloc::{AllocError, Global};
 
 /// The bytes of a page in a row, where a backslash, `x` and two hexadecimal digits are one byte.
@@ -38,8 +38,8 @@ pub fn reading(alloc: Global, bytes: &[u8]) -> Result<Vec<u8>, AllocError> {
     let mut out = Vec::new(alloc);
     match read_page(alloc, bytes) {
         Ok(page) => push_page(alloc, &page, &mut out)?,
-        Err(PageFault::NotUtf8) => out.extend_from_slice(b"not utf8")?,
-        Err(PageFault::NotPage) => out.extend_from_slice(b"not page")?,
+        Err(PageFault::Cause(PageError::NotUtf8)) => out.extend_from_slice(b"not utf8")?,
+        Err(PageFault::Cause(PageError::NotPage)) => out.extend_from_slice(b"not page")?,
         Err(PageFault::OutOfMemory) => return Err(AllocError),
     }
     Ok(out)

@@ -8,8 +8,8 @@ use Rattle.page_meaning.specs.declared.signal.Signal.TheVariants.{Value as Val, 
 use Rattle.page_meaning.specs.Act.{Act, ActOf, Calls, Outcome, Ended, Stopped, asking, also, bind, ret}
 use Rattle.page_meaning.specs.Primitives.{take_step}
 use Rattle.page_meaning.specs.Store.{Store}
-use Rattle.page_state.specs.declared.fault.Fault.{Fault}
-use Rattle.page_state.specs.declared.fault.Fault.TheVariants as fault
+use Rattle.js_core.specs.declared.memory.Failure.{Failure}
+use Rattle.js_core.specs.declared.memory.Failure.TheVariants as fault
 use Rattle.page_state.specs.declared.turns.Halt.{Halt}
 use Rattle.page_state.specs.declared.turns.Halt.TheVariants as halt
 use Rattle.page_state.specs.Does.{Does, Gives, Raises}
@@ -19,15 +19,15 @@ use Rattle.page_state.specs.Turns.{Comes, Ends, Halts, Tells, Turned}
 pub does_comes : {A : Type 0} (m : Calls → ActOf A) (s t : Store) (n : ℕ) (a : A) → Does m s a t → Comes m s n (Ended a t n)
 does_comes m s t n a d = record { is = λ c. d.is c n }
 
-pub raises_halts : (m : Calls → Act) (s t : Store) (n : ℕ) (e : Fault) → Raises m s t e → Halts m s n t n (halt.Fault e)
-raises_halts m s t n (fault.Thrown v) d = record { is = λ c. d.is c n }
+pub raises_halts : (m : Calls → Act) (s t : Store) (n : ℕ) (e : Failure Value) → Raises m s t e → Halts m s n t n (halt.Fault e)
+raises_halts m s t n (fault.Cause v) d = record { is = λ c. d.is c n }
 raises_halts m s t n fault.OutOfMemory d = tt
 
 pub gives_ends : {A : Type 0} (f : A → Value) (m : Calls → Act) (s t : Store) (n : ℕ) (a : A) → Gives f m s t (Ok a) → Ends f m s n t n (Ok a)
 gives_ends f m s t n a d = record { is = λ c. d.is c n }
 
 -- a fault that is handed on by `?`
-pub faults : {A : Type 0} (f : A → Value) (m : Calls → Act) (s t : Store) (n : ℕ) (e : Fault) (r : Result A Halt) → IsErrAnd r (λ d. d ≡ halt.Fault e) → Raises m s t e → Ends f m s n t n r
+pub faults : {A : Type 0} (f : A → Value) (m : Calls → Act) (s t : Store) (n : ℕ) (e : Failure Value) (r : Result A Halt) → IsErrAnd r (λ d. d ≡ halt.Fault e) → Raises m s t e → Ends f m s n t n r
 faults f m s t n e r h d = let p = err_from_is_err_and r h in rw (p.1, p.2) (raises_halts m s t n e d)
 
 -- what halts is handed on by `?`
@@ -42,7 +42,7 @@ no_memory f m s t n j r h = let p = err_from_is_err_and r h in rw (p.1, p.2) tt
 
 pub bind_halts : {A : Type 0} (m : Calls → ActOf A) (k : Calls → A → Act) (a : A) (s t u : Store) (n i j : ℕ) (e : Halt)
     → Comes m s n (Ended a t i) → Halts (λ c. k c a) t i u j e → Halts (λ c. bind (m c) (k c)) s n u j e
-bind_halts m k a s t u n i j (halt.Fault (fault.Thrown v)) d h = record { is = λ c. rw (d.is c) (h.is c) }
+bind_halts m k a s t u n i j (halt.Fault (fault.Cause v)) d h = record { is = λ c. rw (d.is c) (h.is c) }
 bind_halts m k a s t u n i j (halt.Fault fault.OutOfMemory) d h = tt
 bind_halts m k a s t u n i j halt.Stopped d h = record { is = λ c. rw (d.is c) (h.is c) }
 
@@ -53,7 +53,7 @@ bind_ends m k f a s t u n i j (Err e) d h = bind_halts m k a s t u n i j e d h
 
 pub also_halts_on : (m : Calls → Act) (k : Calls → Value → Act) (v : Value) (s t u : Store) (n i j : ℕ) (e : Halt)
     → Comes m s n (Ended (Val v) t i) → Halts (λ c. k c v) t i u j e → Halts (λ c. also (m c) (k c)) s n u j e
-also_halts_on m k v s t u n i j (halt.Fault (fault.Thrown w)) d h = record { is = λ c. rw (d.is c) (h.is c) }
+also_halts_on m k v s t u n i j (halt.Fault (fault.Cause w)) d h = record { is = λ c. rw (d.is c) (h.is c) }
 also_halts_on m k v s t u n i j (halt.Fault fault.OutOfMemory) d h = tt
 also_halts_on m k v s t u n i j halt.Stopped d h = record { is = λ c. rw (d.is c) (h.is c) }
 
@@ -65,7 +65,7 @@ also_ends m k f v s t u n i j (Err e) d h = also_halts_on m k v s t u n i j e d 
 
 -- what halts passes over what would come next
 pub also_halts : (m : Calls → Act) (k : Calls → Value → Act) (s t : Store) (n j : ℕ) (e : Halt) → Halts m s n t j e → Halts (λ c. also (m c) (k c)) s n t j e
-also_halts m k s t n j (halt.Fault (fault.Thrown v)) d = record { is = λ c. rw (d.is c) refl }
+also_halts m k s t n j (halt.Fault (fault.Cause v)) d = record { is = λ c. rw (d.is c) refl }
 also_halts m k s t n j (halt.Fault fault.OutOfMemory) d = tt
 also_halts m k s t n j halt.Stopped d = record { is = λ c. rw (d.is c) refl }
 
@@ -73,7 +73,7 @@ also_halts m k s t n j halt.Stopped d = record { is = λ c. rw (d.is c) refl }
 pub asked_ends : {A B : Type 0} (h : Store → A) (k : Calls → A → Act) (f : B → Value) (s t : Store) (n j : ℕ) (r : Result B Halt)
     → Ends f (λ c. k c (h s)) s n t j r → Ends f (λ c. asking h (k c)) s n t j r
 asked_ends h k f s t n j (Ok b) d = record { is = λ c. d.is c }
-asked_ends h k f s t n j (Err (halt.Fault (fault.Thrown v))) d = record { is = λ c. d.is c }
+asked_ends h k f s t n j (Err (halt.Fault (fault.Cause v))) d = record { is = λ c. d.is c }
 asked_ends h k f s t n j (Err (halt.Fault fault.OutOfMemory)) d = tt
 asked_ends h k f s t n j (Err halt.Stopped) d = record { is = λ c. d.is c }
 
@@ -91,7 +91,7 @@ no_turn k f s n j e r is stopped h = let p = err_from_is_err_and r h in rw (p.1,
 
 pub turn_tells : {A : Type 0} (k : Calls → ActOf A) (s u : Store) (n i j : ℕ) (r : Result A Halt) → n ≡ suc i → Tells k s i u j r → Tells (λ c. bind take_step (λ _. k c)) s n u j r
 turn_tells k s u n i j (Ok a) e h = rw e (record { is = λ c. h.is c })
-turn_tells k s u n i j (Err (halt.Fault (fault.Thrown v))) e h = h
+turn_tells k s u n i j (Err (halt.Fault (fault.Cause v))) e h = h
 turn_tells k s u n i j (Err (halt.Fault fault.OutOfMemory)) e h = tt
 turn_tells k s u n i j (Err halt.Stopped) e h = rw e (record { is = λ c. h.is c })
 
@@ -104,7 +104,7 @@ no_turn_tells {A} k s n j e r is stopped h =
 
 pub asked_tells : {A B : Type 0} (h : Store → A) (k : Calls → A → ActOf B) (s u : Store) (n j : ℕ) (r : Result B Halt) → Tells (λ c. k c (h s)) s n u j r → Tells (λ c. asking h (k c)) s n u j r
 asked_tells h k s u n j (Ok b) d = record { is = λ c. d.is c }
-asked_tells h k s u n j (Err (halt.Fault (fault.Thrown v))) d = d
+asked_tells h k s u n j (Err (halt.Fault (fault.Cause v))) d = d
 asked_tells h k s u n j (Err (halt.Fault fault.OutOfMemory)) d = tt
 asked_tells h k s u n j (Err halt.Stopped) d = record { is = λ c. d.is c }
 

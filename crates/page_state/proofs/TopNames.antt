@@ -19,8 +19,8 @@ use Rattle.page_meaning.specs.Places.{window}
 use Rattle.page_meaning.specs.Primitives.{define_at, next_place}
 use Rattle.page_meaning.specs.Properties.{put_in}
 use Rattle.page_meaning.specs.Store.{Store, with_heap}
-use Rattle.page_state.specs.declared.fault.Fault.{Fault}
-use Rattle.page_state.specs.declared.fault.Fault.TheVariants as fault
+use Rattle.js_core.specs.declared.memory.Failure.{Failure}
+use Rattle.js_core.specs.declared.memory.Failure.TheVariants as fault
 use Rattle.page_state.specs.Does.{Does, Gives, Raises, no_value}
 use Rattle.page_state.specs.Globals.{declared_global, keeps_place, named_global, takes_place}
 use Rattle.page_state.proofs.Does.{also_gives, asked_gives, bind_gives, failed, passed, refused}
@@ -45,7 +45,7 @@ also_done (Ended Continue t n) p next = refl
 also_done (Stopped t) p next = refl
 
 -- a fault that is handed on
-handed : (act : Act) (s t : Store) (e : Fault) (r : Result (Unit {0}) Fault) → Raises (λ _. act) s t e → IsErr r × IsErrAnd r (λ d. d ≡ e) → Gives no_value (λ _. act) s t r
+handed : (act : Act) (s t : Store) (e : Failure Value) (r : Result (Unit {0}) (Failure Value)) → Raises (λ _. act) s t e → IsErr r × IsErrAnd r (λ d. d ≡ e) → Gives no_value (λ _. act) s t r
 handed act s t e (Ok x) d h = cc (h.0)
 handed act s t e (Err x) d h = rw (h.1) d
 
@@ -66,27 +66,27 @@ global_first (Some x, c) ds = refl
 first_run : (d : Option (List ℕ) × tree.Code) (ds all : Declared) (s : Store) (n : ℕ) → all ≡ d ∷ ds → (declare_globals all).run s n ≡ (also (declared_global d done) (λ _. declare_globals ds)).run s n
 first_run d ds all s n is = ap (λ a. (declare_globals a).run s n) is ∙ ap (λ (a : Act). a.run s n) (global_first d ds) ∙ sym (global_then d (declare_globals ds) s n)
 
-pub globals_on : (d : Option (List ℕ) × tree.Code) (ds all : Declared) (s t u : Store) (r : Result (Unit {0}) Fault) → all ≡ d ∷ ds → Does (λ _. declared_global d done) s nothing t → Gives no_value (λ _. declare_globals ds) t u r
+pub globals_on : (d : Option (List ℕ) × tree.Code) (ds all : Declared) (s t u : Store) (r : Result (Unit {0}) (Failure Value)) → all ≡ d ∷ ds → Does (λ _. declared_global d done) s nothing t → Gives no_value (λ _. declare_globals ds) t u r
     → Gives no_value (λ _. declare_globals all) s u r
 globals_on d ds all s t u (Ok x) is one rest = record { is = λ c n. first_run d ds all s n is ∙ rw (one.is c n) (rest.is c n) }
-globals_on d ds all s t u (Err (fault.Thrown v)) is one rest = record { is = λ c n. first_run d ds all s n is ∙ rw (one.is c n) (rest.is c n) }
+globals_on d ds all s t u (Err (fault.Cause v)) is one rest = record { is = λ c n. first_run d ds all s n is ∙ rw (one.is c n) (rest.is c n) }
 globals_on d ds all s t u (Err fault.OutOfMemory) is one rest = tt
 
-globals_raise : (d : Option (List ℕ) × tree.Code) (ds all : Declared) (s t : Store) (e : Fault) → all ≡ d ∷ ds → Raises (λ _. declared_global d done) s t e → Raises (λ _. declare_globals all) s t e
-globals_raise d ds all s t (fault.Thrown v) is one = record { is = λ c n. first_run d ds all s n is ∙ rw (one.is c n) refl }
+globals_raise : (d : Option (List ℕ) × tree.Code) (ds all : Declared) (s t : Store) (e : Failure Value) → all ≡ d ∷ ds → Raises (λ _. declared_global d done) s t e → Raises (λ _. declare_globals all) s t e
+globals_raise d ds all s t (fault.Cause v) is one = record { is = λ c n. first_run d ds all s n is ∙ rw (one.is c n) refl }
 globals_raise d ds all s t fault.OutOfMemory is one = tt
 
-pub globals_end : (d : Option (List ℕ) × tree.Code) (ds all : Declared) (s t : Store) (e : Fault) (r : Result (Unit {0}) Fault) → all ≡ d ∷ ds → Raises (λ _. declared_global d done) s t e → IsErr r × IsErrAnd r (λ x. x ≡ e)
+pub globals_end : (d : Option (List ℕ) × tree.Code) (ds all : Declared) (s t : Store) (e : Failure Value) (r : Result (Unit {0}) (Failure Value)) → all ≡ d ∷ ds → Raises (λ _. declared_global d done) s t e → IsErr r × IsErrAnd r (λ x. x ≡ e)
     → Gives no_value (λ _. declare_globals all) s t r
 globals_end d ds all s t e r is one h = handed (declare_globals all) s t e r (globals_raise d ds all s t e is one) h
 
 pub globals_none : (ds : Declared) (s : Store) → ds ≡ [] → Gives no_value (λ _. declare_globals ds) s s (Ok tt)
 globals_none ds s none = let P : Declared → Type 0 = λ d. Does (λ _. declare_globals d) s nothing s in subst P (sym none) (record { is = λ c n. refl })
 
-pub globals_as : (ds es : Declared) (s t : Store) (r : Result (Unit {0}) Fault) → ds ≡ es → Gives no_value (λ _. declare_globals ds) s t r → Gives no_value (λ _. declare_globals es) s t r
+pub globals_as : (ds es : Declared) (s t : Store) (r : Result (Unit {0}) (Failure Value)) → ds ≡ es → Gives no_value (λ _. declare_globals ds) s t r → Gives no_value (λ _. declare_globals es) s t r
 globals_as ds es s t r is g = let P : Declared → Type 0 = λ d. Gives no_value (λ _. declare_globals d) s t r in subst P is g
 
-pub global_named : (d : Option (List ℕ) × tree.Code) (x : List ℕ) (c : tree.Code) (k : ObjId) (s t u : Store) (r : Result (Unit {0}) Fault) → d.0 ≡ Some x → c ≡ d.1 → Does (λ _. make_function c None) s k t
+pub global_named : (d : Option (List ℕ) × tree.Code) (x : List ℕ) (c : tree.Code) (k : ObjId) (s t u : Store) (r : Result (Unit {0}) (Failure Value)) → d.0 ≡ Some x → c ≡ d.1 → Does (λ _. make_function c None) s k t
     → Gives no_value (λ _. named_global x k done) t u r → Gives no_value (λ _. declared_global d done) s u r
 global_named (None, b) x c k s t u r named is made put = cc
 global_named (Some y, b) x c k s t u r named is made put =
@@ -98,10 +98,10 @@ global_named (Some y, b) x c k s t u r named is made put =
 -- ---- where a function is put
 
 module _ (x : List ℕ) (k : ObjId) where
-  pub no_place : (s t : Store) (e : Fault) (r : Result (Unit {0}) Fault) → Raises (λ _. asking (own_global x) (function_place x)) s t e → IsErr r × IsErrAnd r (λ d. d ≡ e) → Gives no_value (λ _. named_global x k done) s t r
+  pub no_place : (s t : Store) (e : Failure Value) (r : Result (Unit {0}) (Failure Value)) → Raises (λ _. asking (own_global x) (function_place x)) s t e → IsErr r × IsErrAnd r (λ d. d ≡ e) → Gives no_value (λ _. named_global x k done) s t r
   no_place s t e r d h = failed (λ _. asking (own_global x) (function_place x)) (λ _ _. also (put_in window x (Object k)) (λ _. done)) no_value s t e r d h
 
-  pub not_put : (s t u : Store) (e : Fault) (r : Result (Unit {0}) Fault) → Does (λ _. asking (own_global x) (function_place x)) s nothing t → Raises (λ _. put_in window x (Object k)) t u e → IsErr r × IsErrAnd r (λ d. d ≡ e)
+  pub not_put : (s t u : Store) (e : Failure Value) (r : Result (Unit {0}) (Failure Value)) → Does (λ _. asking (own_global x) (function_place x)) s nothing t → Raises (λ _. put_in window x (Object k)) t u e → IsErr r × IsErrAnd r (λ d. d ≡ e)
       → Gives no_value (λ _. named_global x k done) s u r
   not_put s t u e r placed d h =
       also_gives (λ _. asking (own_global x) (function_place x)) (λ _ _. also (put_in window x (Object k)) (λ _. done)) no_value Undefined s t u r placed
@@ -114,7 +114,7 @@ module _ (x : List ℕ) (k : ObjId) where
 
 -- ---- the place of a name
 
-module _ (x : List ℕ) (s t : Store) (r : Result (Unit {0}) Fault) where
+module _ (x : List ℕ) (s t : Store) (r : Result (Unit {0}) (Failure Value)) where
   place_as : (o : Option Prop) (next : Act) → o ≡ own_global x s → function_place x o ≡ next → Gives no_value (λ _. next) s t r → Gives no_value (λ _. asking (own_global x) (function_place x)) s t r
   place_as o next is e g =
       let P : Act → Type 0 = λ a. Gives no_value (λ _. a) s t r in
@@ -154,7 +154,7 @@ defined x change o s t is none d =
     let equal : (change, o) ≡ (script_property Undefined, None) = cc in
     passed (define_at window x (script_property Undefined)) Undefined s t (subst P equal d)
 
-pub not_defined : (x : List ℕ) (change : Change) (o : Option Throw) (what : Throw) (s t u : Store) (e : Fault) → change ≡ script_property Undefined → o ≡ Some what → Does (λ _. define_at window x change) s o t → Raises (λ _. raise what) t u e
+pub not_defined : (x : List ℕ) (change : Change) (o : Option Throw) (what : Throw) (s t u : Store) (e : Failure Value) → change ≡ script_property Undefined → o ≡ Some what → Does (λ _. define_at window x change) s o t → Raises (λ _. raise what) t u e
     → Raises (λ _. define_global x) s u e
 not_defined x change o what s t u e is some d r =
     let P : Change × Option Throw → Type 0 = λ p. Does (λ _. define_at window x p.0) s p.1 t in
@@ -163,13 +163,13 @@ not_defined x change o what s t u e is some d r =
 
 -- ---- variables
 
-pub variables_on : (x : List ℕ) (xs all : List (List ℕ)) (s t u : Store) (r : Result (Unit {0}) Fault) → all ≡ x ∷ xs → Does (λ _. asking (own_global x) (variable_place x)) s nothing t → Gives no_value (λ _. global_variables xs) t u r
+pub variables_on : (x : List ℕ) (xs all : List (List ℕ)) (s t u : Store) (r : Result (Unit {0}) (Failure Value)) → all ≡ x ∷ xs → Does (λ _. asking (own_global x) (variable_place x)) s nothing t → Gives no_value (λ _. global_variables xs) t u r
     → Gives no_value (λ _. global_variables all) s u r
 variables_on x xs all s t u r is one rest =
     let P : List (List ℕ) → Type 0 = λ a. Gives no_value (λ _. global_variables a) s u r in
     subst P (sym is) (also_gives (λ _. asking (own_global x) (variable_place x)) (λ _ _. global_variables xs) no_value Undefined s t u r one rest)
 
-pub variables_end : (x : List ℕ) (xs all : List (List ℕ)) (s t : Store) (e : Fault) (r : Result (Unit {0}) Fault) → all ≡ x ∷ xs → Raises (λ _. asking (own_global x) (variable_place x)) s t e → IsErr r × IsErrAnd r (λ d. d ≡ e)
+pub variables_end : (x : List ℕ) (xs all : List (List ℕ)) (s t : Store) (e : Failure Value) (r : Result (Unit {0}) (Failure Value)) → all ≡ x ∷ xs → Raises (λ _. asking (own_global x) (variable_place x)) s t e → IsErr r × IsErrAnd r (λ d. d ≡ e)
     → Gives no_value (λ _. global_variables all) s t r
 variables_end x xs all s t e r is one h =
     let P : List (List ℕ) → Type 0 = λ a. Gives no_value (λ _. global_variables a) s t r in
@@ -178,5 +178,5 @@ variables_end x xs all s t e r is one h =
 pub variables_none : (xs : List (List ℕ)) (s : Store) → xs ≡ [] → Gives no_value (λ _. global_variables xs) s s (Ok tt)
 variables_none xs s none = let P : List (List ℕ) → Type 0 = λ a. Does (λ _. global_variables a) s nothing s in subst P (sym none) (record { is = λ c n. refl })
 
-pub variables_as : (xs ys : List (List ℕ)) (s t : Store) (r : Result (Unit {0}) Fault) → xs ≡ ys → Gives no_value (λ _. global_variables xs) s t r → Gives no_value (λ _. global_variables ys) s t r
+pub variables_as : (xs ys : List (List ℕ)) (s t : Store) (r : Result (Unit {0}) (Failure Value)) → xs ≡ ys → Gives no_value (λ _. global_variables xs) s t r → Gives no_value (λ _. global_variables ys) s t r
 variables_as xs ys s t r is g = let P : List (List ℕ) → Type 0 = λ a. Gives no_value (λ _. global_variables a) s t r in subst P is g

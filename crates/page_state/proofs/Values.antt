@@ -11,7 +11,7 @@ use Rattle.page_meaning.specs.Convert.{a_number, number_of, to_number, to_primit
 use Rattle.page_meaning.specs.Errors.{raise, settle}
 use Rattle.page_meaning.specs.Properties.{put_member, with_properties}
 use Rattle.page_meaning.specs.Store.{Store}
-use Rattle.page_state.specs.declared.fault.Fault.{Fault}
+use Rattle.js_core.specs.declared.memory.Failure.{Failure}
 use Rattle.page_state.specs.Does.{Raises, itself}
 use Rattle.page_state.proofs.Does.{also_gives, also_raises, given}
 
@@ -36,7 +36,7 @@ unset (Num n) x w h = refl
 unset (Text t) x w h = refl
 
 -- a value that has no number
-pub number_raises : (v : Value) (what : Throw) (s t : Store) (e : Fault) → Err what ≡ number_of v → Raises (λ _. raise what) s t e → Raises (λ calls. to_number calls v) s t e
+pub number_raises : (v : Value) (what : Throw) (s t : Store) (e : Failure Value) → Err what ≡ number_of v → Raises (λ _. raise what) s t e → Raises (λ calls. to_number calls v) s t e
 number_raises (Object o) what s t e h r =
     let i : what ≡ NoPrimitive = cc in also_raises (λ calls. to_primitive calls a_number (Object o)) (λ _ p. settle (number_of p)) s t e (rw i at r)
 number_raises Undefined what s t e h r = absurd (cc h)

@@ -4,7 +4,7 @@ use Rattle.js_values.specs.declared.value.Value.{Value}
 use Rattle.page_meaning.specs.declared.signal.Signal.TheVariants.{Value as Val, Thrown}
 use Rattle.page_meaning.specs.Act.{Act, ActOf, Calls, Outcome, Ended, Stopped}
 use Rattle.page_meaning.specs.Store.{Store}
-use Rattle.page_state.specs.declared.fault.Fault.TheVariants as fault
+use Rattle.js_core.specs.declared.memory.Failure.TheVariants as fault
 use Rattle.page_state.specs.declared.turns.Halt.{Halt}
 use Rattle.page_state.specs.declared.turns.Halt.TheVariants as halt
 
@@ -19,7 +19,7 @@ pub record Comes {A : Type 0} (act : Calls → ActOf A) (s : Store) (n : ℕ) (o
 
 -- it throws this or stops; nothing is said where memory ran out
 abbrev pub Halts : (Calls → Act) → Store → ℕ → Store → ℕ → Halt → Type 0
-Halts act s n t m (halt.Fault (fault.Thrown v)) = Comes act s n (Ended (Thrown v) t m)
+Halts act s n t m (halt.Fault (fault.Cause v)) = Comes act s n (Ended (Thrown v) t m)
 Halts act s n t m (halt.Fault fault.OutOfMemory) = Unit {0}
 Halts act s n t m halt.Stopped = Comes act s n (Stopped t)
 
@@ -31,6 +31,6 @@ Ends f act s n t m (Err e) = Halts act s n t m e
 -- it tells this, or stops; it throws nothing
 abbrev pub Tells : {A : Type 0} → (Calls → ActOf A) → Store → ℕ → Store → ℕ → Result A Halt → Type 0
 Tells act s n t m (Ok a) = Comes act s n (Ended a t m)
-Tells act s n t m (Err (halt.Fault (fault.Thrown v))) = ⊥
+Tells act s n t m (Err (halt.Fault (fault.Cause v))) = ⊥
 Tells act s n t m (Err (halt.Fault fault.OutOfMemory)) = Unit {0}
 Tells act s n t m (Err halt.Stopped) = Comes act s n (Stopped t)

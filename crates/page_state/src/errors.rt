@@ -23,7 +23,7 @@ impl State {
         ensures { Raises (λ _. spec_raise what) self.old self.new result }
     {
         match self.make_error(&what) {
-            Ok(at) => Fault::Thrown(Value::Object(at)),
+            Ok(at) => Fault::Cause(Value::Object(at)),
             Err(_) => Fault::OutOfMemory,
         }
     }

@@ -299,7 +299,7 @@ fn define_method(
     match heap.define_own(at, &name, &change) {
         Ok(()) => Ok(()),
         Err(HeapFault::OutOfMemory) => Err(OutOfMemory),
-        Err(HeapFault::Throw(_)) => unreachable!(),
+        Err(HeapFault::Cause(_)) => unreachable!(),
     }
 }
 

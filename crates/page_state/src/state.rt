@@ -227,7 +227,7 @@ fn refusal(answer: Result<(), HeapFault>) -> Result<Option<Throw>, OutOfMemory>
 {
     match answer {
         Ok(()) => Ok(None),
-        Err(HeapFault::Throw(what)) => Ok(Some(what)),
+        Err(HeapFault::Cause(what)) => Ok(Some(what)),
         Err(HeapFault::OutOfMemory) => Err(OutOfMemory),
     }
 }

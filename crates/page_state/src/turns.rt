@@ -26,7 +26,7 @@ impl From<Fault> for Halt {
 
 impl From<js_core::OutOfMemory> for Halt {
     ghost use Rattle.std.specs.Prelude.{◌≡◌};
-    ghost use Rattle.page_state.specs.declared.fault.Fault.TheVariants as fault;
+    ghost use Rattle.js_core.specs.declared.memory.Failure.TheVariants as fault;
     ghost use Rattle.page_state.specs.declared.turns.Halt.TheVariants as halt;
 
     ghost from_gives = { λ _ e. e ≡ halt.Fault fault.OutOfMemory };

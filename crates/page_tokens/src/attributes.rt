@@ -1,6 +1,7 @@
 //! The attributes of a start tag.
 
-ghost use Rattle.std.specs.Prelude.{◌≡◌, ◌<◌, ◌≤◌, ℕ, List, length, IfOk, IfSome, IsErrOf, MatchOption, None, Some};
+ghost use Rattle.std.specs.Prelude.{◌≡◌, ◌<◌, ◌≤◌, ℕ, List, length, IfOk, IfSome, MatchOption, None, Some};
+ghost use Rattle.js_core.specs.Memory.{IfCause};
 ghost use Rattle.dom_tree.specs.Name.{folded as folded_name};
 ghost use Rattle.page_tokens.specs.Attributes as spec;
 ghost use Rattle.page_tokens.specs.Attributes.{Attributes};
@@ -21,8 +22,8 @@ use std::alloc::Global;
 pub fn attributes(alloc: Global, text: &[u16]) -> Result<(AttributeList, &[u16]), TokenFault>
     ensures read { IfOk result (λ split. Attributes text.now split.1.now split.0) }
     ensures within { IfOk result (λ split. length split.1.now ≤ length text.now) }
-    ensures refused { IsErrOf result TokenFault.NotTokens → (rest : List ℕ) (all : List (List ℕ
-        × List ℕ)) → Attributes text.now rest all → ⊥ }
+    ensures refused { IfCause result (λ _. (rest : List ℕ) (all : List (List ℕ
+        × List ℕ)) → Attributes text.now rest all → ⊥) }
 {
     let mut all = AttributeList::new(alloc);
     let mut rest = text;

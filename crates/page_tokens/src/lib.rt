@@ -13,7 +13,7 @@ mod tests;
 mod token;
 mod tokens;
 
-pub use fault::TokenFault;
+pub use fault::{NotTokens, TokenFault};
 pub use laws::{law_one_reading, law_tokens_stay};
 pub use token::{AttributeList, PageToken, RawText, Tag};
 pub use tokens::tokens_of;

@@ -1,14 +1,15 @@
 //! Character references in text and in values.
 
-ghost use Rattle.std.specs.Prelude.{◌≡◌, ◌<◌, ◌≤◌, ℕ, List, length, IfOk, IfSome, IsErrOf, OnOk, MatchOption, None, Some, bytes_eq, true, false, ◌++◌};
+ghost use Rattle.std.specs.Prelude.{◌≡◌, ◌<◌, ◌≤◌, ℕ, List, length, IfOk, IfSome, OnOk, MatchOption, None, Some, bytes_eq, true, false, ◌++◌};
 ghost use Rattle.std.specs.Char.Escape.{encode_utf16};
 ghost use Rattle.std.specs.Str.Parse.{digits_value};
+ghost use Rattle.js_core.specs.Memory.{IfCause};
 ghost use Rattle.page_tokens.specs.Characters as characters;
 ghost use Rattle.page_tokens.specs.References as spec;
 ghost use Rattle.page_tokens.specs.References.{Decodes};
 
 use crate::characters::{begins_with, digit_value, digits_len, word_len};
-use crate::fault::TokenFault;
+use crate::fault::{NotTokens, TokenFault};
 use js_core::Units;
 use std::alloc::Global;
 
@@ -16,10 +17,11 @@ use std::alloc::Global;
 const LARGEST: u32 = 0x10ffff;
 
 /// What a text with references stands for. `NotTokens` where one of them stands for nothing.
+#[tactic(auto, using(crate::proofs::Decoding::decoding_refused))]
 pub fn decoded(alloc: Global, text: &[u16]) -> Result<Units, TokenFault>
     ensures read { IfOk result (λ value. Decodes text.now value) }
-    ensures refused { IsErrOf result TokenFault.NotTokens → (value : List ℕ)
-        → Decodes text.now value → ⊥ }
+    ensures refused { IfCause result (λ _. (value : List ℕ)
+        → Decodes text.now value → ⊥) }
 {
     let mut units = Vec::new(alloc);
     let mut rest = text;
@@ -37,17 +39,17 @@ fn push_piece<'a>(text: &'a [u16], units: &mut Vec<u16>) -> Result<&'a [u16], To
         × (spec.piece_of text.now ≡ Some (piece, rest.now))
         × (units.new.items ≡ units.old.items ++ piece)) }
     ensures shorter { IfOk result (λ rest. length rest.now < length text.now) }
-    ensures refused { IsErrOf result TokenFault.NotTokens → spec.piece_of text.now ≡ None }
+    ensures refused { IfCause result (λ _. spec.piece_of text.now ≡ None) }
 {
     let [unit, behind @ ..] = text else {
-        return Err(TokenFault::NotTokens);
+        return Err(TokenFault::Cause(NotTokens));
     };
     if *unit != u16::from(b'&') {
         units.push(*unit)?;
         return Ok(behind);
     }
     let Some((character, rest)) = reference(behind) else {
-        return Err(TokenFault::NotTokens);
+        return Err(TokenFault::Cause(NotTokens));
     };
     push_character(character, units)?;
     Ok(rest)
@@ -56,7 +58,7 @@ fn push_piece<'a>(text: &'a [u16], units: &mut Vec<u16>) -> Result<&'a [u16], To
 /// Appends the units of a character.
 fn push_character(character: char, units: &mut Vec<u16>) -> Result<(), TokenFault>
     ensures ok { OnOk result (units.new.items ≡ units.old.items ++ encode_utf16 character) }
-    ensures refused { IsErrOf result TokenFault.NotTokens → ⊥ }
+    ensures refused { IfCause result (λ _. ⊥) }
 {
     let mut pair = [0; 2];
     units.extend_from_slice(character.encode_utf16(&mut pair))?;

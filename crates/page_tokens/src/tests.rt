@@ -1,6 +1,6 @@
 //! Whole texts and their tokens.
 
-use crate::fault::TokenFault;
+use crate::fault::{NotTokens, TokenFault};
 use crate::token::{PageToken, Tag};
 use crate::tokens::tokens_of;
 use js_core::Units;
@@ -86,7 +86,10 @@ fn refuses(rt: &(impl Abort + AllocGlobal), texts: &[&str]) -> Result<(), Fail> 
     for text in texts {
         let units = Units::from_utf8(rt.alloc(), *text)?;
         let found = tokens_of(rt.alloc(), units.as_slice());
-        assert!(rt; matches!(&found, Err(TokenFault::NotTokens)), "{text}");
+        assert!(rt;
+            matches!(&found, Err(TokenFault::Cause(NotTokens))),
+            "{text}"
+        );
     }
     Ok(())
 }

@@ -1,6 +1,7 @@
 //! The tokens of a page's text.
 
-ghost use Rattle.std.specs.Prelude.{◌≡◌, ◌+◌, ◌<◌, ◌≤◌, ℕ, List, length, IfOk, IsErrOf};
+ghost use Rattle.std.specs.Prelude.{◌≡◌, ◌+◌, ◌<◌, ◌≤◌, ℕ, List, length, IfOk};
+ghost use Rattle.js_core.specs.Memory.{IfCause};
 ghost use Rattle.page_tokens.specs.declared.opening.Opening.TheVariants as opens;
 ghost use Rattle.page_tokens.specs.declared.token.PageToken.{PageToken as PureToken};
 ghost use Rattle.page_tokens.specs.declared.token.Tag.{Tag as PureTag};
@@ -9,7 +10,7 @@ ghost use Rattle.page_tokens.specs.Tokens.{StartTagAt, TokenAt, Tokens, begins_r
 
 use crate::attributes::{attributes, folded};
 use crate::characters::{is_blank, len_before, name_len, without};
-use crate::fault::TokenFault;
+use crate::fault::{NotTokens, TokenFault};
 use crate::opening::{Opening, opening_of};
 use crate::references::decoded;
 use crate::tags::{comment, doctype, end_tag, has_raw_text, raw_text, tag_end};
@@ -21,10 +22,11 @@ use std::alloc::Global;
 const LESS_THAN: u16 = 0x3c;
 
 /// The tokens of a page's text, in order. `NotTokens` where the text has no such reading. The time is linear in the text.
+#[tactic(auto, using(crate::proofs::AllTokens::tokens_refused))]
 pub fn tokens_of(alloc: Global, text: &[u16]) -> Result<Vec<PageToken>, TokenFault>
     ensures read { IfOk result (λ tokens. Tokens text.now tokens.items) }
-    ensures refused { IsErrOf result TokenFault.NotTokens → (tokens : List PureToken)
-        → Tokens text.now tokens → ⊥ }
+    ensures refused { IfCause result (λ _. (tokens : List PureToken)
+        → Tokens text.now tokens → ⊥) }
 {
     let mut tokens = Vec::new(alloc);
     let mut rest = text;
@@ -42,8 +44,8 @@ fn token(alloc: Global, size: usize, text: &[u16]) -> Result<(PageToken, &[u16])
     requires part { length text.now ≤ size }
     ensures read { IfOk result (λ split. TokenAt size text.now split.1.now split.0) }
     ensures shorter { IfOk result (λ split. length split.1.now < length text.now) }
-    ensures refused { IsErrOf result TokenFault.NotTokens → (rest : List ℕ) (token : PureToken)
-        → TokenAt size text.now rest token → ⊥ }
+    ensures refused { IfCause result (λ _. (rest : List ℕ) (token : PureToken)
+        → TokenAt size text.now rest token → ⊥) }
 {
     match opening_of(text) {
         Opening::Characters => text_token(alloc, size, text),
@@ -51,18 +53,19 @@ fn token(alloc: Global, size: usize, text: &[u16]) -> Result<(PageToken, &[u16])
         Opening::EndTag => end_tag_token(alloc, size, text),
         Opening::Comment => comment_token(alloc, size, text),
         Opening::Doctype => doctype_token(size, text),
-        Opening::Nothing => Err(TokenFault::NotTokens),
+        Opening::Nothing => Err(TokenFault::Cause(NotTokens)),
     }
 }
 
+#[tactic(auto, using(crate::proofs::OneToken::text_refused))]
 fn text_token(alloc: Global, size: usize, text: &[u16]) -> Result<(PageToken, &[u16]), TokenFault>
     requires some { 0 < length text.now }
     requires part { length text.now ≤ size }
     requires opens { opening_spec text.now ≡ opens.Characters }
     ensures read { IfOk result (λ split. TokenAt size text.now split.1.now split.0) }
     ensures shorter { IfOk result (λ split. length split.1.now < length text.now) }
-    ensures refused { IsErrOf result TokenFault.NotTokens → (rest : List ℕ) (token : PureToken)
-        → TokenAt size text.now rest token → ⊥ }
+    ensures refused { IfCause result (λ _. (rest : List ℕ) (token : PureToken)
+        → TokenAt size text.now rest token → ⊥) }
 {
     let (run, behind) = text.split_at(len_before(LESS_THAN, text));
     if is_blank(run) {
@@ -77,12 +80,12 @@ fn doctype_token(size: usize, text: &[u16]) -> Result<(PageToken, &[u16]), Token
     requires opens { opening_spec text.now ≡ opens.Doctype }
     ensures read { IfOk result (λ split. TokenAt size text.now split.1.now split.0) }
     ensures shorter { IfOk result (λ split. length split.1.now < length text.now) }
-    ensures refused { IsErrOf result TokenFault.NotTokens → (rest : List ℕ) (token : PureToken)
-        → TokenAt size text.now rest token → ⊥ }
+    ensures refused { IfCause result (λ _. (rest : List ℕ) (token : PureToken)
+        → TokenAt size text.now rest token → ⊥) }
 {
     match doctype(without(9, text)) {
         Some(behind) => Ok((PageToken::Doctype, behind)),
-        None => Err(TokenFault::NotTokens),
+        None => Err(TokenFault::Cause(NotTokens)),
     }
 }
 
@@ -96,12 +99,12 @@ fn comment_token(
     requires opens { opening_spec text.now ≡ opens.Comment }
     ensures read { IfOk result (λ split. TokenAt size text.now split.1.now split.0) }
     ensures shorter { IfOk result (λ split. length split.1.now < length text.now) }
-    ensures refused { IsErrOf result TokenFault.NotTokens → (rest : List ℕ) (token : PureToken)
-        → TokenAt size text.now rest token → ⊥ }
+    ensures refused { IfCause result (λ _. (rest : List ℕ) (token : PureToken)
+        → TokenAt size text.now rest token → ⊥) }
 {
     match comment(without(4, text)) {
         Some((inner, behind)) => Ok((PageToken::Comment(Units::of(alloc, inner)?), behind)),
-        None => Err(TokenFault::NotTokens),
+        None => Err(TokenFault::Cause(NotTokens)),
     }
 }
 
@@ -115,15 +118,16 @@ fn end_tag_token(
     requires opens { opening_spec text.now ≡ opens.EndTag }
     ensures read { IfOk result (λ split. TokenAt size text.now split.1.now split.0) }
     ensures shorter { IfOk result (λ split. length split.1.now < length text.now) }
-    ensures refused { IsErrOf result TokenFault.NotTokens → (rest : List ℕ) (token : PureToken)
-        → TokenAt size text.now rest token → ⊥ }
+    ensures refused { IfCause result (λ _. (rest : List ℕ) (token : PureToken)
+        → TokenAt size text.now rest token → ⊥) }
 {
     match end_tag(without(2, text)) {
         Some((name, behind)) => Ok((PageToken::EndTag(folded(alloc, name)?), behind)),
-        None => Err(TokenFault::NotTokens),
+        None => Err(TokenFault::Cause(NotTokens)),
     }
 }
 
+#[tactic(auto, using(crate::proofs::OneToken::element_refused))]
 fn element_token(
     alloc: Global,
     size: usize,
@@ -134,15 +138,15 @@ fn element_token(
     requires opens { opening_spec text.now ≡ opens.StartTag }
     ensures read { IfOk result (λ split. TokenAt size text.now split.1.now split.0) }
     ensures shorter { IfOk result (λ split. length split.1.now < length text.now) }
-    ensures refused { IsErrOf result TokenFault.NotTokens → (rest : List ℕ) (token : PureToken)
-        → TokenAt size text.now rest token → ⊥ }
+    ensures refused { IfCause result (λ _. (rest : List ℕ) (token : PureToken)
+        → TokenAt size text.now rest token → ⊥) }
 {
     let (tag, behind) = start_tag(alloc, text)?;
     if !begins_raw_text(&tag) {
         return Ok((PageToken::StartTag(tag), behind));
     }
     let Some((inner, rest)) = raw_text(tag.name.as_slice(), behind) else {
-        return Err(TokenFault::NotTokens);
+        return Err(TokenFault::Cause(NotTokens));
     };
     let start = (size - behind.len()) as u64;
     let text = Units::of(alloc, inner)?;
@@ -163,14 +167,14 @@ fn start_tag(alloc: Global, text: &[u16]) -> Result<(Tag, &[u16]), TokenFault>
     requires opens { opening_spec text.now ≡ opens.StartTag }
     ensures read { IfOk result (λ split. StartTagAt text.now split.1.now split.0) }
     ensures shorter { IfOk result (λ split. length split.1.now < length text.now) }
-    ensures refused { IsErrOf result TokenFault.NotTokens → (rest : List ℕ) (tag : PureTag)
-        → StartTagAt text.now rest tag → ⊥ }
+    ensures refused { IfCause result (λ _. (rest : List ℕ) (tag : PureTag)
+        → StartTagAt text.now rest tag → ⊥) }
 {
     let inner = without(1, text);
     let (name, behind) = inner.split_at(name_len(inner));
     let (attributes, end) = attributes(alloc, behind)?;
     let Some((closed, rest)) = tag_end(end) else {
-        return Err(TokenFault::NotTokens);
+        return Err(TokenFault::Cause(NotTokens));
     };
     let name = folded(alloc, name)?;
     Ok((

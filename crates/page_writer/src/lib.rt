@@ -11,5 +11,5 @@ mod values;
 mod writing;
 
 pub use laws::{law_pages_are_short, law_saved_scripts_are_form, law_statements_are_syntax};
-pub use save_fault::SaveFault;
+pub use save_fault::{NotSaved, SaveFault};
 pub use writing::{write_state, write_walked};

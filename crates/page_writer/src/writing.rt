@@ -2,6 +2,7 @@
 
 ghost use Rattle.std.specs.Prelude.{◌≡◌, Err, OnOk};
 ghost use Rattle.heap_walker.specs.Weight.{load_of, told};
+ghost use Rattle.js_core.specs.declared.memory.Failure.TheVariants as fault;
 ghost use Rattle.page_io.specs.Faults.{CountsFaults};
 ghost use Rattle.rebuild_plan.specs.Compact.{compact};
 ghost use Rattle.rebuild_plan.specs.Plan.{plan};
@@ -11,7 +12,7 @@ ghost use Rattle.page_writer.specs.Putting.{Puts};
 ghost use Rattle.page_writer.specs.Sizes.{IsSaved, Judged};
 
 use crate::literals::tell_plan;
-use crate::save_fault::SaveFault;
+use crate::save_fault::{NotSaved, SaveFault};
 use crate::statements::push_statement;
 use heap_walker::{Walked, walk, weight_of};
 use js_core::{OutOfMemory, SAVED_TEXT_LIMIT, SAVED_THINGS_LIMIT};
@@ -32,7 +33,7 @@ const TAIL: &[u8] = b"}</script></html>";
 pub fn write_state<O: Sink>(state: &State, out: &mut O) -> Result<(), SaveFault>
     ensures saved { IsSaved state.now (O.seen out.old) (O.seen out.new) result }
     ensures written { OnOk result (CanBeWritten state.now) }
-    ensures counts { CountsFaults SaveFault.WriteFault
+    ensures counts { CountsFaults (fault.Cause NotSaved.WriteFault)
         (O.seen out.old).faults (O.seen out.new).faults result }
 {
     let walked = walk(state)?;
@@ -45,17 +46,17 @@ pub fn write_walked<O: Sink>(state: &State, walked: &Walked, out: &mut O) -> Res
         (O.seen out.new) (saved_page state.now walked.now.things.keys) result }
     ensures written { OnOk result
         (HaveLiterals (plan (compact state.now walked.now.things.keys))) }
-    ensures begun { result ≡ Err SaveFault.WriteFault
+    ensures begun { result ≡ Err (fault.Cause NotSaved.WriteFault)
         → HaveLiterals (plan (compact state.now walked.now.things.keys)) }
-    ensures counts { CountsFaults SaveFault.WriteFault
+    ensures counts { CountsFaults (fault.Cause NotSaved.WriteFault)
         (O.seen out.old).faults (O.seen out.new).faults result }
 {
     let weight = weight_of(state, walked)?;
     if weight.things > SAVED_THINGS_LIMIT {
-        return Err(SaveFault::TooMany(weight));
+        return Err(SaveFault::Cause(NotSaved::TooMany(weight)));
     }
     if weight.text > SAVED_TEXT_LIMIT {
-        return Err(SaveFault::TooLong(weight));
+        return Err(SaveFault::Cause(NotSaved::TooLong(weight)));
     }
     write_plan(state, walked, out)
 }
@@ -65,7 +66,7 @@ fn write_plan<O: Sink>(state: &State, walked: &Walked, out: &mut O) -> Result<()
         (saved_page state.now walked.now.things.keys) result }
     ensures written { OnOk result
         (HaveLiterals (plan (compact state.now walked.now.things.keys))) }
-    ensures begun { result ≡ Err SaveFault.WriteFault
+    ensures begun { result ≡ Err (fault.Cause NotSaved.WriteFault)
         → HaveLiterals (plan (compact state.now walked.now.things.keys)) }
 {
     let plan = plan(state, walked)?;
@@ -130,6 +131,6 @@ fn put<O: Sink>(piece: &[u8], out: &mut O) -> Result<(), SaveFault>
 {
     match out.put(piece) {
         Ok(()) => Ok(()),
-        Err(PutFault::Failed) => Err(SaveFault::WriteFault),
+        Err(PutFault::Failed) => Err(SaveFault::Cause(NotSaved::WriteFault)),
     }
 }

@@ -10,9 +10,9 @@ ghost use Rattle.script_lines.specs.Answers.{IsAnswer};
 mod answer;
 
 use answer::Answer;
-use expression_parser::ParseFault;
+use expression_parser::{NotScript, ParseFault};
 use js_core::{OutOfMemory, Units};
-use js_lexer::{LexFault, law_one_reading, tokens};
+use js_lexer::{LexFault, NotTokens, law_one_reading, tokens};
 use js_print::print;
 use script_parser::script;
 use std::alloc::Global;
@@ -27,12 +27,12 @@ fn answer_to(alloc: Global, line: &str) -> Result<Answer, OutOfMemory>
     let text = Units::from_utf8(alloc, line)?;
     let tokens = match tokens(alloc, &text) {
         Ok(tokens) => tokens,
-        Err(LexFault::NotTokens) => return Ok(Answer::Refused),
+        Err(LexFault::Cause(NotTokens)) => return Ok(Answer::Refused),
         Err(LexFault::OutOfMemory) => return Err(OutOfMemory),
     };
     let script = match script(alloc, tokens.as_slice()) {
         Ok(script) => script,
-        Err(ParseFault::NotScript) => return Ok(Answer::Refused),
+        Err(ParseFault::Cause(NotScript)) => return Ok(Answer::Refused),
         Err(ParseFault::OutOfMemory) => return Err(OutOfMemory),
     };
     let mut printed = Vec::new(alloc);

@@ -4,7 +4,7 @@ use Rattle.js_core.specs.Tree as tree
 use Rattle.js_core.specs.Tree.{stmts_of}
 use Rattle.js_core.specs.declared.token.Token.{Token}
 use Rattle.js_grammar.specs.Parser.{Outcome}
-use Rattle.js_grammar.specs.ScriptReader.{read_script, whole}
+use Rattle.js_grammar.specs.ScriptReader.{read_script, room_of, whole}
 use Rattle.js_grammar.specs.Scripts.{height_limit}
 use Rattle.js_grammar.specs.Symbols.{lexemes, Lexeme}
 use Rattle.expression_parser.specs.declared.nesting.Nesting.{Nesting}
@@ -12,7 +12,7 @@ use Rattle.expression_parser.specs.Inside.{limit, body_in}
 
 -- how deep the parts of these tokens may nest
 abbrev pub outermost : List Token → Nesting
-outermost tokens = record { room = 882; all = length tokens + 1 }
+outermost tokens = record { room = room_of height_limit; all = length tokens + 1 }
 
 pub read_as : (tokens : List Token) (o : Outcome (List tree.Stmt)) → body_in (outermost tokens) (lexemes tokens) ≡ o → read_script height_limit tokens ≡ whole o
 unfolding body_in limit read_script

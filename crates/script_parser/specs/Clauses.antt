@@ -6,8 +6,9 @@ use Rattle.js_core.specs.declared.syntax.Case.{Case}
 use Rattle.js_grammar.specs.Parser.{Outcome}
 use Rattle.js_grammar.specs.Statements.{Clause}
 use Rattle.js_grammar.specs.Symbols.{Lexeme}
-use Rattle.expression_parser.specs.declared.fault.ParseFault.{ParseFault}
-use Rattle.expression_parser.specs.declared.fault.ParseFault.TheVariants.{OutOfMemory}
+use Rattle.js_core.specs.declared.memory.Failure.{Failure}
+use Rattle.expression_parser.specs.declared.fault.NotScript.{NotScript}
+use Rattle.js_core.specs.declared.memory.Failure.TheVariants.{OutOfMemory}
 
 abbrev pub clause_of : Case → Clause
 clause_of c = (c.test, c.body.items)
@@ -17,11 +18,11 @@ clauses_of [] = []
 clauses_of (c ∷ cs) = clause_of c ∷ clauses_of cs
 
 -- the reader's clause and the lexemes behind it, unless memory fails
-abbrev pub ReadsClause : Outcome Clause → Result Case ParseFault → List Lexeme → Type 0
+abbrev pub ReadsClause : Outcome Clause → Result Case (Failure NotScript) → List Lexeme → Type 0
 ReadsClause outcome (Ok c) new = outcome ≡ Some (clause_of c, new)
 ReadsClause outcome (Err e) new = e ≢ OutOfMemory → outcome ≡ None
 
 -- the same of a list
-abbrev pub ReadsClauses : Outcome (List Clause) → Result (Vec Case Global) ParseFault → List Lexeme → Type 0
+abbrev pub ReadsClauses : Outcome (List Clause) → Result (Vec Case Global) (Failure NotScript) → List Lexeme → Type 0
 ReadsClauses outcome (Ok found) new = outcome ≡ Some (clauses_of found.items, new)
 ReadsClauses outcome (Err e) new = e ≢ OutOfMemory → outcome ≡ None

@@ -9,7 +9,7 @@ ghost use Rattle.js_grammar.specs.Endings as spec;
 ghost use Rattle.js_grammar.specs.StatementReader as reader;
 ghost use Rattle.expression_parser.specs.Reads.{Reads};
 
-use expression_parser::{Cursor, ParseFault};
+use expression_parser::{Cursor, NotScript, ParseFault};
 use js_core::{Declarator, Keyword, Punct};
 use js_grammar::{Ending, Sign};
 
@@ -28,7 +28,7 @@ pub fn ended(tokens: &mut Cursor<'_>, ending: Ending) -> Result<(), ParseFault>
     if may_end(tokens, ending) {
         Ok(())
     } else {
-        Err(ParseFault::NotScript)
+        Err(ParseFault::Cause(NotScript))
     }
 }
 

@@ -8,7 +8,7 @@ ghost use Rattle.expression_parser.specs.Reads.{Reads};
 
 use crate::inner::{Statements, body_of};
 use crate::node::node;
-use expression_parser::{Cursor, Inside, ParseFault, prefix_of};
+use expression_parser::{Cursor, Inside, NotScript, ParseFault, prefix_of};
 use js_core::{Declarator, Expr, ExprNode, ForInit, Keyword, Punct, Stmt, StmtNode};
 use js_grammar::{Prefix, Sign};
 
@@ -91,7 +91,7 @@ impl<I: Inside> Statements<I> {
     {
         let Declarator { name, value } = declarator;
         if value.is_some() {
-            return Err(ParseFault::NotScript);
+            return Err(ParseFault::Cause(NotScript));
         }
         let target = Expr::new(ExprNode::Name(name));
         self.for_in(true, target, tokens)
@@ -109,10 +109,10 @@ impl<I: Inside> Statements<I> {
             tokens.old) result tokens.new }
     {
         let Some(declarator) = found.pop() else {
-            return Err(ParseFault::NotScript);
+            return Err(ParseFault::Cause(NotScript));
         };
         if !found.is_empty() {
-            return Err(ParseFault::NotScript);
+            return Err(ParseFault::Cause(NotScript));
         }
         self.for_in_by(declarator, tokens)
     }

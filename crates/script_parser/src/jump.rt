@@ -7,7 +7,7 @@ ghost use Rattle.expression_parser.specs.Reads.{Reads};
 use crate::ending::{READ_EXPRESSION, ended, returns};
 use crate::inner::Statements;
 use crate::node::node;
-use expression_parser::{Cursor, Inside, ParseFault};
+use expression_parser::{Cursor, Inside, NotScript, ParseFault};
 use js_core::{Stmt, StmtNode};
 use js_grammar::Ending;
 
@@ -75,7 +75,7 @@ impl<I: Inside> Statements<I> {
             result tokens.new }
     {
         if !tokens.same_line() {
-            return Err(ParseFault::NotScript);
+            return Err(ParseFault::Cause(NotScript));
         }
         self.thrown(tokens)
     }

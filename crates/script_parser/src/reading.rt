@@ -1,6 +1,7 @@
 //! Whole scripts (ECMA-262 5.1 section 14).
 
-ghost use Rattle.std.specs.Prelude.{◌≡◌, ◌<◌, ◌≤◌, true, false, IfOk, IsErrOf};
+ghost use Rattle.std.specs.Prelude.{◌≡◌, ◌<◌, ◌≤◌, true, false, IfOk};
+ghost use Rattle.js_core.specs.Memory.{IfCause};
 ghost use Rattle.js_core.specs.Tree as tree;
 ghost use Rattle.js_grammar.specs.Parser.{sees};
 ghost use Rattle.js_grammar.specs.ScriptReader.{read_script};
@@ -13,7 +14,9 @@ ghost use Rattle.script_parser.specs.Whole.{GivesBody};
 
 use crate::functions::Functions;
 use crate::phrase::{any_statement, elements};
-use expression_parser::{Cursor, Nesting, ParseFault, closed_group, expression_at_level, sequence};
+use expression_parser::{
+    Cursor, Nesting, NotScript, ParseFault, closed_group, expression_at_level, sequence,
+};
 use js_core::{Expr, HEIGHT_LIMIT, Punct, Script, Stmt, Token};
 use js_grammar::{Level, Sign, law_one_script, law_reading_is_the_grammar};
 use std::alloc::Global;
@@ -30,8 +33,8 @@ pub fn script(alloc: Global, tokens: &[Token]) -> Result<Script, ParseFault>
     ensures only { IfOk result (λ script. (other : tree.Stmts) → Derives tokens.now other → other
         ≡ script) }
     // Tokens that are refused have no script.
-    ensures refused { IsErrOf result ParseFault.NotScript → (script : tree.Stmts)
-        → ScriptOf height_limit tokens.now script → ⊥ }
+    ensures refused { IfCause result (λ _. (script : tree.Stmts)
+        → ScriptOf height_limit tokens.now script → ⊥) }
 {
     law_reading_is_the_grammar();
     law_one_script();
@@ -54,7 +57,7 @@ fn read(alloc: Global, tokens: &[Token]) -> Result<Vec<Stmt>, ParseFault>
     };
     let body = body_inside(alloc, depth, &mut cursor)?;
     if cursor.left() > 0 {
-        return Err(ParseFault::NotScript);
+        return Err(ParseFault::Cause(NotScript));
     }
     Ok(body)
 }
@@ -85,7 +88,7 @@ fn expression_inside(
     ensures { Reads (expression_in depth inn level tokens.old) result tokens.new }
 {
     if !has_room(depth) {
-        return Err(ParseFault::NotScript);
+        return Err(ParseFault::Cause(NotScript));
     }
     if may_open(level, inn) {
         return sequence_inside(alloc, depth, tokens);
@@ -117,7 +120,7 @@ fn sequence_inside(
 {
     let opened = open_groups(depth, tokens);
     if opened == depth.all {
-        return Err(ParseFault::NotScript);
+        return Err(ParseFault::Cause(NotScript));
     }
     let mut inner = innermost_inside(alloc, depth.in_groups(opened), tokens)?;
     for closed in 0..opened {
@@ -190,7 +193,7 @@ fn body_inside(
     ensures { ReadsAll (body_in depth tokens.old) result tokens.new }
 {
     if !has_room(depth) {
-        return Err(ParseFault::NotScript);
+        return Err(ParseFault::Cause(NotScript));
     }
     elements(
         alloc,
@@ -214,7 +217,7 @@ fn statement_inside(
     ensures { Reads (statement_in depth tokens.old) result tokens.new }
 {
     if !has_room(depth) {
-        return Err(ParseFault::NotScript);
+        return Err(ParseFault::Cause(NotScript));
     }
     any_statement(
         alloc,

@@ -11,7 +11,7 @@ ghost use Rattle.script_parser.specs.Beginnings.{begins, statement_behind};
 use crate::ending::has_more;
 use crate::inner::Statements;
 use crate::node::node;
-use expression_parser::{Cursor, Inside, ParseFault, many};
+use expression_parser::{Cursor, Inside, NotScript, ParseFault, many};
 use js_core::{Keyword, Punct, Stmt, StmtNode};
 use js_grammar::Sign;
 use std::rc::Rc;
@@ -55,7 +55,7 @@ impl<I: Inside> Statements<I> {
             Keyword::Throw => self.throw(tokens),
             Keyword::Try => self.tried(tokens),
             Keyword::Switch => self.switch(tokens),
-            _ => Err(ParseFault::NotScript),
+            _ => Err(ParseFault::Cause(NotScript)),
         }
     }
 
@@ -71,7 +71,7 @@ impl<I: Inside> Statements<I> {
             return self.statement_behind(word, tokens);
         }
         if word == Keyword::Function {
-            return Err(ParseFault::NotScript);
+            return Err(ParseFault::Cause(NotScript));
         }
         self.expressed(tokens)
     }

@@ -12,7 +12,7 @@ ghost use Rattle.script_parser.specs.Clauses.{ReadsClause, ReadsClauses, clauses
 use crate::ending::{has_more, has_more_in_clause};
 use crate::inner::Statements;
 use crate::node::node;
-use expression_parser::{Cursor, Inside, ParseFault, many};
+use expression_parser::{Cursor, Inside, NotScript, ParseFault, many};
 use js_core::{Case, Expr, Keyword, Punct, Stmt, StmtNode};
 use js_grammar::Sign;
 
@@ -74,7 +74,7 @@ impl<I: Inside> Statements<I> {
                 tokens.skip();
                 self.default(tokens)
             }
-            _ => Err(ParseFault::NotScript),
+            _ => Err(ParseFault::Cause(NotScript)),
         }
     }
 
@@ -108,7 +108,7 @@ impl<I: Inside> Statements<I> {
             (clauses_of cases.items) tokens.old) result tokens.new }
     {
         if !has_one_default(cases.as_slice()) {
-            return Err(ParseFault::NotScript);
+            return Err(ParseFault::Cause(NotScript));
         }
         node(StmtNode::Switch(value, cases), tokens)
     }

@@ -1,9 +1,9 @@
 //! Why a page is not saved.
 
-use event_file::EventFault;
+use event_file::{EventFault, NotEvents};
 use js_core::OutOfMemory;
 use page_check::AcceptFault;
-use page_writer::SaveFault;
+use page_writer::{NotSaved, SaveFault};
 use thiserror::Error;
 
 /// Why a page is not saved, in the words of a row.
@@ -38,7 +38,7 @@ impl From<OutOfMemory> for Fault {
 impl From<AcceptFault> for Fault {
     fn from(fault: AcceptFault) -> Fault {
         match fault {
-            AcceptFault::Refused(_) => Fault::Page,
+            AcceptFault::Cause(_) => Fault::Page,
             AcceptFault::OutOfMemory => Fault::Memory,
         }
     }
@@ -47,7 +47,7 @@ impl From<AcceptFault> for Fault {
 impl From<EventFault> for Fault {
     fn from(fault: EventFault) -> Fault {
         match fault {
-            EventFault::NotEvents(_) => Fault::Events,
+            EventFault::Cause(NotEvents(_)) => Fault::Events,
             EventFault::OutOfMemory => Fault::Memory,
         }
     }
@@ -56,15 +56,15 @@ impl From<EventFault> for Fault {
 impl From<SaveFault> for Fault {
     fn from(fault: SaveFault) -> Fault {
         match fault {
-            SaveFault::TooMany(weight) => Fault::TooMany {
+            SaveFault::Cause(NotSaved::TooMany(weight)) => Fault::TooMany {
                 things: weight.things,
                 text: weight.text,
             },
-            SaveFault::TooLong(weight) => Fault::TooLong {
+            SaveFault::Cause(NotSaved::TooLong(weight)) => Fault::TooLong {
                 things: weight.things,
                 text: weight.text,
             },
-            SaveFault::WriteFault => Fault::Write,
+            SaveFault::Cause(NotSaved::WriteFault) => Fault::Write,
             SaveFault::OutOfMemory => Fault::Memory,
         }
     }

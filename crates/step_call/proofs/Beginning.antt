@@ -17,7 +17,7 @@ use Rattle.page_frames.specs.RestCalls.{mean_call}
 use Rattle.page_frames.specs.Step.{Begins, Leads}
 use Rattle.page_frames.specs.Weight.{heavy}
 use Rattle.page_frames.proofs.Callers.{step_pays}
-use Rattle.page_state.specs.declared.fault.Fault.{Fault}
+use Rattle.js_core.specs.declared.memory.Failure.{Failure}
 use Rattle.page_state.specs.Does.{Gives, itself}
 use Rattle.step_parts.proofs.Callers.{IsGiven}
 use Rattle.step_call.specs.Callees.{Descends, may_run, runs, runs_at}
@@ -81,7 +81,7 @@ too_deep : {E : Type 0} (depth : ℕ) (x : CallFrame) (w t : Store) (m : Meter) 
 too_deep depth x w t m r d z h = let none : depth ≡ 0 = sym d ∙ z in rw none h
 
 -- no level is left
-pub no_level : {E : Type 0} (x : CallFrame) (w t : Store) (m m1 : Meter) (e : Fault) (r : Result Next E) → m.steps ≡ suc m1.steps → m1.depth ≡ m.depth → m1.depth ≡ 0
+pub no_level : {E : Type 0} (x : CallFrame) (w t : Store) (m m1 : Meter) (e : Failure Value) (r : Result Next E) → m.steps ≡ suc m1.steps → m1.depth ≡ m.depth → m1.depth ≡ 0
     → Gives itself (λ _. raise TooDeep) w t (Err e) → IsGiven (Err e) r → IfOk r (λ n. Leads (bind take_step (λ _. runs_at m.depth x.construct x.callee x.this x.args (class_of w x.callee))) 0 w m n t m1)
 no_level x w t m m1 e r s d z g h =
     stepped (runs_at m.depth x.construct x.callee x.this x.args (class_of w x.callee)) w t m m1 m1 r s d (too_deep m.depth x w t m1 r d z (h (λ _. raise TooDeep) w t heavy m1 g))

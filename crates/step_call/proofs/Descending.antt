@@ -30,8 +30,8 @@ use Rattle.page_frames.specs.Step.{Leads}
 use Rattle.page_frames.specs.Weight.{HasFewNodes, cost, heavy, load}
 use Rattle.page_frames.specs.Where.{Where, spot_node}
 use Rattle.page_frames.proofs.Callers.{body_paid}
-use Rattle.page_state.specs.declared.fault.Fault.{Fault}
-use Rattle.page_state.specs.declared.fault.Fault.TheVariants as fault
+use Rattle.js_core.specs.declared.memory.Failure.{Failure}
+use Rattle.js_core.specs.declared.memory.Failure.TheVariants as fault
 use Rattle.page_state.specs.Does.{Does, Gives, itself}
 use Rattle.page_state.specs.Entry.{entered}
 use Rattle.page_state.specs.Functions.{fresh_for}
@@ -105,7 +105,7 @@ page_constructed at c env args made w s t m m1 (Ok n) d h = λ k lower.
 
 -- ---- what is done at once
 
-pub at_once : {E : Type 0} (act : Calls → Act) (answer : Result Value Fault) (w t : Store) (m : Meter) (r : Result Next E) → Gives itself act w t answer → IsGiven answer r → IfOk r (λ n. Descends act w m n t m)
+pub at_once : {E : Type 0} (act : Calls → Act) (answer : Result Value (Failure Value)) (w t : Store) (m : Meter) (r : Result Next E) → Gives itself act w t answer → IsGiven answer r → IfOk r (λ n. Descends act w m n t m)
 at_once act answer w t m r g h = gives_lower act answer heavy w t m r g h
 
 -- ---- bound functions
@@ -168,12 +168,12 @@ pub constructed_as : {E : Type 0} (f : Value) (vs : List Value) (c d : Class) (w
 constructed_as f vs c d w t m m1 r e h = rw e h
 
 -- what is no function throws
-pub call_refused : {E : Type 0} (this : Value) (vs : List Value) (c : Class) (w t : Store) (m : Meter) (e : Fault) (r : Result Next E) → NoFunction c → Gives itself (λ _. raise NotFunction) w t (Err e) → IsGiven (Err e) r
+pub call_refused : {E : Type 0} (this : Value) (vs : List Value) (c : Class) (w t : Store) (m : Meter) (e : Failure Value) (r : Result Next E) → NoFunction c → Gives itself (λ _. raise NotFunction) w t (Err e) → IsGiven (Err e) r
     → IfOk r (λ n. CallDescends this vs c w m n t m)
 call_refused this vs c w t m e r none g h =
     descends_as (λ calls. called calls this vs (Some c)) (λ _. raise NotFunction) w t m m r (λ calls. never_called calls this vs c none) (at_once (λ _. raise NotFunction) (Err e) w t m r g h)
 
-pub construction_refused : {E : Type 0} (f : Value) (vs : List Value) (c : Class) (w t : Store) (m : Meter) (e : Fault) (r : Result Next E) → NoFunction c → Gives itself (λ _. raise NotFunction) w t (Err e) → IsGiven (Err e) r
+pub construction_refused : {E : Type 0} (f : Value) (vs : List Value) (c : Class) (w t : Store) (m : Meter) (e : Failure Value) (r : Result Next E) → NoFunction c → Gives itself (λ _. raise NotFunction) w t (Err e) → IsGiven (Err e) r
     → IfOk r (λ n. BuildDescends f vs c w m n t m)
 construction_refused f vs c w t m e r none g h =
     descends_as (λ calls. constructed calls f vs (Some c)) (λ _. raise NotFunction) w t m m r (λ calls. never_constructed calls f vs c none) (at_once (λ _. raise NotFunction) (Err e) w t m r g h)
@@ -202,7 +202,7 @@ never_runs calls false f this vs w h = refl
 never_runs calls true f this vs w h = refl
 
 -- what is no object throws
-pub value_refused : {E : Type 0} (construct : Bool) (f this : Value) (vs : List Value) (w t : Store) (m : Meter) (e : Fault) (r : Result Next E) → ((at : ObjId) → f ≡ Object at → ⊥)
+pub value_refused : {E : Type 0} (construct : Bool) (f this : Value) (vs : List Value) (w t : Store) (m : Meter) (e : Failure Value) (r : Result Next E) → ((at : ObjId) → f ≡ Object at → ⊥)
     → Gives itself (λ _. raise NotFunction) w t (Err e) → IsGiven (Err e) r → IfOk r (λ n. RunDescends construct f this vs (class_of w f) w m n t m)
 value_refused construct f this vs w t m e r other g h =
     descends_as (λ calls. runs calls construct f this vs (class_of w f)) (λ _. raise NotFunction) w t m m r (λ calls. never_runs calls construct f this vs w other)

@@ -28,7 +28,7 @@ use Rattle.page_frames.specs.Step.{Leads, Lowers}
 use Rattle.page_frames.specs.Weight.{heavy}
 use Rattle.page_state.specs.declared.turns.Halt.{Halt}
 use Rattle.page_state.specs.declared.turns.Halt.TheVariants as halt
-use Rattle.page_state.specs.declared.fault.Fault.{Fault}
+use Rattle.js_core.specs.declared.memory.Failure.{Failure}
 use Rattle.page_state.specs.Does.{Does, Gives, Raises, itself}
 use Rattle.page_state.specs.Turns.{Comes, Ends, Tells}
 use Rattle.page_state.proofs.Callers.{asked_does, asked_gives, asked_raises, asked_tells, bind_does, given, no_turn_tells, turn_tells}
@@ -153,18 +153,18 @@ bound_made target this args formals at w t e d =
     (bind_does (λ _. make (bound_object target this args (length_of target w)) (bound_fit target this args (length_of target w))) (λ _. object_of) at (Val (Object at)) w t t (rw e at d)
     (given (Object at) t))
 
-pub may_bind : (v : Value) (at : ObjId) (vs : List Value) (s t : Store) (r : Result Value Fault) → v ≡ Object at → true ≡ is_callable v s → Gives itself (λ _. bind_to at (argument vs 0) (drop 1 vs)) s t r
+pub may_bind : (v : Value) (at : ObjId) (vs : List Value) (s t : Store) (r : Result Value (Failure Value)) → v ≡ Object at → true ≡ is_callable v s → Gives itself (λ _. bind_to at (argument vs 0) (drop 1 vs)) s t r
     → Gives itself (λ _. bind_function v vs) s t r
 may_bind v at vs s t r is e g =
     let yes : true ≡ is_callable (Object at) s = rw is at e in
     rw is (asked_gives (is_callable (Object at)) (λ _ b. choose b (bind_to at (argument vs 0) (drop 1 vs)) (raise WrongArgument)) itself s t r (rw (← yes) g))
 
-pub may_not_bind : (v : Value) (at : ObjId) (vs : List Value) (s t : Store) (e : Fault) → v ≡ Object at → false ≡ is_callable v s → Raises (λ _. raise WrongArgument) s t e → Raises (λ _. bind_function v vs) s t e
+pub may_not_bind : (v : Value) (at : ObjId) (vs : List Value) (s t : Store) (e : Failure Value) → v ≡ Object at → false ≡ is_callable v s → Raises (λ _. raise WrongArgument) s t e → Raises (λ _. bind_function v vs) s t e
 may_not_bind v at vs s t e is b g =
     let no : false ≡ is_callable (Object at) s = rw is at b in
     rw is (asked_raises (is_callable (Object at)) (λ _ c. choose c (bind_to at (argument vs 0) (drop 1 vs)) (raise WrongArgument)) s t e (rw (← no) g))
 
-pub none_to_bind : (v : Value) (vs : List Value) (s t : Store) (e : Fault) → ((at : ObjId) → v ≡ Object at → ⊥) → Raises (λ _. raise WrongArgument) s t e → Raises (λ _. bind_function v vs) s t e
+pub none_to_bind : (v : Value) (vs : List Value) (s t : Store) (e : Failure Value) → ((at : ObjId) → v ≡ Object at → ⊥) → Raises (λ _. raise WrongArgument) s t e → Raises (λ _. bind_function v vs) s t e
 none_to_bind (Object at) vs s t e none g = absurd (none at refl)
 none_to_bind v vs s t e none g = g
 

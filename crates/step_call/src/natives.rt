@@ -70,7 +70,7 @@ fn give_turned(answer: Result<Value, Halt>) -> Result<Next, OutOfMemory>
 {
     match answer {
         Ok(value) => Ok(Next::Give(Signal::Value(value))),
-        Err(Halt::Fault(Fault::Thrown(value))) => Ok(Next::Give(Signal::Thrown(value))),
+        Err(Halt::Fault(Fault::Cause(value))) => Ok(Next::Give(Signal::Thrown(value))),
         Err(Halt::Fault(Fault::OutOfMemory)) => Err(OutOfMemory),
         Err(Halt::Stopped) => Ok(Next::Stopped),
     }

@@ -18,7 +18,7 @@ use Rattle.page_frames.specs.RestLiterals.{elements_from, fields_from, name_at}
 use Rattle.page_frames.specs.Step.{Leads, Moves}
 use Rattle.page_frames.specs.Weight.{weigh}
 use Rattle.page_frames.specs.Where.{Where, here_of, spot_node}
-use Rattle.page_state.specs.declared.fault.Fault.{Fault}
+use Rattle.js_core.specs.declared.memory.Failure.{Failure}
 use Rattle.page_state.specs.Does.{Does, Gives, Raises, itself}
 use Rattle.page_state.proofs.Callers.{also_gives, failed, given}
 use Rattle.step_parts.proofs.Callers.{also_leads}
@@ -45,7 +45,7 @@ literal_filled f xs x turn k got o v u w w1 m r e g i d h =
     (subst (λ (k : ℕ). IfOk r (λ n. Leads (fields_from (calls_at m.depth) (here_of f) (spot_node f) o k) (weigh (spot_node f) k) w1 m n w1 m)) i h))
 
 -- an array's length is put
-pub length_fails : (a : ObjId) (k : ℕ) (x : List ℕ) (n : Option ℤ) (s t : Store) (e : Fault) (r : Result Value Fault) → x ≡ length_name → n ≡ Some (pos k) → Raises (λ _. put_in a x (Num n)) s t e
+pub length_fails : (a : ObjId) (k : ℕ) (x : List ℕ) (n : Option ℤ) (s t : Store) (e : Failure Value) (r : Result Value (Failure Value)) → x ≡ length_name → n ≡ Some (pos k) → Raises (λ _. put_in a x (Num n)) s t e
     → IsErr r × IsErrAnd r (λ d. d ≡ e) → Gives itself (λ _. also (put_in a length_name (number k)) (λ _. give (Object a))) s t r
 length_fails a k x n s t e r g i d h =
     failed (λ _. put_in a length_name (number k)) (λ _ _. give (Object a)) itself s t e r

@@ -24,7 +24,7 @@ use Rattle.page_frames.specs.Step.{Goes, Moves}
 use Rattle.page_frames.specs.Weight.{cost, weigh, weigh_value}
 use Rattle.page_frames.specs.Where.{Where, here_of, spot_node}
 use Rattle.page_frames.proofs.Callers.{early_part, no_heavier, weigh_less}
-use Rattle.page_state.specs.declared.fault.Fault.{Fault}
+use Rattle.js_core.specs.declared.memory.Failure.{Failure}
 use Rattle.page_state.specs.Does.{Gives, Raises, itself}
 use Rattle.step_parts.specs.Families.{family_of}
 use Rattle.step_parts.specs.Running.{Enters}
@@ -132,7 +132,7 @@ chosen_no f v w m (Ok n) e h = record {
 -- ---- what is done at once
 
 -- a fault that is handed on
-pub handed : (act : Calls → Act) (s t : Store) (e : Fault) (r : Result Value Fault) → Raises act s t e → IsErr r × IsErrAnd r (λ d. d ≡ e) → Gives itself act s t r
+pub handed : (act : Calls → Act) (s t : Store) (e : Failure Value) (r : Result Value (Failure Value)) → Raises act s t e → IsErr r × IsErrAnd r (λ d. d ≡ e) → Gives itself act s t r
 handed act s t e (Ok x) d h = cc (h.0)
 handed act s t e (Err x) d h = rw (h.1) d
 

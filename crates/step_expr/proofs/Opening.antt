@@ -19,7 +19,7 @@ use Rattle.page_frames.specs.Step.{Goes, Leads, Moves, Opens}
 use Rattle.page_frames.specs.Weight.{cost, weigh, weigh_value}
 use Rattle.page_frames.specs.Where.{Where, here_of, spot_node}
 use Rattle.page_frames.proofs.Callers.{begin_weigh, begins_by_kind, early_part, no_heavier}
-use Rattle.page_state.specs.declared.fault.Fault.{Fault}
+use Rattle.js_core.specs.declared.memory.Failure.{Failure}
 use Rattle.page_state.specs.Does.{Does, Gives, itself}
 use Rattle.step_parts.specs.Families.{family_of}
 use Rattle.step_parts.specs.declared.family.Family.TheVariants.{Plain}
@@ -101,7 +101,7 @@ opens_moved f got v w t m (Ok n) b e d h =
 -- ---- what is done at once
 
 -- a value by the kind of its node
-pub plain_as : (f : Where) (q : Kind) (s t : Store) (r : Result Value Fault) → kind_of (spot_node f) ≡ q → Gives itself (λ calls. start_of calls (here_of f) (spot_node f) q) s t r
+pub plain_as : (f : Where) (q : Kind) (s t : Store) (r : Result Value (Failure Value)) → kind_of (spot_node f) ≡ q → Gives itself (λ calls. start_of calls (here_of f) (spot_node f) q) s t r
     → Gives itself (λ calls. start_of calls (here_of f) (spot_node f) (kind_of (spot_node f))) s t r
 plain_as f q s t r e g = subst (λ k. Gives itself (λ calls. start_of calls (here_of f) (spot_node f) k) s t r) (sym e) g
 

@@ -14,8 +14,8 @@ use Rattle.page_frames.specs.declared.meter.Next.{Next}
 use Rattle.page_frames.specs.declared.meter.Next.TheVariants.{Give, Stopped as Halted}
 use Rattle.page_frames.specs.Step.{Leads, Lowers}
 use Rattle.page_frames.proofs.Callers.{lighter_before, no_heavier}
-use Rattle.page_state.specs.declared.fault.Fault.{Fault}
-use Rattle.page_state.specs.declared.fault.Fault.TheVariants as fault
+use Rattle.js_core.specs.declared.memory.Failure.{Failure}
+use Rattle.js_core.specs.declared.memory.Failure.TheVariants as fault
 use Rattle.page_state.specs.Does.{Does, Gives, itself}
 use Rattle.page_state.specs.Turns.{Comes}
 use Rattle.step_parts.proofs.Leading.{fewer}
@@ -62,15 +62,15 @@ on_no_list v f u w t m m1 r e h =
 
 -- ---- what is given
 
-with_calls : (act : Calls → Act) (calls : Calls) (w t : Store) (answer : Result Value Fault) → Gives itself act w t answer → Gives itself (λ _. act calls) w t answer
+with_calls : (act : Calls → Act) (calls : Calls) (w t : Store) (answer : Result Value (Failure Value)) → Gives itself act w t answer → Gives itself (λ _. act calls) w t answer
 with_calls act calls w t (Ok v) g = record { is = λ _ n. g.is calls n }
-with_calls act calls w t (Err (fault.Thrown v)) g = record { is = λ _ n. g.is calls n }
+with_calls act calls w t (Err (fault.Cause v)) g = record { is = λ _ n. g.is calls n }
 with_calls act calls w t (Err fault.OutOfMemory) g = tt
 
-abbrev pub IsGiven : {E : Type 0} → Result Value Fault → Result Next E → Type 0
+abbrev pub IsGiven : {E : Type 0} → Result Value (Failure Value) → Result Next E → Type 0
 IsGiven answer r = (act : Calls → Act) (s t : Store) (weight : ℕ) (m : Meter) → Gives itself act s t answer → IfOk r (λ n. Leads (act (calls_at m.depth)) weight s m n t m)
 
-pub gives_lower : {E : Type 0} (act : Calls → Act) (answer : Result Value Fault) (weight : ℕ) (w t : Store) (m : Meter) (r : Result Next E) → Gives itself act w t answer → IsGiven answer r
+pub gives_lower : {E : Type 0} (act : Calls → Act) (answer : Result Value (Failure Value)) (weight : ℕ) (w t : Store) (m : Meter) (r : Result Next E) → Gives itself act w t answer → IsGiven answer r
     → IfOk r (λ n. Lowers weight act w m n t m)
 gives_lower act answer weight w t m (Err x) g h = tt
 gives_lower act answer weight w t m (Ok n) g h = λ d lower. h (λ _. act (calls_at d)) w t weight m (with_calls act (calls_at d) w t answer g)

@@ -21,7 +21,7 @@ pub fn signal_of(answer: Result<Value, Fault>) -> Result<Signal, OutOfMemory>
 {
     match answer {
         Ok(value) => Ok(Signal::Value(value)),
-        Err(Fault::Thrown(value)) => Ok(Signal::Thrown(value)),
+        Err(Fault::Cause(value)) => Ok(Signal::Thrown(value)),
         Err(Fault::OutOfMemory) => Err(OutOfMemory),
     }
 }

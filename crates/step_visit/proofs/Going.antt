@@ -28,8 +28,8 @@ use Rattle.page_frames.specs.RestVisits.{rest_visit, visits_from}
 use Rattle.page_frames.specs.Step.{Leads, Levels, Steps}
 use Rattle.page_frames.specs.Weight.{heavy, load}
 use Rattle.page_frames.proofs.Callers.{lighter_before, steps_pay}
-use Rattle.page_state.specs.declared.fault.Fault.{Fault}
-use Rattle.page_state.specs.declared.fault.Fault.TheVariants as fault
+use Rattle.js_core.specs.declared.memory.Failure.{Failure}
+use Rattle.js_core.specs.declared.memory.Failure.TheVariants as fault
 use Rattle.page_state.specs.Does.{Gives, itself}
 use Rattle.page_state.specs.declared.turns.Halt.{Halt}
 use Rattle.page_state.specs.declared.turns.Halt.TheVariants as halt
@@ -146,11 +146,11 @@ pub told_ends : {E : Type 0} (act : (Visit → Act) → Act) (x : Visited) (k : 
     → IfOk r (λ n. Climbs (with_next act x k) s m n t m)
 told_ends act x k v s t m r h g = gives_lower (with_next act x k) (Ok v) 0 s t m r (record { is = λ calls n. h (λ kind. visits_from calls x kind (suc k)) n }) g
 
-throws : (act : (Visit → Act) → Act) (x : Visited) (k : ℕ) (s t : Store) (e : Fault) → Tells act s t (Err e) → Gives itself (with_next act x k) s t (Err e)
-throws act x k s t (fault.Thrown u) h = record { is = λ calls n. h (λ kind. visits_from calls x kind (suc k)) n }
+throws : (act : (Visit → Act) → Act) (x : Visited) (k : ℕ) (s t : Store) (e : Failure Value) → Tells act s t (Err e) → Gives itself (with_next act x k) s t (Err e)
+throws act x k s t (fault.Cause u) h = record { is = λ calls n. h (λ kind. visits_from calls x kind (suc k)) n }
 throws act x k s t fault.OutOfMemory h = tt
 
-pub told_throws : {E : Type 0} (act : (Visit → Act) → Act) (x : Visited) (k : ℕ) (e : Fault) (s t : Store) (m : Meter) (r : Result Next E) → Tells act s t (Err e) → IsGiven (Err e) r
+pub told_throws : {E : Type 0} (act : (Visit → Act) → Act) (x : Visited) (k : ℕ) (e : Failure Value) (s t : Store) (m : Meter) (r : Result Next E) → Tells act s t (Err e) → IsGiven (Err e) r
     → IfOk r (λ n. Climbs (with_next act x k) s m n t m)
 told_throws act x k e s t m r h g = gives_lower (with_next act x k) (Err e) 0 s t m r (throws act x k s t e h) g
 
@@ -195,7 +195,7 @@ first_found x w t m mid m1 p next r same none found is h =
     (comes_lower (λ _. next_found x.list 0 (x.length - 0)) (λ calls. found_first calls x) (Some p) 0 w w t m mid m1 r same found (rw (is ∙ add-one p.0) at h))
 
 -- there is none
-pub none_first : {E : Type 0} (x : Visited) (e : Fault) (w t : Store) (m mid : Meter) (r : Result Next E) → mid.depth ≡ m.depth → x.this ≡ Undefined
+pub none_first : {E : Type 0} (x : Visited) (e : Failure Value) (w t : Store) (m mid : Meter) (r : Result Next E) → mid.depth ≡ m.depth → x.this ≡ Undefined
     → Comes (λ _. next_found x.list 0 (x.length - 0)) w m.steps (Ended None w mid.steps) → Gives itself (λ _. raise WrongArgument) w t (Err e) → IsGiven (Err e) r
     → IfOk r (λ n. Climbs (λ calls. reduce_from calls x.callback x.list 0 x.length) w m n t mid)
 none_first x e w t m mid r same none found raised g =

@@ -22,8 +22,8 @@ use Rattle.page_meaning.specs.VisitRows.{filter_all, reduce, reduce_from, visit_
 use Rattle.page_frames.specs.declared.frame.Visited.{Visited}
 use Rattle.page_frames.specs.declared.meter.Meter.{Meter}
 use Rattle.page_frames.specs.declared.meter.Next.{Next}
-use Rattle.page_state.specs.declared.fault.Fault.{Fault}
-use Rattle.page_state.specs.declared.fault.Fault.TheVariants as fault
+use Rattle.js_core.specs.declared.memory.Failure.{Failure}
+use Rattle.js_core.specs.declared.memory.Failure.TheVariants as fault
 use Rattle.page_state.specs.Does.{Does, Raises}
 use Rattle.step_parts.proofs.Callers.{lowers_as}
 use Rattle.step_visit.specs.declared.telling.Told.{Told}
@@ -35,12 +35,12 @@ use Rattle.step_visit.specs.Telling.{Comes}
 pub made_on : (m : Act) (kind : Visit) (s t : Store) → Does (λ _. m) s (Val Undefined) t → Comes (λ next. also m (λ _. next kind)) s t (Ok (GoesOn kind))
 made_on m kind s t d next n = rw (d.is (calls_at 0) n) refl
 
-not_made : (m : Act) (kind : Visit) (s t : Store) (e : Fault) → Raises (λ _. m) s t e → Comes (λ next. also m (λ _. next kind)) s t (Err e)
-not_made m kind s t (fault.Thrown v) d = λ next n. rw (d.is (calls_at 0) n) refl
+not_made : (m : Act) (kind : Visit) (s t : Store) (e : Failure Value) → Raises (λ _. m) s t e → Comes (λ next. also m (λ _. next kind)) s t (Err e)
+not_made m kind s t (fault.Cause v) d = λ next n. rw (d.is (calls_at 0) n) refl
 not_made m kind s t fault.OutOfMemory d = tt
 
 -- it could not be made
-pub makes_fault : (m : Act) (kind : Visit) (s t : Store) (e : Fault) (r : Result Told Fault) → IsErrAnd r (λ d. d ≡ e) → Raises (λ _. m) s t e → Comes (λ next. also m (λ _. next kind)) s t r
+pub makes_fault : (m : Act) (kind : Visit) (s t : Store) (e : Failure Value) (r : Result Told (Failure Value)) → IsErrAnd r (λ d. d ≡ e) → Raises (λ _. m) s t e → Comes (λ next. also m (λ _. next kind)) s t r
 makes_fault m kind s t e r h d = let p = err_from_is_err_and r h in rw (p.1, p.2) (not_made m kind s t e d)
 
 -- ---- how `reduce` begins

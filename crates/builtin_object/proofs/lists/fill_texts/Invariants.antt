@@ -3,11 +3,12 @@ use Rattle.page_meaning.specs.ObjectRows.{list_texts}
 use Rattle.page_state.specs.Does.{Gives}
 use Rattle.builtin_object.specs.Lists.{for_object}
 use Rattle.page_meaning.specs.Store.{Store}
-use Rattle.page_state.specs.declared.fault.Fault.{Fault}
+use Rattle.js_core.specs.declared.memory.Failure.{Failure}
+use Rattle.js_values.specs.declared.value.Value.{Value}
 use Rattle.builtin_object.proofs.lists.fill_texts.Given as goal
 
 -- what the rest comes to is what all come to
 abbrev pub invariant-loop-index : goal.invariant-loop-index
 invariant-loop-index l =
-    (t : Store) (r : Result (Unit {0}) Fault) → Gives (for_object l.list) (λ _. list_texts l.list l.index (drop l.index l.texts)) l.state t r
+    (t : Store) (r : Result (Unit {0}) (Failure Value)) → Gives (for_object l.list) (λ _. list_texts l.list l.index (drop l.index l.texts)) l.state t r
     → Gives (for_object l.list) (λ _. list_texts l.list 0 l.texts) l.initial.state t r

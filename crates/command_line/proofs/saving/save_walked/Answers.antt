@@ -1,20 +1,22 @@
+use Rattle.std.proofs.Common.{ap, ◌∙◌}
+use Rattle.js_core.specs.declared.memory.Failure.TheVariants.{Cause}
 use Rattle.command_line.proofs.Judgement.{answer_fault, answer_large, answer_long, answer_memory}
 use Rattle.command_line.proofs.saving.save_walked.Goals as goal
 
-pub returns-in-Err-TooMany-clause-answer : goal.returns-in-Err-TooMany-clause-answer
-returns-in-Err-TooMany-clause-answer g c =
-    answer_large c.args.state.now c.args.walked.now.things.keys (g.O.Sink.seen c.args.out.now) (g.O.Sink.seen c.write_walked.new.out) _ c.in-Err-TooMany.weight
-    c.requires c.in-Err-TooMany.field-0-is c.in-Err-TooMany.ensures.judged
+pub returns-in-Err-Cause-TooMany-clause-answer : goal.returns-in-Err-Cause-TooMany-clause-answer
+returns-in-Err-Cause-TooMany-clause-answer g c =
+    answer_large c.args.state.now c.args.walked.now.things.keys (g.O.Sink.seen c.args.out.now) (g.O.Sink.seen c.write_walked.new.out) _ c.in-Err-Cause-TooMany.weight
+    c.requires (c.in-Err-Cause-TooMany.field-0-is ∙ ap Cause c.in-Err-Cause-TooMany.field-0-0-is) c.in-Err-Cause-TooMany.ensures.judged
 
-pub returns-in-Err-TooLong-clause-answer : goal.returns-in-Err-TooLong-clause-answer
-returns-in-Err-TooLong-clause-answer g c =
-    answer_long c.args.state.now c.args.walked.now.things.keys (g.O.Sink.seen c.args.out.now) (g.O.Sink.seen c.write_walked.new.out) _ c.in-Err-TooLong.weight
-    c.requires c.in-Err-TooLong.field-0-is c.in-Err-TooLong.ensures.judged
+pub returns-in-Err-Cause-TooLong-clause-answer : goal.returns-in-Err-Cause-TooLong-clause-answer
+returns-in-Err-Cause-TooLong-clause-answer g c =
+    answer_long c.args.state.now c.args.walked.now.things.keys (g.O.Sink.seen c.args.out.now) (g.O.Sink.seen c.write_walked.new.out) _ c.in-Err-Cause-TooLong.weight
+    c.requires (c.in-Err-Cause-TooLong.field-0-is ∙ ap Cause c.in-Err-Cause-TooLong.field-0-0-is) c.in-Err-Cause-TooLong.ensures.judged
 
-pub returns-in-Err-WriteFault-clause-answer : goal.returns-in-Err-WriteFault-clause-answer
-returns-in-Err-WriteFault-clause-answer g c =
+pub returns-in-Err-Cause-WriteFault-clause-answer : goal.returns-in-Err-Cause-WriteFault-clause-answer
+returns-in-Err-Cause-WriteFault-clause-answer g c =
     answer_fault c.args.state.now c.args.walked.now.things.keys (g.O.Sink.seen c.args.out.now) (g.O.Sink.seen c.write_walked.new.out) _
-    c.requires c.in-Err-WriteFault.field-0-is c.in-Err-WriteFault.ensures.judged c.in-Err-WriteFault.ensures.begun
+    c.requires (c.in-Err-Cause-WriteFault.field-0-is ∙ ap Cause c.in-Err-Cause-WriteFault.field-0-0-is) c.in-Err-Cause-WriteFault.ensures.judged c.in-Err-Cause-WriteFault.ensures.begun
 
 pub returns-in-Err-OutOfMemory-clause-answer : goal.returns-in-Err-OutOfMemory-clause-answer
 returns-in-Err-OutOfMemory-clause-answer g c =

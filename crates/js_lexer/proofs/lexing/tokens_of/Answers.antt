@@ -1,6 +1,5 @@
 use Rattle.std.proofs.Common.{length, subst, sym, arith, rules}
-use Rattle.std.proofs.lemmas.Bool.Decides.{nat_tests}
-use Rattle.js_lexer.proofs.AllTokens.{GoesOn, tokens_begin, tokens_go_on, tokens_end, tokens_refused}
+use Rattle.js_lexer.proofs.AllTokens.{GoesOn, tokens_begin, tokens_go_on, tokens_end}
 use Rattle.js_lexer.proofs.lexing.tokens_of.Goals as goal
 
 pub loop-start-init : goal.loop-start-init
@@ -14,7 +13,3 @@ loop-start-preserved c = (
 
 pub returns-then-is_empty-clause-read : goal.returns-then-is_empty-clause-read
 returns-then-is_empty-clause-read c = tokens_end _ _ _ _ _ _ c.loop-start.invariant.0 c.behind_gap-after_line.ensures.read (search rules)
-
-pub returns-in_err-what-clause-refused : goal.returns-in_err-what-clause-refused
-returns-in_err-what-clause-refused c e =
-    tokens_refused _ _ _ _ _ _ c.loop-start.invariant.0 c.behind_gap-after_line.ensures.read (λ z. grind (arith, nat_tests)) (c.in_err-what.ensures.refused (search rules))

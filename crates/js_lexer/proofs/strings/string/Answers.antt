@@ -18,4 +18,4 @@ returns-in-Some-behind_quote-clause-read c =
     string_ends _ _ _ _ _ _ c.loop-unit.invariant.0 c.in-Some-behind_quote.ensures (c.in_ok-of-in-Some-behind_quote.ensures ∙ c.as_slice.ensures.value)
 
 pub returns-clause-refused : goal.returns-clause-refused
-returns-clause-refused c e = string_refused _ _ _ _ c.loop-unit.invariant.0 c.in_default.ensures.read c.in-None.ensures
+returns-clause-refused c = string_refused _ _ _ _ c.loop-unit.invariant.0 c.in_default.ensures.read c.in-None.ensures

@@ -7,6 +7,6 @@ pub returns-in-Ok : goal.returns-in-Ok
 returns-in-Ok c =
     script_if_ran (calls_at c.args.meter.now.depth) (body_of c.args.code) c.args.state.now c.declare.new.state c.run_body.new.state c.args.meter.now.steps c.run_body.new.meter.steps c.run_body.result c.in-Ok.ensures c.run_body.ensures
 
-pub returns-in-Err-Thrown : goal.returns-in-Err-Thrown
-returns-in-Err-Thrown c =
-    script_threw (calls_at c.args.meter.now.depth) (body_of c.args.code) c.args.state.now c.declare.new.state c.args.meter.now.steps c.in-Err-Thrown.value (rw c.in-Err-Thrown.field-0-is at c.in-Err-Thrown.ensures)
+pub returns-in-Err-Cause : goal.returns-in-Err-Cause
+returns-in-Err-Cause c =
+    script_threw (calls_at c.args.meter.now.depth) (body_of c.args.code) c.args.state.now c.declare.new.state c.args.meter.now.steps c.in-Err-Cause.value (rw c.in-Err-Cause.field-0-is at c.in-Err-Cause.ensures)

@@ -1,4 +1,4 @@
-use Rattle.std.proofs.Common.{rules}
+use Rattle.page_tokens.proofs.Callers.{handed}
 use Rattle.page_reader.proofs.Steps.{ends_html, open_in_html, refused_at_end, refused_by, stays_in_html}
 use Rattle.page_reader.proofs.tree.content.Goals as goal
 
@@ -13,8 +13,8 @@ loop-token-preserved c = (
 )
 
 pub returns-clause-refused : goal.returns-clause-refused
-returns-clause-refused c e nodes all = refused_at_end _ _ _ _ _ _ _ nodes _ _ all c.loop-token.invariant.0 c.in_default.ensures.cases
+returns-clause-refused c nodes all = refused_at_end _ _ _ _ _ _ _ nodes _ _ all c.loop-token.invariant.0 c.in_default.ensures.cases
 
 pub returns-in_err-step-clause-refused : goal.returns-in_err-step-clause-refused
-returns-in_err-step-clause-refused c e nodes all =
-    refused_by _ _ _ _ _ _ _ _ nodes _ _ all c.loop-token.invariant.0 c.in-Some.ensures.cases.0 (c.in_err-step.ensures.refused (search rules))
+returns-in_err-step-clause-refused c =
+    handed c.step.result _ _ c.step.ensures.refused c.in_err-step.was c.from_residual.ensures (λ _ refused nodes all. refused_by _ _ _ _ _ _ _ _ nodes _ _ all c.loop-token.invariant.0 c.in-Some.ensures.cases.0 refused)

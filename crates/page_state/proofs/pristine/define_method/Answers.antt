@@ -10,4 +10,4 @@ returns-in-Ok c =
 pub unreachable-requires : goal.unreachable-requires
 unreachable-requires c =
     cc (sym (ap (λ a. a.thrown) (method_defined_at c.args.heap.now c.args.at c.args.name.now c.args.which c.requires))
-    ∙ (rw (c.in_ok-name.ensures, c.hidden_change-change.ensures, c.function_place.ensures) at ((rw c.in-Err-Throw.field-0-is at c.in-Err-Throw.ensures).1)))
+    ∙ (rw (c.in_ok-name.ensures, c.hidden_change-change.ensures, c.function_place.ensures) at ((rw c.in-Err-Cause.field-0-is at c.in-Err-Cause.ensures).1)))

@@ -1,4 +1,5 @@
-use Rattle.std.proofs.Common.{arith, rules, subst, sym}
+use Rattle.std.proofs.Common.{arith, subst, sym}
+use Rattle.page_tokens.proofs.Causes.{handed}
 use Rattle.page_tokens.proofs.Listing.{GoesOn, listing_begins, listing_ends, listing_goes_on, listing_refused}
 use Rattle.page_tokens.proofs.attributes.attributes.Goals as goal
 
@@ -11,8 +12,9 @@ loop-name-preserved c = (
   omega (arith, c.loop-name.invariant.1, c.in-Some.ensures.shorter),
 )
 
-pub returns-in_err-value-clause-refused : goal.returns-in_err-value-clause-refused
-returns-in_err-value-clause-refused c e = listing_refused _ _ _ _ _ _ c.loop-name.invariant.0 c.in-Some.ensures.read (c.in_err-value.ensures.refused (search rules))
-
 pub returns-clause-read : goal.returns-clause-read
 returns-clause-read c = listing_ends _ _ _ c.loop-name.invariant.0 c.in_default.ensures.read
+
+pub returns-in_err-value-clause-refused : goal.returns-in_err-value-clause-refused
+returns-in_err-value-clause-refused c =
+    handed c.decoded.result _ _ c.decoded.ensures.refused c.in_err-value.was c.from_residual.ensures (λ _ refused. listing_refused _ _ _ _ _ _ c.loop-name.invariant.0 c.in-Some.ensures.read refused)

@@ -1,5 +1,5 @@
-use Rattle.std.proofs.Common.{sym, rules}
-use Rattle.page_tokens.proofs.OneToken.{space_stands, text_is_shorter, text_refused, text_stands}
+use Rattle.std.proofs.Common.{sym}
+use Rattle.page_tokens.proofs.OneToken.{space_stands, text_is_shorter, text_stands}
 use Rattle.page_tokens.proofs.tokens.text_token.Goals as goal
 
 pub returns-then-is_blank-clause-read : goal.returns-then-is_blank-clause-read
@@ -13,7 +13,3 @@ returns-clause-read c = text_stands _ _ _ _ _ _ c.requires.opens c.len_before.en
 
 pub returns-clause-shorter : goal.returns-clause-shorter
 returns-clause-shorter c = text_is_shorter _ _ _ c.requires.opens c.len_before.ensures.read c.requires.some c.split_at.ensures.back_len
-
-pub returns-in_err-decoded-clause-refused : goal.returns-in_err-decoded-clause-refused
-returns-in_err-decoded-clause-refused c e =
-    text_refused _ _ _ _ c.requires.opens c.len_before.ensures.read c.split_at.ensures.front (sym c.if-is_blank.ensures) (c.in_err-decoded.ensures.refused (search rules))

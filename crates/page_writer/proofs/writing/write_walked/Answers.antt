@@ -2,7 +2,8 @@ use Rattle.std.proofs.Common.{subst}
 use Rattle.page_writer.proofs.Pieces.{counts_no_memory, counts_none, counts_puts, judged_long, judged_many, judged_no_memory, judged_puts}
 use Rattle.page_writer.specs.Page.{saved_page}
 use Rattle.page_writer.specs.Sizes.{Judged}
-use Rattle.page_writer.specs.declared.save_fault.SaveFault.TheVariants.{TooMany, TooLong}
+use Rattle.js_core.specs.declared.memory.Failure.TheVariants.{Cause}
+use Rattle.page_writer.specs.declared.save_fault.NotSaved.TheVariants.{TooMany, TooLong}
 use Rattle.page_writer.proofs.writing.write_walked.Goals as goal
 
 pub returns-in_err-weight-clause-judged : goal.returns-in_err-weight-clause-judged
@@ -25,10 +26,10 @@ pub returns-in_err-weight-clause-counts : goal.returns-in_err-weight-clause-coun
 returns-in_err-weight-clause-counts g c = counts_no_memory (g.O.Sink.seen c.args.out.now).faults c.from_residual.result c.from_residual.ensures
 
 pub returns-then-weight-gt-SAVED_THINGS_LIMIT-clause-counts : goal.returns-then-weight-gt-SAVED_THINGS_LIMIT-clause-counts
-returns-then-weight-gt-SAVED_THINGS_LIMIT-clause-counts g c = counts_none (g.O.Sink.seen c.args.out.now).faults (TooMany c.in_ok-weight.weight) (λ e. cc e)
+returns-then-weight-gt-SAVED_THINGS_LIMIT-clause-counts g c = counts_none (g.O.Sink.seen c.args.out.now).faults (Cause (TooMany c.in_ok-weight.weight)) (λ e. cc e)
 
 pub returns-then-weight-gt-SAVED_TEXT_LIMIT-clause-counts : goal.returns-then-weight-gt-SAVED_TEXT_LIMIT-clause-counts
-returns-then-weight-gt-SAVED_TEXT_LIMIT-clause-counts g c = counts_none (g.O.Sink.seen c.args.out.now).faults (TooLong c.in_ok-weight.weight) (λ e. cc e)
+returns-then-weight-gt-SAVED_TEXT_LIMIT-clause-counts g c = counts_none (g.O.Sink.seen c.args.out.now).faults (Cause (TooLong c.in_ok-weight.weight)) (λ e. cc e)
 
 pub returns-clause-counts : goal.returns-clause-counts
 returns-clause-counts g c =

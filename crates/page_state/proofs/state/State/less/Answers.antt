@@ -3,7 +3,7 @@ use Rattle.js_values.specs.declared.value.Value.{Value}
 use Rattle.js_values.specs.declared.value.Value.TheVariants.{Text}
 use Rattle.page_meaning.specs.Operators.{as_numbers, less_of}
 use Rattle.page_meaning.specs.Store.{Store}
-use Rattle.page_state.specs.declared.fault.Fault.{Fault}
+use Rattle.js_core.specs.declared.memory.Failure.{Failure}
 use Rattle.page_state.specs.declared.numbers.NumberOp.TheVariants.{Less}
 use Rattle.page_state.specs.declared.numbers.Sense.{Sense}
 use Rattle.page_state.specs.Does.{Gives, itself}
@@ -12,7 +12,7 @@ use Rattle.page_state.proofs.OtherKinds.{no_text}
 use Rattle.page_state.proofs.state.State.less.Goals as goal
 
 -- two values that are compared as numbers
-abbrev AsNumbers : Sense → Store → Store → Result Value Fault → Value → Value → Type 0
+abbrev AsNumbers : Sense → Store → Store → Result Value (Failure Value) → Value → Value → Type 0
 AsNumbers sense s t r p q = Gives itself (λ _. as_numbers (numeric (Less sense)) p q) s t r → Gives itself (λ _. less_of (sense_of sense) p q) s t r
 
 pub returns-in-Undefined-q : goal.returns-in-Undefined-q
