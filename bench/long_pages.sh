@@ -1,8 +1,8 @@
 #!/bin/sh
 # How the time of a command grows with the page and the events: `replay` of 10,000 to 200,000 assignments, and of events on a
 # small page; `check` of object literals, of functions with many variables or with many formals that a function inside uses, of
-# uses under 60 functions and of empty statements under 190 blocks; `instrument` of such uses. The last column stays about the
-# same where the time is in proportion. Build the program first: `./imagen --build`.
+# uses under 1, 20 and 60 functions and of empty statements under 190 blocks; `instrument` of uses under 60. The last column stays
+# about the same where the time is in proportion. Build the program first: `./imagen --build`.
 top=$(cd "$(dirname "$0")/.." && pwd) || exit 1
 program=$top/crates/imagen/out/imagen
 work=$(mktemp -d) || exit 1
@@ -67,12 +67,12 @@ formals() {
     printf '};}());'
 }
 
-# Uses of a formal of the outermost of 60 functions in one another.
+# nested_uses DEPTH COUNT: so many uses of a formal of the outermost of so many functions in one another
 nested_uses() {
     printf '(function(a){'
-    repeated 'return function(){' 59
-    repeated 'a;' "$1"
-    repeated '};' 59
+    repeated 'return function(){' $(($1 - 1))
+    repeated 'a;' "$2"
+    repeated '};' $(($1 - 1))
     printf '}());'
 }
 
@@ -100,9 +100,14 @@ for count in 10000 50000 100000; do
     page '<!--imagen 1-->' formals "$count"
     row formals "$count" check "$work/page.html"
 done
+for depth in 1 20 60; do
+    for count in 10000 100000 1000000; do
+        page '' nested_uses "$depth" "$count"
+        row "uses, $depth" "$count" check "$work/page.html"
+    done
+done
 for count in 10000 100000 1000000; do
-    page '' nested_uses "$count"
-    row uses "$count" check "$work/page.html"
+    page '' nested_uses 60 "$count"
     row opened "$count" instrument "$work/page.html"
 done
 for count in 10000 100000 1000000; do

@@ -15,7 +15,7 @@ use std::fs;
 use std::io;
 use std::time::Instant;
 
-fn time_script(rt: &HostRuntime, tokens: &[Token]) -> io::Result<()> {
+fn time_script(rt: &HostRuntime, tokens: Vec<Token>) -> io::Result<()> {
     let start = Instant::now(rt)?;
     let found = script(rt.alloc(), tokens);
     let spent = start.elapsed(rt)?;
@@ -34,7 +34,7 @@ fn time_file(rt: &HostRuntime, name: &str) -> io::Result<()> {
     let Ok(found) = tokens(rt.alloc(), &units) else {
         return Ok(());
     };
-    time_script(rt, found.as_slice())
+    time_script(rt, found)
 }
 END
 main_over_files

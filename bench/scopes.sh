@@ -35,7 +35,7 @@ fn time_file(rt: &HostRuntime, name: &str) -> io::Result<()> {
     let Ok(tokens) = tokens(rt.alloc(), &units) else {
         return Ok(());
     };
-    let Ok(script) = script(rt.alloc(), tokens.as_slice()) else {
+    let Ok(script) = script(rt.alloc(), tokens) else {
         return Ok(());
     };
     time_script(rt, text.len(), &script)

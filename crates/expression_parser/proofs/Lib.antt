@@ -1,3 +1,4 @@
+mod Upcoming
 pub mod Joined
 pub mod Turns
 pub mod Words

@@ -28,12 +28,7 @@ fn joined(mut parts: Vec<Expr>) -> Result<Expr, ParseFault>
 
 impl<I: Inside> Grammar<I> {
     /// Reads an expression of this level.
-    pub fn at_level(
-        &self,
-        inn: bool,
-        level: Level,
-        tokens: &mut Cursor<'_>,
-    ) -> Result<Expr, ParseFault>
+    pub fn at_level(&self, inn: bool, level: Level, tokens: &mut Cursor) -> Result<Expr, ParseFault>
         ensures { Reads (reader.at_level limit (expression_in self.now.depth)
             (body_in self.now.depth) inn level tokens.old) result tokens.new }
     {
@@ -47,7 +42,7 @@ impl<I: Inside> Grammar<I> {
 
     /// Reads an expression, with commas.
     #[tactic(auto, unfolding(js_grammar::specs::ExpressionReader::all))]
-    pub fn all(&self, inn: bool, tokens: &mut Cursor<'_>) -> Result<Expr, ParseFault>
+    pub fn all(&self, inn: bool, tokens: &mut Cursor) -> Result<Expr, ParseFault>
         ensures { Reads (reader.all limit (expression_in self.now.depth)
             (body_in self.now.depth) inn tokens.old) result tokens.new }
     {
@@ -56,7 +51,7 @@ impl<I: Inside> Grammar<I> {
     }
 
     /// Reads assignment expressions with commas between them.
-    fn items(&self, inn: bool, tokens: &mut Cursor<'_>) -> Result<Vec<Expr>, ParseFault>
+    fn items(&self, inn: bool, tokens: &mut Cursor) -> Result<Vec<Expr>, ParseFault>
         ensures { ReadsAll (separated (reader.one limit (expression_in self.now.depth)
             (body_in self.now.depth) inn) tokens.old) result tokens.new }
     {
@@ -65,12 +60,7 @@ impl<I: Inside> Grammar<I> {
 
     /// Reads an expression of which the first assignment expression has been read.
     #[tactic(auto, unfolding(js_grammar::specs::ExpressionReader::all_from))]
-    pub fn all_from(
-        &self,
-        inn: bool,
-        first: Expr,
-        tokens: &mut Cursor<'_>,
-    ) -> Result<Expr, ParseFault>
+    pub fn all_from(&self, inn: bool, first: Expr, tokens: &mut Cursor) -> Result<Expr, ParseFault>
         ensures { Reads (reader.all_from limit (expression_in self.now.depth)
             (body_in self.now.depth) inn first tokens.old) result tokens.new }
     {
@@ -83,7 +73,7 @@ impl<I: Inside> Grammar<I> {
         &self,
         inn: bool,
         first: Expr,
-        tokens: &mut Cursor<'_>,
+        tokens: &mut Cursor,
     ) -> Result<Vec<Expr>, ParseFault>
         ensures { ReadsAll (reader.more_items limit (expression_in self.now.depth)
             (body_in self.now.depth) inn first tokens.old) result tokens.new }
@@ -95,7 +85,7 @@ impl<I: Inside> Grammar<I> {
 
     /// Reads an assignment expression.
     #[tactic(auto, unfolding(js_grammar::specs::ExpressionReader::one))]
-    pub fn one(&self, inn: bool, tokens: &mut Cursor<'_>) -> Result<Expr, ParseFault>
+    pub fn one(&self, inn: bool, tokens: &mut Cursor) -> Result<Expr, ParseFault>
         ensures { Reads (reader.one limit (expression_in self.now.depth)
             (body_in self.now.depth) inn tokens.old) result tokens.new }
     {
@@ -114,12 +104,7 @@ impl<I: Inside> Grammar<I> {
 
     /// Reads an assignment expression that begins with this left-hand side.
     #[tactic(auto, unfolding(js_grammar::specs::ExpressionReader::assigned, js_grammar::specs::Parser::within_limit))]
-    pub fn assigned(
-        &self,
-        inn: bool,
-        target: Expr,
-        tokens: &mut Cursor<'_>,
-    ) -> Result<Expr, ParseFault>
+    pub fn assigned(&self, inn: bool, target: Expr, tokens: &mut Cursor) -> Result<Expr, ParseFault>
         ensures { Reads (reader.assigned limit (expression_in self.now.depth)
             (body_in self.now.depth) inn target tokens.old) result tokens.new }
     {
@@ -138,7 +123,7 @@ impl<I: Inside> Grammar<I> {
 
     /// Reads an assignment expression that begins with this unary expression.
     #[tactic(auto, unfolding(js_grammar::specs::ExpressionReader::rest))]
-    fn rest(&self, inn: bool, first: Expr, tokens: &mut Cursor<'_>) -> Result<Expr, ParseFault>
+    fn rest(&self, inn: bool, first: Expr, tokens: &mut Cursor) -> Result<Expr, ParseFault>
         ensures { Reads (reader.rest limit (expression_in self.now.depth)
             (body_in self.now.depth) inn first tokens.old) result tokens.new }
     {
@@ -148,7 +133,7 @@ impl<I: Inside> Grammar<I> {
 
     /// Reads what may stand behind a binary expression: `?` and two choices.
     #[tactic(auto, unfolding(js_grammar::specs::ExpressionReader::choice, js_grammar::specs::Parser::within_limit))]
-    fn choice(&self, inn: bool, test: Expr, tokens: &mut Cursor<'_>) -> Result<Expr, ParseFault>
+    fn choice(&self, inn: bool, test: Expr, tokens: &mut Cursor) -> Result<Expr, ParseFault>
         ensures { Reads (reader.choice limit (expression_in self.now.depth)
             (body_in self.now.depth) inn test tokens.old) result tokens.new }
     {

@@ -17,7 +17,7 @@ use js_grammar::Level;
 impl<I: Inside> Grammar<I> {
     /// Reads a binary expression of this level or a tighter one.
     #[tactic(auto, unfolding(js_grammar::specs::ExpressionReader::climb))]
-    pub fn climb(&self, inn: bool, least: u32, tokens: &mut Cursor<'_>) -> Result<Expr, ParseFault>
+    pub fn climb(&self, inn: bool, least: u32, tokens: &mut Cursor) -> Result<Expr, ParseFault>
         ensures { Reads (reader.climb limit (expression_in self.now.depth)
             (body_in self.now.depth) inn least tokens.old) result tokens.new }
     {
@@ -31,7 +31,7 @@ impl<I: Inside> Grammar<I> {
         inn: bool,
         least: u32,
         mut left: Expr,
-        tokens: &mut Cursor<'_>,
+        tokens: &mut Cursor,
     ) -> Result<Expr, ParseFault>
         ensures { Reads (reader.operations limit (expression_in self.now.depth)
             (body_in self.now.depth) inn least left tokens.old) result tokens.new }
@@ -47,7 +47,7 @@ impl<I: Inside> Grammar<I> {
 
     /// Reads an operator and its second operand.
     #[tactic(auto, unfolding(js_grammar::specs::ExpressionReader::operation, js_grammar::specs::Parser::within_limit))]
-    fn operation(&self, inn: bool, left: Expr, tokens: &mut Cursor<'_>) -> Result<Expr, ParseFault>
+    fn operation(&self, inn: bool, left: Expr, tokens: &mut Cursor) -> Result<Expr, ParseFault>
         ensures { Reads (reader.operation limit (expression_in self.now.depth)
             (body_in self.now.depth) inn left tokens.old) result tokens.new }
     {

@@ -1,13 +1,15 @@
 //! A place in a list of tokens, and the steps that reading is made of.
 
-ghost use Rattle.std.specs.Prelude.{◌≡◌, length, Some, None};
+ghost use Rattle.std.specs.Prelude.{◌≡◌, List, length, Some, None};
 ghost use Rattle.std.specs.Option.{option_copied};
+ghost use Rattle.js_core.specs.declared.token.Token.{Token as PureToken};
 ghost use Rattle.js_grammar.specs.Endings.{same_line};
 ghost use Rattle.js_grammar.specs.ExpressionReader as reader;
 ghost use Rattle.js_grammar.specs.Operators as operators;
 ghost use Rattle.js_grammar.specs.Parser as parser;
 ghost use Rattle.js_grammar.specs.Symbols.{lexemes, symbol_of, member_name, field_name, number_text as spec_number_text, sign_of, sign_at, is_sign};
 ghost use Rattle.expression_parser.specs.Reads.{Reads, Gives, after_line};
+ghost use Rattle.expression_parser.specs.Upcoming.{upcoming};
 
 use crate::fault::{NotScript, ParseFault};
 use itoa::Buffer;
@@ -19,42 +21,48 @@ use std::alloc::Global;
 use std::marker::Model;
 
 /// The tokens that are still to be read. A contract sees their lexemes: the terminal symbols of the grammar, each with
-/// whether a line end stands before it.
+/// whether a line end stands before it. What was read goes, so that a tree grows where its tokens were.
 #[derive(Drop)]
-pub struct Cursor<'a> {
-    tokens: &'a [Token],
+pub struct Cursor {
+    next: Option<Token>,
+    /// The tokens behind the next one, the last of all first.
+    behind: Vec<Token>,
     /// The sign that comes next, so that each word is looked up once.
     sign: Option<Sign>,
 }
 
-impl<'a> Model for Cursor<'a> {
+impl Model for Cursor {
     ghost use Rattle.std.specs.Prelude.{◌≡◌, List};
     ghost use Rattle.js_grammar.specs.Symbols.{Lexeme, lexemes, sign_at};
+    ghost use Rattle.expression_parser.specs.Upcoming.{upcoming};
 
     ghost Value = { List Lexeme };
 
-    ghost view = { λ c. lexemes c.tokens.now };
+    ghost view = { λ c. lexemes (upcoming c.next c.behind.items) };
 
-    ghost invariant = { λ c. c.sign ≡ sign_at (lexemes c.tokens.now) };
+    ghost invariant = { λ c. c.sign ≡ sign_at (lexemes (upcoming c.next c.behind.items)) };
 }
 
-impl<'a> Cursor<'a> {
+impl Cursor {
     /// The place before the first of these tokens.
-    pub fn new(tokens: &'a [Token]) -> Cursor<'a>
-        ensures { result ≡ lexemes tokens.now }
+    pub fn new(tokens: Vec<Token>) -> Cursor
+        ensures { result ≡ lexemes tokens.items }
     {
-        Cursor {
-            tokens,
-            sign: first_sign(tokens),
-        }
+        let mut behind = tokens;
+        behind.reverse();
+        let next = behind.pop();
+        let sign = sign_of_next(&next);
+        Cursor { next, behind, sign }
     }
 
     /// How many tokens are left.
-    #[tactic(auto, using(crate::proofs::Words::same_length))]
     pub fn left(&self) -> usize
         ensures { result ≡ length self.now }
     {
-        self.tokens.len()
+        match &self.next {
+            Some(_) => self.behind.len() + 1,
+            None => 0,
+        }
     }
 
     /// The sign that comes next, where one does.
@@ -76,9 +84,10 @@ impl<'a> Cursor<'a> {
     pub fn skip(&mut self)
         ensures { self.new ≡ parser.tail self.old }
     {
-        if let Some((_, rest)) = self.tokens.split_first() {
-            self.tokens = rest;
-            self.sign = first_sign(rest);
+        if self.next.is_some() {
+            self.next = self.behind.pop();
+            self.sign = sign_of_next(&self.next);
+            give_back(&mut self.behind);
         }
     }
 
@@ -127,7 +136,7 @@ impl<'a> Cursor<'a> {
     pub fn identifier(&mut self) -> Result<Units, ParseFault>
         ensures { Reads (parser.taken reader.identifier_of self.old) result self.new }
     {
-        let name = match self.tokens.first() {
+        let name = match &self.next {
             Some(token) => identifier_in(&token.what, self.sign),
             None => None,
         };
@@ -146,7 +155,7 @@ impl<'a> Cursor<'a> {
     pub fn maybe_identifier(&mut self) -> Result<Option<Units>, ParseFault>
         ensures { Reads (reader.maybe_identifier self.old) result self.new }
     {
-        let name = match self.tokens.first() {
+        let name = match &self.next {
             Some(token) => identifier_in(&token.what, self.sign),
             None => None,
         };
@@ -165,7 +174,7 @@ impl<'a> Cursor<'a> {
     pub fn member_name(&mut self) -> Result<Units, ParseFault>
         ensures { Reads (parser.taken member_name self.old) result self.new }
     {
-        let name = match self.tokens.first() {
+        let name = match &self.next {
             Some(token) => member_name_in(&token.what),
             None => None,
         };
@@ -185,7 +194,7 @@ impl<'a> Cursor<'a> {
     pub fn field_name(&mut self, alloc: Global) -> Result<Units, ParseFault>
         ensures { Reads (parser.taken field_name self.old) result self.new }
     {
-        match self.tokens.first() {
+        match &self.next {
             Some(token) => {
                 let name = field_name_in(alloc, &token.what)?;
                 self.skip();
@@ -200,7 +209,7 @@ impl<'a> Cursor<'a> {
     pub fn atom(&mut self) -> Result<Expr, ParseFault>
         ensures { Reads (parser.taken reader.atom_of self.old) result self.new }
     {
-        match self.tokens.first() {
+        match &self.next {
             Some(token) => {
                 let atom = atom_in(&token.what, self.sign)?;
                 self.skip();
@@ -214,7 +223,7 @@ impl<'a> Cursor<'a> {
     pub fn step(&self) -> Option<bool>
         ensures { result ≡ reader.step_at self.now }
     {
-        match self.tokens.first() {
+        match &self.next {
             Some(token) => in_line(step_of(self.sign), token.after_line),
             None => None,
         }
@@ -224,7 +233,7 @@ impl<'a> Cursor<'a> {
     pub fn same_line(&self) -> bool
         ensures { result ≡ same_line self.now }
     {
-        match self.tokens.first() {
+        match &self.next {
             Some(token) => !token.after_line,
             None => false,
         }
@@ -234,7 +243,7 @@ impl<'a> Cursor<'a> {
     pub fn after_line(&self) -> Option<bool>
         ensures { result ≡ after_line self.now }
     {
-        match self.tokens.first() {
+        match &self.next {
             Some(token) => Some(token.after_line),
             None => None,
         }
@@ -250,12 +259,22 @@ fn is_sign(sign: Sign, next: Option<Sign>) -> bool
     }
 }
 
-fn first_sign(tokens: &[Token]) -> Option<Sign>
-    ensures { result ≡ sign_at (lexemes tokens.now) }
+fn sign_of_next(next: &Option<Token>) -> Option<Sign>
+    ensures { (behind : List PureToken) → result ≡ sign_at (lexemes (upcoming next.now behind)) }
 {
-    match tokens.first() {
+    match next {
         Some(token) => sign_in(&token.what),
         None => None,
+    }
+}
+
+/// Gives back the room of the tokens that were read, an eighth at a time.
+fn give_back(behind: &mut Vec<Token>)
+    ensures { behind.new.items ≡ behind.old.items }
+{
+    let capacity = behind.capacity();
+    if behind.len() < capacity - capacity / 8 {
+        behind.shrink_to_fit();
     }
 }
 

@@ -45,7 +45,7 @@ impl<I: Inside> Depth<I> {
         alloc: Global,
         inn: bool,
         level: Level,
-        tokens: &mut Cursor<'_>,
+        tokens: &mut Cursor,
     ) -> Result<Expr, ParseFault>
         ensures { Reads (expression_in self.now inn level tokens.old) result tokens.new }
     {
@@ -54,14 +54,14 @@ impl<I: Inside> Depth<I> {
     }
 
     /// Reads what stands between the braces of a function.
-    pub fn body(&self, alloc: Global, tokens: &mut Cursor<'_>) -> Result<Vec<Stmt>, ParseFault>
+    pub fn body(&self, alloc: Global, tokens: &mut Cursor) -> Result<Vec<Stmt>, ParseFault>
         ensures { ReadsAll (body_in self.now tokens.old) result tokens.new }
     {
         self.inside.body(alloc, self.nesting, tokens)
     }
 
     /// Reads a statement.
-    pub fn statement(&self, alloc: Global, tokens: &mut Cursor<'_>) -> Result<Stmt, ParseFault>
+    pub fn statement(&self, alloc: Global, tokens: &mut Cursor) -> Result<Stmt, ParseFault>
         ensures { Reads (statement_in self.now tokens.old) result tokens.new }
     {
         self.inside.statement(alloc, self.nesting, tokens)

@@ -41,7 +41,7 @@ impl<I: Inside> Grammar<I> {
         &self,
         inn: bool,
         level: Level,
-        tokens: &mut Cursor<'_>,
+        tokens: &mut Cursor,
     ) -> Result<Expr, ParseFault>
         ensures { Reads (expression_in self.now.depth inn level tokens.old) result tokens.new }
     {
@@ -49,7 +49,7 @@ impl<I: Inside> Grammar<I> {
     }
 
     /// Reads what stands between the braces of a function.
-    pub fn body(&self, tokens: &mut Cursor<'_>) -> Result<Vec<Stmt>, ParseFault>
+    pub fn body(&self, tokens: &mut Cursor) -> Result<Vec<Stmt>, ParseFault>
         ensures { ReadsAll (body_in self.now.depth tokens.old) result tokens.new }
     {
         self.depth.body(self.alloc, tokens)

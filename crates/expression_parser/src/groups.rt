@@ -14,7 +14,7 @@ impl<I: Inside> Grammar<I> {
     /// Reads the closing parenthesis of a group with this inside, and the rest of the expression, with commas, that the
     /// group begins.
     #[tactic(auto, unfolding(crate::specs::Groups::closing, js_grammar::specs::ExpressionReader::closing))]
-    pub fn closed(&self, inner: Expr, tokens: &mut Cursor<'_>) -> Result<Expr, ParseFault>
+    pub fn closed(&self, inner: Expr, tokens: &mut Cursor) -> Result<Expr, ParseFault>
         ensures { Reads (closing self.now.depth inner tokens.old) result tokens.new }
     {
         tokens.expect(Sign::Mark(Punct::RightParenthesis))?;

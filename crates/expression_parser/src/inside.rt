@@ -23,7 +23,7 @@ pub trait Inside {
         depth: Nesting,
         inn: bool,
         level: Level,
-        tokens: &mut Cursor<'_>,
+        tokens: &mut Cursor,
     ) -> Result<Expr, ParseFault>
         requires { nests self.now depth }
         ensures { Reads (expression_in depth inn level tokens.old) result tokens.new };
@@ -33,7 +33,7 @@ pub trait Inside {
         &self,
         alloc: Global,
         depth: Nesting,
-        tokens: &mut Cursor<'_>,
+        tokens: &mut Cursor,
     ) -> Result<Vec<Stmt>, ParseFault>
         requires { nests self.now depth }
         ensures { ReadsAll (body_in depth tokens.old) result tokens.new };
@@ -43,7 +43,7 @@ pub trait Inside {
         &self,
         alloc: Global,
         depth: Nesting,
-        tokens: &mut Cursor<'_>,
+        tokens: &mut Cursor,
     ) -> Result<Stmt, ParseFault>
         requires { nests self.now depth }
         ensures { Reads (statement_in depth tokens.old) result tokens.new };

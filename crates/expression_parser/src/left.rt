@@ -18,7 +18,7 @@ use js_grammar::{Level, Sign};
 impl<I: Inside> Grammar<I> {
     /// Reads a left-hand side, with calls or without.
     #[tactic(auto, unfolding(js_grammar::specs::ExpressionReader::left))]
-    pub fn left(&self, calls: bool, tokens: &mut Cursor<'_>) -> Result<Expr, ParseFault>
+    pub fn left(&self, calls: bool, tokens: &mut Cursor) -> Result<Expr, ParseFault>
         ensures { Reads (reader.left limit (expression_in self.now.depth)
             (body_in self.now.depth) calls tokens.old) result tokens.new }
     {
@@ -32,7 +32,7 @@ impl<I: Inside> Grammar<I> {
     }
 
     /// Reads a primary expression and what goes on with it.
-    fn extended(&self, calls: bool, tokens: &mut Cursor<'_>) -> Result<Expr, ParseFault>
+    fn extended(&self, calls: bool, tokens: &mut Cursor) -> Result<Expr, ParseFault>
         ensures { Reads (and_then (reader.primary limit (expression_in self.now.depth)
             (body_in self.now.depth) tokens.old)
             (reader.suffixes limit (expression_in self.now.depth) (body_in self.now.depth) calls))
@@ -43,7 +43,7 @@ impl<I: Inside> Grammar<I> {
     }
 
     /// Reads the arguments of a call and the parenthesis behind them.
-    fn arguments(&self, tokens: &mut Cursor<'_>) -> Result<Vec<Expr>, ParseFault>
+    fn arguments(&self, tokens: &mut Cursor) -> Result<Vec<Expr>, ParseFault>
         ensures { ReadsAll (reader.arguments limit (expression_in self.now.depth)
             (body_in self.now.depth) tokens.old) result tokens.new }
     {
@@ -54,7 +54,7 @@ impl<I: Inside> Grammar<I> {
 
     /// Reads the name behind a point.
     #[tactic(auto, unfolding(js_grammar::specs::ExpressionReader::dotted, js_grammar::specs::Parser::within_limit))]
-    fn dotted(&self, left: Expr, tokens: &mut Cursor<'_>) -> Result<Expr, ParseFault>
+    fn dotted(&self, left: Expr, tokens: &mut Cursor) -> Result<Expr, ParseFault>
         ensures { Reads (reader.dotted limit (expression_in self.now.depth)
             (body_in self.now.depth) left tokens.old) result tokens.new }
     {
@@ -64,7 +64,7 @@ impl<I: Inside> Grammar<I> {
 
     /// Reads the expression behind an opening bracket, and the closing one.
     #[tactic(auto, unfolding(js_grammar::specs::ExpressionReader::indexed, js_grammar::specs::Parser::within_limit))]
-    fn indexed(&self, left: Expr, tokens: &mut Cursor<'_>) -> Result<Expr, ParseFault>
+    fn indexed(&self, left: Expr, tokens: &mut Cursor) -> Result<Expr, ParseFault>
         ensures { Reads (reader.indexed limit (expression_in self.now.depth)
             (body_in self.now.depth) left tokens.old) result tokens.new }
     {
@@ -75,7 +75,7 @@ impl<I: Inside> Grammar<I> {
 
     /// Reads the arguments of a call, behind the opening parenthesis.
     #[tactic(auto, unfolding(js_grammar::specs::ExpressionReader::called, js_grammar::specs::Parser::within_limit))]
-    fn called(&self, left: Expr, tokens: &mut Cursor<'_>) -> Result<Expr, ParseFault>
+    fn called(&self, left: Expr, tokens: &mut Cursor) -> Result<Expr, ParseFault>
         ensures { Reads (reader.called limit (expression_in self.now.depth)
             (body_in self.now.depth) left tokens.old) result tokens.new }
     {
@@ -85,7 +85,7 @@ impl<I: Inside> Grammar<I> {
 
     /// Reads one thing that goes on with a left-hand side.
     #[tactic(auto, unfolding(js_grammar::specs::ExpressionReader::suffix))]
-    fn suffix(&self, left: Expr, tokens: &mut Cursor<'_>) -> Result<Expr, ParseFault>
+    fn suffix(&self, left: Expr, tokens: &mut Cursor) -> Result<Expr, ParseFault>
         ensures { Reads (reader.suffix limit (expression_in self.now.depth)
             (body_in self.now.depth) left tokens.old) result tokens.new }
     {
@@ -111,7 +111,7 @@ impl<I: Inside> Grammar<I> {
         &self,
         calls: bool,
         mut left: Expr,
-        tokens: &mut Cursor<'_>,
+        tokens: &mut Cursor,
     ) -> Result<Expr, ParseFault>
         ensures { Reads (reader.suffixes limit (expression_in self.now.depth)
             (body_in self.now.depth) calls left tokens.old) result tokens.new }
@@ -127,7 +127,7 @@ impl<I: Inside> Grammar<I> {
 
     /// Reads what stands behind a `new`.
     #[tactic(auto, unfolding(js_grammar::specs::ExpressionReader::constructed, js_grammar::specs::Parser::within_limit))]
-    fn constructed(&self, calls: bool, tokens: &mut Cursor<'_>) -> Result<Expr, ParseFault>
+    fn constructed(&self, calls: bool, tokens: &mut Cursor) -> Result<Expr, ParseFault>
         ensures { Reads (reader.constructed limit (expression_in self.now.depth)
             (body_in self.now.depth) calls tokens.old) result tokens.new }
     {

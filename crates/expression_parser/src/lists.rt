@@ -13,9 +13,9 @@ use js_grammar::Sign;
 use std::alloc::Global;
 
 /// Items, as long as the symbols ask for more.
-pub fn many<T: Drop, G: Fn(&Cursor<'_>) -> bool, F: Fn(&mut Cursor<'_>) -> Result<T, ParseFault>>(
+pub fn many<T: Drop, G: Fn(&Cursor) -> bool, F: Fn(&mut Cursor) -> Result<T, ParseFault>>(
     alloc: Global,
-    tokens: &mut Cursor<'_>,
+    tokens: &mut Cursor,
     goes_on: G,
     item: F,
 ) -> Result<Vec<T>, ParseFault>
@@ -44,8 +44,8 @@ fn fitted<T: Drop>(mut found: Vec<T>) -> Vec<T>
 }
 
 /// The items behind these ones, each behind a comma.
-pub fn further<T: Drop, F: Fn(&mut Cursor<'_>) -> Result<T, ParseFault>>(
-    tokens: &mut Cursor<'_>,
+pub fn further<T: Drop, F: Fn(&mut Cursor) -> Result<T, ParseFault>>(
+    tokens: &mut Cursor,
     mut found: Vec<T>,
     item: F,
 ) -> Result<Vec<T>, ParseFault>
@@ -65,9 +65,9 @@ pub fn further<T: Drop, F: Fn(&mut Cursor<'_>) -> Result<T, ParseFault>>(
 }
 
 /// One item or more, with commas between them.
-pub fn separated<T: Drop, F: Fn(&mut Cursor<'_>) -> Result<T, ParseFault>>(
+pub fn separated<T: Drop, F: Fn(&mut Cursor) -> Result<T, ParseFault>>(
     alloc: Global,
-    tokens: &mut Cursor<'_>,
+    tokens: &mut Cursor,
     item: F,
 ) -> Result<Vec<T>, ParseFault>
     requires { F.IsAlwaysCallable item }
@@ -81,9 +81,9 @@ pub fn separated<T: Drop, F: Fn(&mut Cursor<'_>) -> Result<T, ParseFault>>(
 }
 
 /// Items with commas between them, and the closing parenthesis.
-pub fn listed<T: Drop, F: Fn(&mut Cursor<'_>) -> Result<T, ParseFault>>(
+pub fn listed<T: Drop, F: Fn(&mut Cursor) -> Result<T, ParseFault>>(
     alloc: Global,
-    tokens: &mut Cursor<'_>,
+    tokens: &mut Cursor,
     item: F,
 ) -> Result<Vec<T>, ParseFault>
     requires { F.IsAlwaysCallable item }

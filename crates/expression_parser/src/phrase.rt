@@ -22,7 +22,7 @@ pub fn expression_at_level<I: Inside + Drop>(
     inside: I,
     inn: bool,
     level: Level,
-    tokens: &mut Cursor<'_>,
+    tokens: &mut Cursor,
 ) -> Result<Expr, ParseFault>
     requires { I.nests inside depth }
     ensures { Reads (reader.at_level limit (expression_in depth) (body_in depth) inn level
@@ -36,7 +36,7 @@ pub fn sequence<I: Inside + Drop>(
     alloc: Global,
     depth: Nesting,
     inside: I,
-    tokens: &mut Cursor<'_>,
+    tokens: &mut Cursor,
 ) -> Result<Expr, ParseFault>
     requires { I.nests inside depth }
     ensures { Reads (reader.all limit (expression_in depth) (body_in depth) true tokens.old) result
@@ -52,7 +52,7 @@ pub fn closed_group<I: Inside + Drop>(
     depth: Nesting,
     inside: I,
     inner: Expr,
-    tokens: &mut Cursor<'_>,
+    tokens: &mut Cursor,
 ) -> Result<Expr, ParseFault>
     requires { I.nests inside depth }
     ensures { Reads (closing depth inner tokens.old) result tokens.new }

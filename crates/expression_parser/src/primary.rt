@@ -19,7 +19,7 @@ use js_grammar::{Level, Sign};
 use std::alloc::Global;
 
 /// Reads the formals of a function and the parenthesis behind them.
-fn formal_names(alloc: Global, tokens: &mut Cursor<'_>) -> Result<Vec<Units>, ParseFault>
+fn formal_names(alloc: Global, tokens: &mut Cursor) -> Result<Vec<Units>, ParseFault>
     ensures { ReadsAll (reader.formal_names tokens.old) result tokens.new }
 {
     listed(alloc, tokens, |tokens| tokens.identifier())
@@ -28,7 +28,7 @@ fn formal_names(alloc: Global, tokens: &mut Cursor<'_>) -> Result<Vec<Units>, Pa
 impl<I: Inside> Grammar<I> {
     /// Reads a primary expression.
     #[tactic(auto, unfolding(js_grammar::specs::ExpressionReader::primary))]
-    pub fn primary(&self, tokens: &mut Cursor<'_>) -> Result<Expr, ParseFault>
+    pub fn primary(&self, tokens: &mut Cursor) -> Result<Expr, ParseFault>
         ensures { Reads (reader.primary limit (expression_in self.now.depth)
             (body_in self.now.depth) tokens.old) result tokens.new }
     {
@@ -40,7 +40,7 @@ impl<I: Inside> Grammar<I> {
     }
 
     /// Reads a primary expression where this word comes next.
-    fn primary_of_word(&self, word: Keyword, tokens: &mut Cursor<'_>) -> Result<Expr, ParseFault>
+    fn primary_of_word(&self, word: Keyword, tokens: &mut Cursor) -> Result<Expr, ParseFault>
         ensures { Reads (reader.primary_by limit (expression_in self.now.depth)
             (body_in self.now.depth) (Some (Word word)) tokens.old) result tokens.new }
     {
@@ -70,7 +70,7 @@ impl<I: Inside> Grammar<I> {
     }
 
     /// Reads a primary expression where this punctuator comes next.
-    fn primary_of_mark(&self, mark: Punct, tokens: &mut Cursor<'_>) -> Result<Expr, ParseFault>
+    fn primary_of_mark(&self, mark: Punct, tokens: &mut Cursor) -> Result<Expr, ParseFault>
         ensures { Reads (reader.primary_by limit (expression_in self.now.depth)
             (body_in self.now.depth) (Some (Mark mark)) tokens.old) result tokens.new }
     {
@@ -93,7 +93,7 @@ impl<I: Inside> Grammar<I> {
 
     /// Reads an element of an array literal, and the comma behind it, if one comes; `None` is an elision.
     #[tactic(auto, unfolding(js_grammar::specs::ExpressionReader::element))]
-    fn element(&self, tokens: &mut Cursor<'_>) -> Result<Option<Expr>, ParseFault>
+    fn element(&self, tokens: &mut Cursor) -> Result<Option<Expr>, ParseFault>
         ensures { Reads (reader.element limit (expression_in self.now.depth)
             (body_in self.now.depth) tokens.old) result tokens.new }
     {
@@ -107,7 +107,7 @@ impl<I: Inside> Grammar<I> {
     }
 
     /// Reads the elements of an array literal.
-    fn elements(&self, tokens: &mut Cursor<'_>) -> Result<Vec<Option<Expr>>, ParseFault>
+    fn elements(&self, tokens: &mut Cursor) -> Result<Vec<Option<Expr>>, ParseFault>
         ensures { ReadsAll (many (reader.comes_before RightBracket)
             (reader.element limit (expression_in self.now.depth) (body_in self.now.depth))
             tokens.old) result tokens.new }
@@ -122,7 +122,7 @@ impl<I: Inside> Grammar<I> {
 
     /// Reads an array literal, behind its bracket.
     #[tactic(auto, unfolding(js_grammar::specs::ExpressionReader::array, js_grammar::specs::Parser::within_limit))]
-    fn array(&self, tokens: &mut Cursor<'_>) -> Result<Expr, ParseFault>
+    fn array(&self, tokens: &mut Cursor) -> Result<Expr, ParseFault>
         ensures { Reads (reader.array limit (expression_in self.now.depth)
             (body_in self.now.depth) tokens.old) result tokens.new }
     {
@@ -133,7 +133,7 @@ impl<I: Inside> Grammar<I> {
 
     /// Reads a property of an object literal, and the comma behind it, if one comes.
     #[tactic(auto, unfolding(js_grammar::specs::ExpressionReader::field))]
-    fn field(&self, tokens: &mut Cursor<'_>) -> Result<(Units, Expr), ParseFault>
+    fn field(&self, tokens: &mut Cursor) -> Result<(Units, Expr), ParseFault>
         ensures { Reads (reader.field limit (expression_in self.now.depth)
             (body_in self.now.depth) tokens.old) result tokens.new }
     {
@@ -145,7 +145,7 @@ impl<I: Inside> Grammar<I> {
     }
 
     /// Reads the properties of an object literal.
-    fn fields(&self, tokens: &mut Cursor<'_>) -> Result<Vec<(Units, Expr)>, ParseFault>
+    fn fields(&self, tokens: &mut Cursor) -> Result<Vec<(Units, Expr)>, ParseFault>
         ensures { ReadsAll (many (reader.comes_before RightBrace)
             (reader.field limit (expression_in self.now.depth) (body_in self.now.depth)) tokens.old)
             result tokens.new }
@@ -160,7 +160,7 @@ impl<I: Inside> Grammar<I> {
 
     /// Reads an object literal, behind its brace.
     #[tactic(auto, unfolding(js_grammar::specs::ExpressionReader::object, js_grammar::specs::Parser::within_limit))]
-    fn object(&self, tokens: &mut Cursor<'_>) -> Result<Expr, ParseFault>
+    fn object(&self, tokens: &mut Cursor) -> Result<Expr, ParseFault>
         ensures { Reads (reader.object limit (expression_in self.now.depth)
             (body_in self.now.depth) tokens.old) result tokens.new }
     {
@@ -171,7 +171,7 @@ impl<I: Inside> Grammar<I> {
 
     /// Reads an expression and the parenthesis behind it.
     #[tactic(auto, unfolding(js_grammar::specs::ExpressionReader::group))]
-    fn group(&self, tokens: &mut Cursor<'_>) -> Result<Expr, ParseFault>
+    fn group(&self, tokens: &mut Cursor) -> Result<Expr, ParseFault>
         ensures { Reads (reader.group limit (expression_in self.now.depth)
             (body_in self.now.depth) tokens.old) result tokens.new }
     {
@@ -182,7 +182,7 @@ impl<I: Inside> Grammar<I> {
 
     /// Reads the formals and the body of the function with this name.
     #[tactic(auto, unfolding(js_grammar::specs::ExpressionReader::procedure))]
-    pub fn procedure(&self, own: Option<Units>, tokens: &mut Cursor<'_>) -> Result<Code, ParseFault>
+    pub fn procedure(&self, own: Option<Units>, tokens: &mut Cursor) -> Result<Code, ParseFault>
         ensures { Reads (reader.procedure limit (expression_in self.now.depth)
             (body_in self.now.depth) own tokens.old) result tokens.new }
     {
@@ -196,7 +196,7 @@ impl<I: Inside> Grammar<I> {
 
     /// Reads a function expression, behind its `function`.
     #[tactic(auto, unfolding(js_grammar::specs::ExpressionReader::function, js_grammar::specs::Parser::within_limit))]
-    fn function(&self, tokens: &mut Cursor<'_>) -> Result<Expr, ParseFault>
+    fn function(&self, tokens: &mut Cursor) -> Result<Expr, ParseFault>
         ensures { Reads (reader.function limit (expression_in self.now.depth)
             (body_in self.now.depth) tokens.old) result tokens.new }
     {

@@ -18,7 +18,7 @@ use js_grammar::{Level, Prefix};
 impl<I: Inside> Grammar<I> {
     /// Reads a unary expression.
     #[tactic(auto, unfolding(js_grammar::specs::ExpressionReader::unary))]
-    pub fn unary(&self, tokens: &mut Cursor<'_>) -> Result<Expr, ParseFault>
+    pub fn unary(&self, tokens: &mut Cursor) -> Result<Expr, ParseFault>
         ensures { Reads (reader.unary limit (expression_in self.now.depth)
             (body_in self.now.depth) tokens.old) result tokens.new }
     {
@@ -32,7 +32,7 @@ impl<I: Inside> Grammar<I> {
     }
 
     /// Reads a left-hand side and the step behind it, if one comes.
-    fn stepped(&self, tokens: &mut Cursor<'_>) -> Result<Expr, ParseFault>
+    fn stepped(&self, tokens: &mut Cursor) -> Result<Expr, ParseFault>
         ensures { Reads (and_then (reader.left limit (expression_in self.now.depth)
             (body_in self.now.depth) true tokens.old)
             (reader.postfix limit (expression_in self.now.depth) (body_in self.now.depth))) result
@@ -44,7 +44,7 @@ impl<I: Inside> Grammar<I> {
 
     /// Reads the `++` or `--` behind this expression, if one comes in the same line.
     #[tactic(auto, unfolding(js_grammar::specs::ExpressionReader::postfix, js_grammar::specs::Parser::within_limit))]
-    pub fn postfix(&self, target: Expr, tokens: &mut Cursor<'_>) -> Result<Expr, ParseFault>
+    pub fn postfix(&self, target: Expr, tokens: &mut Cursor) -> Result<Expr, ParseFault>
         ensures { Reads (reader.postfix limit (expression_in self.now.depth)
             (body_in self.now.depth) target tokens.old) result tokens.new }
     {
@@ -59,7 +59,7 @@ impl<I: Inside> Grammar<I> {
 
     /// Reads the operand of this operator.
     #[tactic(auto, unfolding(js_grammar::specs::ExpressionReader::operated, js_grammar::specs::Parser::within_limit))]
-    pub fn operated(&self, operator: Prefix, tokens: &mut Cursor<'_>) -> Result<Expr, ParseFault>
+    pub fn operated(&self, operator: Prefix, tokens: &mut Cursor) -> Result<Expr, ParseFault>
         ensures { Reads (reader.operated limit (expression_in self.now.depth)
             (body_in self.now.depth) operator tokens.old) result tokens.new }
     {

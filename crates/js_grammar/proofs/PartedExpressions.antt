@@ -22,7 +22,7 @@ pub record Parts {A : Type 0} (Item : Phrase A) (ls : List Bool) (b : Symbol) (x
 abbrev pub Parted : {A : Type 0} → Phrase A → Type 0
 Parted {A} Item = (ls : List Bool) (b : Symbol) (x z : List Lexeme) (a : A) → Item x z a → Parts Item ls b x z a
 
--- the same, of what ends neither with `{` nor with `;`
+-- the same, of what ends neither with `{` nor with `;` or `:`
 pub record Ends {A : Type 0} (Item : Phrase A) (ls : List Bool) (b : Symbol) (x z : List Lexeme) (a : A) : Type 0 where
   pub last : Symbol
   pub left : List Bool

@@ -1,4 +1,4 @@
--- Where line ends may be put between the symbols of a script: behind `{` and `;`, before `}`, and behind a `}` where no `++`
+-- Where line ends may be put between the symbols of a script: behind `{`, `;` and `:`, before `}`, and behind a `}` where no `++`
 -- or `--` follows. Statements begin there and end there, and no rule on semicolons looks at a line end there (section 7.9).
 use Rattle.std.specs.Prelude.{◌≡◌, Bool, true, false, not, ◌||◌, ◌&&◌, List, [], ◌∷◌, is_some}
 use Rattle.js_core.specs.Tree as tree
@@ -12,6 +12,7 @@ use Rattle.js_grammar.specs.Symbols.{Symbol, sign, Lexeme, lexemes, sign_of}
 abbrev pub is_opening : Symbol → Bool
 is_opening (sign (Mark p.LeftBrace)) = true
 is_opening (sign (Mark p.Semicolon)) = true
+is_opening (sign (Mark p.Colon)) = true
 is_opening s = false
 
 abbrev pub is_closing : Symbol → Bool

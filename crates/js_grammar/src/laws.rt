@@ -35,7 +35,7 @@ pub fn law_derived_trees_are_syntax()
     ensures { TokensHaveSyntax }
 {}
 
-/// Line ends between the symbols of a script are harmless behind `{` and `;`, before `}`, and behind a `}` where no `++` or `--`
+/// Line ends between the symbols of a script are harmless behind `{`, `;` and `:`, before `}`, and behind a `}` where no `++` or `--`
 /// follows: tokens with more of them derive the same script (section 7.9).
 pub fn law_line_ends_are_harmless()
     ensures { LineEndsAreHarmless }

@@ -32,7 +32,7 @@ lined_after after_word ls (x ∷ xs) = gap (first_of ls) after_word (is_word x) 
 abbrev pub lined_text : List Bool → List Lexeme → List ℕ
 lined_text ls xs = lined_after false ls xs
 
--- each of the line ends may stand where it does: behind `{` and `;`, before `}`, and behind a `}` where no `++` or `--` follows
+-- each of the line ends may stand where it does: behind `{`, `;` and `:`, before `}`, and behind a `}` where no `++` or `--` follows
 abbrev pub may_be_lined : Lexeme → List Bool → List Lexeme → Bool
 may_be_lined behind ls [] = true
 may_be_lined behind ls (x ∷ xs) = (not (first_of ls) || may_part (symbol_of (kind_of behind)) (symbol_of (kind_of x))) && may_be_lined x (others_of ls) xs

@@ -1,25 +1,22 @@
 -- That the text of a page with opened scopes is accepted as a form page.
-use Rattle.std.proofs.Common.{◌≡◌, ◌∙◌, refl, sym, ap, subst, ℕ, ◌+◌, Bool, true, false, List, [], ◌∷◌, append-nil}
-use Rattle.std.specs.Prelude.{◌||◌, ◌&&◌, bytes_eq, codes}
-use Rattle.std.specs.List.{All, list_all}
-use Rattle.std.proofs.lemmas.Bool.{and_parts, ltb-false, not-true, or_left}
+use Rattle.std.proofs.Common.{◌≡◌, refl, sym, subst, ℕ, ◌+◌, Bool, true, false, List, [], ◌∷◌, append-nil}
+use Rattle.std.specs.Prelude.{◌||◌, bytes_eq, codes}
+use Rattle.std.specs.List.{All}
+use Rattle.std.proofs.lemmas.Bool.{ltb-false, not-true}
 use Rattle.std.proofs.lemmas.List.Elements.{All-head}
 use Rattle.js_core.specs.Height.{stmts_height}
-use Rattle.js_core.specs.Text.{utf16_of}
 use Rattle.js_core.specs.Tree as tree
 use Rattle.js_core.specs.Tree.{no_stmts, then_stmt}
 use Rattle.instrumenter.specs.Around.{top}
 use Rattle.instrumenter.specs.Opened.{IsPlainScript, OpenedScriptsAreForm}
 use Rattle.instrumenter.specs.Opening.{open_script, open_scripts, open_tops}
 use Rattle.js_grammar.specs.Syntax.{IsSyntax}
-use Rattle.js_print.specs.Laws.{is_free}
-use Rattle.js_print.specs.Lined.{LinedAgain, is_lined}
 use Rattle.js_print.specs.Printing.{script_text}
-use Rattle.js_print.specs.ReadAgain.{ReadAgain, ScriptsAreReadAgain, begins_strict}
+use Rattle.js_print.specs.ReadAgain.{begins_strict}
 use Rattle.page_check.proofs.Callers.{one_page_script}
 use Rattle.page_check.specs.Accept.{IsAcceptedAs, IsPageScript, text_of}
 use Rattle.page_check.specs.declared.page.Kind.TheVariants.{Plain, Form}
-use Rattle.printed_pages.specs.Printed.{AcceptedScriptsBeginStrict, AcceptedScriptsHaveSyntax, FramedScriptsAreAccepted, framed}
+use Rattle.printed_pages.specs.Printed.{AcceptedScriptsBeginStrict, AcceptedScriptsHaveSyntax, PrintedScriptsAreAccepted, framed}
 use Rattle.scope_analysis.specs.Form.{has_reserved_name}
 use Rattle.scope_analysis.specs.Limits.{plain_height_limit}
 use Rattle.opened_pages.specs.Opened.{OpenedPagesAreAccepted, opened_text}
@@ -35,24 +32,6 @@ begins_opened n (then_stmt (tree.expr (tree.text t)) ss) h = by (bytes_eq t (cod
     by false h later = later h
 begins_opened n ss h = cc h
 
--- ---- a printed text has no control character, so none but LF
-
-all_lined : (us : List ℕ) → list_all is_free us ≡ true → list_all is_lined us ≡ true
-all_lined [] h = refl
-all_lined (u ∷ us) h =
-    ap (λ (d : Bool). d && list_all is_lined us) (or_left (is_free u) _ (and_parts (is_free u) _ h).0) ∙ all_lined us (and_parts (is_free u) _ h).1
-
-lined_again : (script : tree.Stmts) (text : List ℕ) → ReadAgain script text → LinedAgain script text
-lined_again script text again = record {
-  utf8 = again.utf8;
-  no_tag_in_units = again.no_tag_in_units;
-  no_control = all_lined (utf16_of text) again.no_control;
-  tokens = again.tokens;
-  read = again.read;
-  derived = again.derived;
-  strict = again.strict;
-}
-
 -- ---- the law
 
 -- a script of an accepted plain page can be opened
@@ -64,8 +43,7 @@ plain_script text script is syntax = record {
   plain = not-true (has_reserved_name script) is.formed;
 }
 
-module _ (formed : OpenedScriptsAreForm) (printed : ScriptsAreReadAgain) (framing : FramedScriptsAreAccepted)
-    (syntax : AcceptedScriptsHaveSyntax) (strict : AcceptedScriptsBeginStrict) where
+module _ (formed : OpenedScriptsAreForm) (printed : PrintedScriptsAreAccepted) (syntax : AcceptedScriptsHaveSyntax) (strict : AcceptedScriptsBeginStrict) where
   -- the text of the one script stands in the frame
   one_is_accepted : (text : List ℕ) (script : tree.Stmts) (with_body : Bool) → IsPageScript Plain text script → IsSyntax script → begins_strict script ≡ true
       → IsAcceptedAs (opened_text with_body (script ∷ [])) Form (open_script 1 script ∷ [])
@@ -73,7 +51,7 @@ module _ (formed : OpenedScriptsAreForm) (printed : ScriptsAreReadAgain) (framin
       let opened = open_script 1 script in
       let form = formed 1 script (plain_script text script is has) in
       subst (λ (t : List ℕ). IsAcceptedAs (framed with_body t) Form (opened ∷ [])) (sym (append-nil (script_text opened)))
-      (framing with_body opened (script_text opened) form.1 (begins_opened 1 script begins) (lined_again opened (script_text opened) (printed opened form.0)))
+      (printed with_body opened form.0 form.1 (begins_opened 1 script begins))
 
   opened_is_accepted : (bytes : List ℕ) (scripts : List tree.Stmts) (page : IsAcceptedAs bytes Plain scripts) (with_body : Bool)
       → IsAcceptedAs (opened_text with_body scripts) Form (open_scripts scripts)

@@ -4,10 +4,9 @@ ghost use Rattle.opened_pages.specs.Opened.{OpenedPagesAreAccepted, OpenedPagesP
 
 use agreement::law_plain_pages_agree;
 use instrumenter::law_opened_scripts_are_form;
-use js_print::law_printed_scripts_are_read_again;
 use printed_pages::{
     law_accepted_scripts_begin_strict, law_accepted_scripts_have_syntax,
-    law_framed_scripts_are_accepted,
+    law_printed_scripts_are_accepted,
 };
 
 /// The text of an accepted page with opened scopes is accepted as a form page, with the opened scripts.
@@ -15,8 +14,7 @@ pub fn law_opened_pages_are_accepted()
     ensures { OpenedPagesAreAccepted }
 {
     law_opened_scripts_are_form();
-    law_printed_scripts_are_read_again();
-    law_framed_scripts_are_accepted();
+    law_printed_scripts_are_accepted();
     law_accepted_scripts_have_syntax();
     law_accepted_scripts_begin_strict();
 }

@@ -4,6 +4,7 @@ use Rattle.std.specs.List.{All}
 use Rattle.js_core.specs.Tree as tree
 use Rattle.js_grammar.specs.Syntax.{IsSyntax}
 use Rattle.js_print.specs.Lined.{LinedAgain}
+use Rattle.js_print.specs.Printing.{script_text}
 use Rattle.js_print.specs.ReadAgain.{begins_strict}
 use Rattle.page_check.specs.Accept.{IsAcceptedAs}
 use Rattle.page_check.specs.Frame.{body_text}
@@ -26,6 +27,12 @@ abbrev pub FramedScriptsAreAccepted : Type 0
 FramedScriptsAreAccepted =
     (with_body : Bool) (script : tree.Stmts) (text : List ℕ) → IsFormPageScript script → IsTrue (begins_strict script) → LinedAgain script text
     → IsAcceptedAs (framed with_body text) Form (script ∷ [])
+
+-- so is the text of each such script, as it is printed, that keeps the rules on trees
+abbrev pub PrintedScriptsAreAccepted : Type 0
+PrintedScriptsAreAccepted =
+    (with_body : Bool) (script : tree.Stmts) → IsSyntax script → IsFormPageScript script → IsTrue (begins_strict script)
+    → IsAcceptedAs (framed with_body (script_text script)) Form (script ∷ [])
 
 -- each script of an accepted page is a tree that some tokens have
 abbrev pub AcceptedScriptsHaveSyntax : Type 0

@@ -5,5 +5,5 @@ mod laws;
 
 pub use laws::{
     law_accepted_scripts_begin_strict, law_accepted_scripts_have_syntax,
-    law_framed_scripts_are_accepted,
+    law_framed_scripts_are_accepted, law_printed_scripts_are_accepted,
 };

@@ -30,7 +30,7 @@ fn answer_to(alloc: Global, line: &str) -> Result<Answer, OutOfMemory>
         Err(LexFault::Cause(NotTokens)) => return Ok(Answer::Refused),
         Err(LexFault::OutOfMemory) => return Err(OutOfMemory),
     };
-    let script = match script(alloc, tokens.as_slice()) {
+    let script = match script(alloc, tokens) {
         Ok(script) => script,
         Err(ParseFault::Cause(NotScript)) => return Ok(Answer::Refused),
         Err(ParseFault::OutOfMemory) => return Err(OutOfMemory),

@@ -10,27 +10,29 @@ use Rattle.js_grammar.specs.Symbols.{lexemes, Lexeme}
 use Rattle.expression_parser.specs.declared.nesting.Nesting.{Nesting}
 use Rattle.expression_parser.specs.Inside.{limit, body_in}
 
--- how deep the parts of these tokens may nest
-abbrev pub outermost : List Token → Nesting
-outermost tokens = record { room = room_of height_limit; all = length tokens + 1 }
+-- how deep the parts of so many tokens may nest
+abbrev pub outermost : ℕ → Nesting
+outermost n = record { room = room_of height_limit; all = n + 1 }
 
-pub read_as : (tokens : List Token) (o : Outcome (List tree.Stmt)) → body_in (outermost tokens) (lexemes tokens) ≡ o → read_script height_limit tokens ≡ whole o
-unfolding body_in limit read_script
-read_as tokens o e = let f = rw add-one at e in ap whole f
+module _ (tokens : List Token) (n : ℕ) (many : n ≡ length tokens) where
+  pub read_as : (o : Outcome (List tree.Stmt)) → body_in (outermost n) (lexemes tokens) ≡ o → read_script height_limit tokens ≡ whole o
+  unfolding body_in limit read_script
+  read_as o e = let f = rw (many, add-one) at e in ap whole f
 
-pub whole_ended : (found : List tree.Stmt) (rest : List Lexeme) → length rest ≡ 0 → whole (Some (found, rest)) ≡ Some (stmts_of found)
+whole_ended : (found : List tree.Stmt) (rest : List Lexeme) → length rest ≡ 0 → whole (Some (found, rest)) ≡ Some (stmts_of found)
 whole_ended found [] h = refl
 whole_ended found (t ∷ ts) h = absurd (omega arith)
 
-pub whole_left : (found : List tree.Stmt) (rest : List Lexeme) → 0 < length rest → whole (Some (found, rest)) ≡ None
+whole_left : (found : List tree.Stmt) (rest : List Lexeme) → 0 < length rest → whole (Some (found, rest)) ≡ None
 whole_left found [] h = absurd (omega arith)
 whole_left found (t ∷ ts) h = refl
 
-pub read_all : (tokens : List Token) (i : List Lexeme) (found : List tree.Stmt) (rest : List Lexeme) → i ≡ lexemes tokens → body_in (outermost tokens) i ≡ Some (found, rest) → length rest ≡ 0 → read_script height_limit tokens ≡ Some (stmts_of found)
-read_all tokens i found rest begins e h = let f = rw begins at e in read_as tokens (Some (found, rest)) f ∙ whole_ended found rest h
+module _ (tokens : List Token) (n : ℕ) (i : List Lexeme) (many : n ≡ length tokens) (begins : i ≡ lexemes tokens) where
+  pub read_all : (found : List tree.Stmt) (rest : List Lexeme) → body_in (outermost n) i ≡ Some (found, rest) → length rest ≡ 0 → read_script height_limit tokens ≡ Some (stmts_of found)
+  read_all found rest e h = let f = rw begins at e in read_as tokens n many (Some (found, rest)) f ∙ whole_ended found rest h
 
-pub left_over : (tokens : List Token) (i : List Lexeme) (found : List tree.Stmt) (rest : List Lexeme) → i ≡ lexemes tokens → body_in (outermost tokens) i ≡ Some (found, rest) → 0 < length rest → read_script height_limit tokens ≡ None
-left_over tokens i found rest begins e h = let f = rw begins at e in read_as tokens (Some (found, rest)) f ∙ whole_left found rest h
+  pub left_over : (found : List tree.Stmt) (rest : List Lexeme) → body_in (outermost n) i ≡ Some (found, rest) → 0 < length rest → read_script height_limit tokens ≡ None
+  left_over found rest e h = let f = rw begins at e in read_as tokens n many (Some (found, rest)) f ∙ whole_left found rest h
 
-pub not_read : (tokens : List Token) (i : List Lexeme) → i ≡ lexemes tokens → body_in (outermost tokens) i ≡ None → read_script height_limit tokens ≡ None
-not_read tokens i begins e = let f = rw begins at e in read_as tokens None f
+  pub not_read : body_in (outermost n) i ≡ None → read_script height_limit tokens ≡ None
+  not_read e = let f = rw begins at e in read_as tokens n many None f

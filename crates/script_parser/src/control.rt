@@ -14,7 +14,7 @@ use js_core::{Expr, Keyword, Punct, Stmt, StmtNode};
 use js_grammar::Sign;
 
 impl<I: Inside> Statements<I> {
-    fn statements(&self, tokens: &mut Cursor<'_>) -> Result<Vec<Stmt>, ParseFault>
+    fn statements(&self, tokens: &mut Cursor) -> Result<Vec<Stmt>, ParseFault>
         ensures { ReadsAll (spec_many reader.has_more
             (statement_in self.now.grammar.depth) tokens.old) result tokens.new }
     {
@@ -28,7 +28,7 @@ impl<I: Inside> Statements<I> {
 
     /// Reads statements in braces.
     #[tactic(auto, unfolding(js_grammar::specs::StatementReader::braced))]
-    pub fn braced(&self, tokens: &mut Cursor<'_>) -> Result<Vec<Stmt>, ParseFault>
+    pub fn braced(&self, tokens: &mut Cursor) -> Result<Vec<Stmt>, ParseFault>
         ensures { ReadsAll (reader.braced limit (expression_in self.now.grammar.depth)
             (body_in self.now.grammar.depth) (statement_in self.now.grammar.depth) tokens.old)
             result tokens.new }
@@ -41,7 +41,7 @@ impl<I: Inside> Statements<I> {
 
     /// Reads a block.
     #[tactic(auto, unfolding(js_grammar::specs::StatementReader::block))]
-    pub fn block(&self, tokens: &mut Cursor<'_>) -> Result<Stmt, ParseFault>
+    pub fn block(&self, tokens: &mut Cursor) -> Result<Stmt, ParseFault>
         ensures { Reads (reader.block limit (expression_in self.now.grammar.depth)
             (body_in self.now.grammar.depth) (statement_in self.now.grammar.depth) tokens.old)
             result tokens.new }
@@ -52,7 +52,7 @@ impl<I: Inside> Statements<I> {
 
     /// Reads an expression in parentheses.
     #[tactic(auto, unfolding(js_grammar::specs::StatementReader::condition))]
-    pub fn condition(&self, tokens: &mut Cursor<'_>) -> Result<Expr, ParseFault>
+    pub fn condition(&self, tokens: &mut Cursor) -> Result<Expr, ParseFault>
         ensures { Reads (reader.condition limit (expression_in self.now.grammar.depth)
             (body_in self.now.grammar.depth) (statement_in self.now.grammar.depth) tokens.old)
             result tokens.new }
@@ -66,7 +66,7 @@ impl<I: Inside> Statements<I> {
     /// Reads what stands behind `if`. An `else` belongs to the nearest `if`.
     #[inline(never)]
     #[tactic(auto, unfolding(js_grammar::specs::StatementReader::conditional, js_grammar::specs::Parser::eat))]
-    pub fn conditional(&self, tokens: &mut Cursor<'_>) -> Result<Stmt, ParseFault>
+    pub fn conditional(&self, tokens: &mut Cursor) -> Result<Stmt, ParseFault>
         ensures { Reads (reader.conditional limit (expression_in self.now.grammar.depth)
             (body_in self.now.grammar.depth) (statement_in self.now.grammar.depth) tokens.old)
             result tokens.new }

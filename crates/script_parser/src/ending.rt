@@ -18,7 +18,7 @@ pub const READ_EXPRESSION: Ending = Ending::AfterExpression(false);
 
 /// Takes a semicolon, unless it may be missing here. `NotScript` where it may not.
 #[tactic(auto, unfolding(js_grammar::specs::StatementReader::ended))]
-pub fn ended(tokens: &mut Cursor<'_>, ending: Ending) -> Result<(), ParseFault>
+pub fn ended(tokens: &mut Cursor, ending: Ending) -> Result<(), ParseFault>
     ensures { Reads (reader.ended ending tokens.old) result tokens.new }
 {
     if tokens.sees(Sign::Mark(Punct::Semicolon)) {
@@ -34,7 +34,7 @@ pub fn ended(tokens: &mut Cursor<'_>, ending: Ending) -> Result<(), ParseFault>
 
 /// Whether a semicolon may be missing here.
 #[tactic(auto, using(crate::proofs::Ends::may_end_at_end, crate::proofs::Ends::may_end_before))]
-pub fn may_end(tokens: &Cursor<'_>, ending: Ending) -> bool
+pub fn may_end(tokens: &Cursor, ending: Ending) -> bool
     ensures { result ≡ spec.may_end ending tokens.now }
 {
     match tokens.after_line() {
@@ -136,7 +136,7 @@ fn ending_by(last: &Declarator) -> Ending
 
 /// Whether there is one more statement before a `}` and the end.
 #[tactic(auto, using(crate::proofs::Ends::has_more_at_end, crate::proofs::Ends::has_more_before))]
-pub fn has_more(tokens: &Cursor<'_>) -> bool
+pub fn has_more(tokens: &Cursor) -> bool
     ensures { result ≡ reader.has_more tokens.now }
 {
     match tokens.after_line() {
@@ -146,7 +146,7 @@ pub fn has_more(tokens: &Cursor<'_>) -> bool
 }
 
 /// Whether there is one more statement of this clause of a `switch`.
-pub fn has_more_in_clause(tokens: &Cursor<'_>) -> bool
+pub fn has_more_in_clause(tokens: &Cursor) -> bool
     ensures { result ≡ reader.has_more_in_clause tokens.now }
 {
     has_more(tokens) && !begins_clause(tokens.sign())
@@ -159,7 +159,7 @@ fn begins_clause(sign: Option<Sign>) -> bool
 }
 
 /// Whether no operand may follow a `return`.
-pub fn returns(tokens: &Cursor<'_>) -> bool
+pub fn returns(tokens: &Cursor) -> bool
     ensures { result ≡ reader.returns tokens.now }
 {
     tokens.sees(Sign::Mark(Punct::Semicolon)) || may_end(tokens, Ending::AfterAll)

@@ -15,11 +15,7 @@ use js_grammar::{Prefix, Sign};
 impl<I: Inside> Statements<I> {
     /// Reads an expression, unless this punctuator comes.
     #[tactic(auto, unfolding(js_grammar::specs::StatementReader::maybe_before))]
-    fn maybe_before(
-        &self,
-        close: Punct,
-        tokens: &mut Cursor<'_>,
-    ) -> Result<Option<Expr>, ParseFault>
+    fn maybe_before(&self, close: Punct, tokens: &mut Cursor) -> Result<Option<Expr>, ParseFault>
         ensures { Reads (reader.maybe_before limit (expression_in self.now.grammar.depth)
             (body_in self.now.grammar.depth) (statement_in self.now.grammar.depth) close tokens.old)
             result tokens.new }
@@ -33,7 +29,7 @@ impl<I: Inside> Statements<I> {
 
     /// Reads a `for` from its first semicolon on.
     #[tactic(auto, unfolding(js_grammar::specs::StatementReader::for_loop))]
-    fn for_loop(&self, init: ForInit, tokens: &mut Cursor<'_>) -> Result<Stmt, ParseFault>
+    fn for_loop(&self, init: ForInit, tokens: &mut Cursor) -> Result<Stmt, ParseFault>
         ensures { Reads (reader.for_loop limit (expression_in self.now.grammar.depth)
             (body_in self.now.grammar.depth) (statement_in self.now.grammar.depth)
             (init_of init) tokens.old) result tokens.new }
@@ -58,12 +54,7 @@ impl<I: Inside> Statements<I> {
 
     /// Reads a `for` from behind its `in`.
     #[tactic(auto, unfolding(js_grammar::specs::StatementReader::for_in))]
-    fn for_in(
-        &self,
-        declared: bool,
-        target: Expr,
-        tokens: &mut Cursor<'_>,
-    ) -> Result<Stmt, ParseFault>
+    fn for_in(&self, declared: bool, target: Expr, tokens: &mut Cursor) -> Result<Stmt, ParseFault>
         ensures { Reads (reader.for_in limit (expression_in self.now.grammar.depth)
             (body_in self.now.grammar.depth) (statement_in self.now.grammar.depth) declared target
             tokens.old) result tokens.new }
@@ -84,7 +75,7 @@ impl<I: Inside> Statements<I> {
     }
 
     /// Reads a `for` from behind its `in`, whose variable has this declaration. `NotScript` where it has an initialiser.
-    fn for_in_by(&self, declarator: Declarator, tokens: &mut Cursor<'_>) -> Result<Stmt, ParseFault>
+    fn for_in_by(&self, declarator: Declarator, tokens: &mut Cursor) -> Result<Stmt, ParseFault>
         ensures { Reads (reader.for_in_by limit (expression_in self.now.grammar.depth)
             (body_in self.now.grammar.depth) (statement_in self.now.grammar.depth) declarator.value
             declarator.name tokens.old) result tokens.new }
@@ -102,7 +93,7 @@ impl<I: Inside> Statements<I> {
     fn for_in_declared(
         &self,
         mut found: Vec<Declarator>,
-        tokens: &mut Cursor<'_>,
+        tokens: &mut Cursor,
     ) -> Result<Stmt, ParseFault>
         ensures { Reads (reader.for_in_declared limit (expression_in self.now.grammar.depth)
             (body_in self.now.grammar.depth) (statement_in self.now.grammar.depth) found.items
@@ -120,7 +111,7 @@ impl<I: Inside> Statements<I> {
     /// Reads a `for` from behind its `var`.
     #[inline(never)]
     #[tactic(auto, unfolding(js_grammar::specs::StatementReader::for_variables, js_grammar::specs::Parser::eat))]
-    fn for_variables(&self, tokens: &mut Cursor<'_>) -> Result<Stmt, ParseFault>
+    fn for_variables(&self, tokens: &mut Cursor) -> Result<Stmt, ParseFault>
         ensures { Reads (reader.for_variables limit (expression_in self.now.grammar.depth)
             (body_in self.now.grammar.depth) (statement_in self.now.grammar.depth) tokens.old)
             result tokens.new }
@@ -137,7 +128,7 @@ impl<I: Inside> Statements<I> {
         &self,
         target: Expr,
         is_in: bool,
-        tokens: &mut Cursor<'_>,
+        tokens: &mut Cursor,
     ) -> Result<Stmt, ParseFault>
         ensures { Reads (reader.for_target_by limit (expression_in self.now.grammar.depth)
             (body_in self.now.grammar.depth) (statement_in self.now.grammar.depth) target is_in
@@ -157,7 +148,7 @@ impl<I: Inside> Statements<I> {
     fn for_expression(
         &self,
         prefix: Option<Prefix>,
-        tokens: &mut Cursor<'_>,
+        tokens: &mut Cursor,
     ) -> Result<Stmt, ParseFault>
         ensures { Reads (reader.for_expression limit (expression_in self.now.grammar.depth)
             (body_in self.now.grammar.depth) (statement_in self.now.grammar.depth) prefix
@@ -173,7 +164,7 @@ impl<I: Inside> Statements<I> {
     }
 
     /// Reads a `for` from behind its parenthesis, where this sign comes.
-    fn for_by(&self, sign: Option<Sign>, tokens: &mut Cursor<'_>) -> Result<Stmt, ParseFault>
+    fn for_by(&self, sign: Option<Sign>, tokens: &mut Cursor) -> Result<Stmt, ParseFault>
         ensures { Reads (reader.for_by limit (expression_in self.now.grammar.depth)
             (body_in self.now.grammar.depth) (statement_in self.now.grammar.depth) sign tokens.old)
             result tokens.new }
@@ -190,7 +181,7 @@ impl<I: Inside> Statements<I> {
 
     /// Reads what stands behind `for`.
     #[tactic(auto, unfolding(js_grammar::specs::StatementReader::for_statement))]
-    pub fn for_statement(&self, tokens: &mut Cursor<'_>) -> Result<Stmt, ParseFault>
+    pub fn for_statement(&self, tokens: &mut Cursor) -> Result<Stmt, ParseFault>
         ensures { Reads (reader.for_statement limit (expression_in self.now.grammar.depth)
             (body_in self.now.grammar.depth) (statement_in self.now.grammar.depth) tokens.old)
             result tokens.new }

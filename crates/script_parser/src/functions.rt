@@ -19,9 +19,9 @@ pub struct Functions<E, B, S> {
 }
 
 impl<
-    E: Fn(Global, Nesting, bool, Level, &mut Cursor<'_>) -> Result<Expr, ParseFault>,
-    B: Fn(Global, Nesting, &mut Cursor<'_>) -> Result<Vec<Stmt>, ParseFault>,
-    S: Fn(Global, Nesting, &mut Cursor<'_>) -> Result<Stmt, ParseFault>,
+    E: Fn(Global, Nesting, bool, Level, &mut Cursor) -> Result<Expr, ParseFault>,
+    B: Fn(Global, Nesting, &mut Cursor) -> Result<Vec<Stmt>, ParseFault>,
+    S: Fn(Global, Nesting, &mut Cursor) -> Result<Stmt, ParseFault>,
 > Inside for Functions<E, B, S> {
     ghost nests = { λ f depth. Nests depth (E.pre f.expression) (E.post f.expression)
         (B.pre f.body) (B.post f.body) (S.pre f.statement) (S.post f.statement) };
@@ -32,7 +32,7 @@ impl<
         depth: Nesting,
         inn: bool,
         level: Level,
-        tokens: &mut Cursor<'_>,
+        tokens: &mut Cursor,
     ) -> Result<Expr, ParseFault> {
         (self.expression)(alloc, depth, inn, level, tokens)
     }
@@ -41,7 +41,7 @@ impl<
         &self,
         alloc: Global,
         depth: Nesting,
-        tokens: &mut Cursor<'_>,
+        tokens: &mut Cursor,
     ) -> Result<Vec<Stmt>, ParseFault> {
         (self.body)(alloc, depth, tokens)
     }
@@ -50,7 +50,7 @@ impl<
         &self,
         alloc: Global,
         depth: Nesting,
-        tokens: &mut Cursor<'_>,
+        tokens: &mut Cursor,
     ) -> Result<Stmt, ParseFault> {
         (self.statement)(alloc, depth, tokens)
     }

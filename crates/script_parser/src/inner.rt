@@ -20,14 +20,14 @@ pub struct Statements<I: Inside> {
 
 impl<I: Inside> Statements<I> {
     /// Reads a statement inside another.
-    pub fn statement(&self, tokens: &mut Cursor<'_>) -> Result<Stmt, ParseFault>
+    pub fn statement(&self, tokens: &mut Cursor) -> Result<Stmt, ParseFault>
         ensures { Reads (statement_in self.now.grammar.depth tokens.old) result tokens.new }
     {
         self.grammar.depth.statement(self.grammar.alloc, tokens)
     }
 
     /// Reads a whole expression.
-    pub fn expression(&self, tokens: &mut Cursor<'_>) -> Result<Expr, ParseFault>
+    pub fn expression(&self, tokens: &mut Cursor) -> Result<Expr, ParseFault>
         ensures { Reads (reader.expression limit (expression_in self.now.grammar.depth)
             (body_in self.now.grammar.depth) (statement_in self.now.grammar.depth) tokens.old)
             result tokens.new }

@@ -14,7 +14,7 @@ use js_grammar::Ending;
 impl<I: Inside> Statements<I> {
     /// Reads the end of this statement.
     #[tactic(auto, unfolding(js_grammar::specs::StatementReader::ended_as))]
-    pub fn ended_as(&self, statement: Stmt, tokens: &mut Cursor<'_>) -> Result<Stmt, ParseFault>
+    pub fn ended_as(&self, statement: Stmt, tokens: &mut Cursor) -> Result<Stmt, ParseFault>
         ensures { Reads (reader.ended_as limit (expression_in self.now.grammar.depth)
             (body_in self.now.grammar.depth) (statement_in self.now.grammar.depth) statement
             tokens.old) result tokens.new }
@@ -25,7 +25,7 @@ impl<I: Inside> Statements<I> {
 
     /// Reads the operand of a `return`, and its end.
     #[tactic(auto, unfolding(js_grammar::specs::StatementReader::returned))]
-    fn returned(&self, tokens: &mut Cursor<'_>) -> Result<Stmt, ParseFault>
+    fn returned(&self, tokens: &mut Cursor) -> Result<Stmt, ParseFault>
         ensures { Reads (reader.returned limit (expression_in self.now.grammar.depth)
             (body_in self.now.grammar.depth) (statement_in self.now.grammar.depth) tokens.old)
             result tokens.new }
@@ -35,7 +35,7 @@ impl<I: Inside> Statements<I> {
         node(StmtNode::Return(Some(value)), tokens)
     }
 
-    fn return_by(&self, is_bare: bool, tokens: &mut Cursor<'_>) -> Result<Stmt, ParseFault>
+    fn return_by(&self, is_bare: bool, tokens: &mut Cursor) -> Result<Stmt, ParseFault>
         ensures { Reads (reader.return_by limit (expression_in self.now.grammar.depth)
             (body_in self.now.grammar.depth) (statement_in self.now.grammar.depth) is_bare
             tokens.old) result tokens.new }
@@ -48,7 +48,7 @@ impl<I: Inside> Statements<I> {
     }
 
     /// Reads what stands behind `return`: an operand only where it stands in the same line.
-    pub fn return_statement(&self, tokens: &mut Cursor<'_>) -> Result<Stmt, ParseFault>
+    pub fn return_statement(&self, tokens: &mut Cursor) -> Result<Stmt, ParseFault>
         ensures { Reads (reader.return limit (expression_in self.now.grammar.depth)
             (body_in self.now.grammar.depth) (statement_in self.now.grammar.depth) tokens.old)
             result tokens.new }
@@ -57,7 +57,7 @@ impl<I: Inside> Statements<I> {
     }
 
     #[tactic(auto, unfolding(js_grammar::specs::StatementReader::thrown))]
-    fn thrown(&self, tokens: &mut Cursor<'_>) -> Result<Stmt, ParseFault>
+    fn thrown(&self, tokens: &mut Cursor) -> Result<Stmt, ParseFault>
         ensures { Reads (reader.thrown limit (expression_in self.now.grammar.depth)
             (body_in self.now.grammar.depth) (statement_in self.now.grammar.depth) tokens.old)
             result tokens.new }
@@ -69,7 +69,7 @@ impl<I: Inside> Statements<I> {
 
     /// Reads what stands behind `throw`. `NotScript` where a line end stands before the operand.
     #[tactic(auto, unfolding(js_grammar::specs::StatementReader::throw))]
-    pub fn throw(&self, tokens: &mut Cursor<'_>) -> Result<Stmt, ParseFault>
+    pub fn throw(&self, tokens: &mut Cursor) -> Result<Stmt, ParseFault>
         ensures { Reads (reader.throw limit (expression_in self.now.grammar.depth)
             (body_in self.now.grammar.depth) (statement_in self.now.grammar.depth) tokens.old)
             result tokens.new }

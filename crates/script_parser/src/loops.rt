@@ -15,7 +15,7 @@ impl<I: Inside> Statements<I> {
     /// Reads what stands behind `do`.
     #[inline(never)]
     #[tactic(auto, unfolding(js_grammar::specs::StatementReader::do_while))]
-    pub fn do_while(&self, tokens: &mut Cursor<'_>) -> Result<Stmt, ParseFault>
+    pub fn do_while(&self, tokens: &mut Cursor) -> Result<Stmt, ParseFault>
         ensures { Reads (reader.do_while limit (expression_in self.now.grammar.depth)
             (body_in self.now.grammar.depth) (statement_in self.now.grammar.depth) tokens.old)
             result tokens.new }
@@ -30,7 +30,7 @@ impl<I: Inside> Statements<I> {
 
     /// Reads what stands behind `while`.
     #[inline(never)]
-    pub fn while_loop(&self, tokens: &mut Cursor<'_>) -> Result<Stmt, ParseFault>
+    pub fn while_loop(&self, tokens: &mut Cursor) -> Result<Stmt, ParseFault>
         ensures { Reads (reader.while limit (expression_in self.now.grammar.depth)
             (body_in self.now.grammar.depth) (statement_in self.now.grammar.depth) tokens.old)
             result tokens.new }

@@ -10,7 +10,7 @@ use js_core::{Stmt, StmtNode};
 
 /// The statement with this node, at a place in the tokens. `NotScript` where it is too high.
 #[tactic(auto, unfolding(js_grammar::specs::Parser::within_limit))]
-pub fn node(node: StmtNode, tokens: &Cursor<'_>) -> Result<Stmt, ParseFault>
+pub fn node(node: StmtNode, tokens: &Cursor) -> Result<Stmt, ParseFault>
     ensures { Reads (reader.node limit (stmt_of node) tokens.now) result tokens.now }
 {
     check_height(node.height())?;

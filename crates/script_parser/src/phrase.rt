@@ -14,7 +14,7 @@ pub fn any_statement<I: Inside + Drop>(
     alloc: Global,
     depth: Nesting,
     inside: I,
-    tokens: &mut Cursor<'_>,
+    tokens: &mut Cursor,
 ) -> Result<Stmt, ParseFault>
     requires { I.nests inside depth }
     ensures { Reads (reader.any_statement limit (expression_in depth) (body_in depth)
@@ -31,7 +31,7 @@ pub fn elements<I: Inside + Drop>(
     alloc: Global,
     depth: Nesting,
     inside: I,
-    tokens: &mut Cursor<'_>,
+    tokens: &mut Cursor,
 ) -> Result<Vec<Stmt>, ParseFault>
     requires { I.nests inside depth }
     ensures { ReadsAll (reader.elements limit (expression_in depth) (body_in depth)

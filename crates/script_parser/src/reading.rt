@@ -22,19 +22,19 @@ use js_grammar::{Level, Sign, law_one_script, law_reading_is_the_grammar};
 use std::alloc::Global;
 
 /// The script of these tokens (ECMA-262 5.1 annex A.3 to A.5, by the grammar of `js_grammar`), which is no higher than 440:
-/// their one tree. `NotScript` exactly where they have none. The time is linear in the number of statements. It takes a bounded
-/// part of the machine's stack, however deep the tokens nest.
-pub fn script(alloc: Global, tokens: &[Token]) -> Result<Script, ParseFault>
+/// their one tree. `NotScript` exactly where they have none. The tokens go as they are read. The time is linear in the number of
+/// statements. It takes a bounded part of the machine's stack, however deep the tokens nest.
+pub fn script(alloc: Global, tokens: Vec<Token>) -> Result<Script, ParseFault>
     // The answer is that of the reader.
-    ensures reads { Gives (read_script height_limit tokens.now) result }
+    ensures reads { Gives (read_script height_limit tokens.items) result }
     // A script that is given is a script of the tokens,
-    ensures sound { IfOk result (λ script. ScriptOf height_limit tokens.now script) }
+    ensures sound { IfOk result (λ script. ScriptOf height_limit tokens.items script) }
     // and the only one, of whatever height.
-    ensures only { IfOk result (λ script. (other : tree.Stmts) → Derives tokens.now other → other
+    ensures only { IfOk result (λ script. (other : tree.Stmts) → Derives tokens.items other → other
         ≡ script) }
     // Tokens that are refused have no script.
     ensures refused { IfCause result (λ _. (script : tree.Stmts)
-        → ScriptOf height_limit tokens.now script → ⊥) }
+        → ScriptOf height_limit tokens.items script → ⊥) }
 {
     law_reading_is_the_grammar();
     law_one_script();
@@ -46,15 +46,15 @@ pub fn script(alloc: Global, tokens: &[Token]) -> Result<Script, ParseFault>
 /// what it stands in, but for the inside of a group and the block that is the body of another statement.
 const ROOM: usize = 2 * HEIGHT_LIMIT as usize + 2;
 
-fn read(alloc: Global, tokens: &[Token]) -> Result<Vec<Stmt>, ParseFault>
-    ensures { GivesBody (read_script height_limit tokens.now) result }
+fn read(alloc: Global, tokens: Vec<Token>) -> Result<Vec<Stmt>, ParseFault>
+    ensures { GivesBody (read_script height_limit tokens.items) result }
 {
-    let mut cursor = Cursor::new(tokens);
     // Each part inside another begins behind a token of it, so that all nesting ends before the count does.
     let depth = Nesting {
         room: ROOM,
         all: tokens.len() + 1,
     };
+    let mut cursor = Cursor::new(tokens);
     let body = body_inside(alloc, depth, &mut cursor)?;
     if cursor.left() > 0 {
         return Err(ParseFault::Cause(NotScript));
@@ -83,7 +83,7 @@ fn expression_inside(
     depth: Nesting,
     inn: bool,
     level: Level,
-    tokens: &mut Cursor<'_>,
+    tokens: &mut Cursor,
 ) -> Result<Expr, ParseFault>
     ensures { Reads (expression_in depth inn level tokens.old) result tokens.new }
 {
@@ -110,11 +110,7 @@ fn expression_inside(
 /// Reads an expression with commas, where parts nest less deep than `depth`. The groups with which it begins are opened
 /// before their inside is read, and closed behind it.
 #[cycle(inside)]
-fn sequence_inside(
-    alloc: Global,
-    depth: Nesting,
-    tokens: &mut Cursor<'_>,
-) -> Result<Expr, ParseFault>
+fn sequence_inside(alloc: Global, depth: Nesting, tokens: &mut Cursor) -> Result<Expr, ParseFault>
     requires { 0 < depth.room }
     ensures { Reads (expression_in depth true Level.Sequence tokens.old) result tokens.new }
 {
@@ -141,7 +137,7 @@ fn sequence_inside(
 
 /// Goes behind the parentheses of the groups with which an expression begins, as far as parts may nest, and tells how many
 /// these are.
-fn open_groups(depth: Nesting, tokens: &mut Cursor<'_>) -> usize
+fn open_groups(depth: Nesting, tokens: &mut Cursor) -> usize
     requires { 0 < depth.room }
     ensures inside { expression_in depth true Level.Sequence tokens.old
         ≡ finished depth result
@@ -161,11 +157,7 @@ fn open_groups(depth: Nesting, tokens: &mut Cursor<'_>) -> usize
 
 /// Reads an expression with commas that begins with no group, where parts nest less deep than `depth`.
 #[cycle(inside)]
-fn innermost_inside(
-    alloc: Global,
-    depth: Nesting,
-    tokens: &mut Cursor<'_>,
-) -> Result<Expr, ParseFault>
+fn innermost_inside(alloc: Global, depth: Nesting, tokens: &mut Cursor) -> Result<Expr, ParseFault>
     requires room { 0 < depth.room }
     requires all { 0 < depth.all }
     requires begun { sees (Sign.Mark Punct.LeftParenthesis) tokens.old ≡ false }
@@ -185,11 +177,7 @@ fn innermost_inside(
 
 /// Reads what stands between the braces of a function, where parts nest less deep than `depth`.
 #[cycle(inside)]
-fn body_inside(
-    alloc: Global,
-    depth: Nesting,
-    tokens: &mut Cursor<'_>,
-) -> Result<Vec<Stmt>, ParseFault>
+fn body_inside(alloc: Global, depth: Nesting, tokens: &mut Cursor) -> Result<Vec<Stmt>, ParseFault>
     ensures { ReadsAll (body_in depth tokens.old) result tokens.new }
 {
     if !has_room(depth) {
@@ -209,11 +197,7 @@ fn body_inside(
 
 /// Reads a statement, where parts nest less deep than `depth`.
 #[cycle(inside)]
-fn statement_inside(
-    alloc: Global,
-    depth: Nesting,
-    tokens: &mut Cursor<'_>,
-) -> Result<Stmt, ParseFault>
+fn statement_inside(alloc: Global, depth: Nesting, tokens: &mut Cursor) -> Result<Stmt, ParseFault>
     ensures { Reads (statement_in depth tokens.old) result tokens.new }
 {
     if !has_room(depth) {

@@ -38,7 +38,7 @@ fn begins_statement(word: Keyword) -> bool
 
 impl<I: Inside> Statements<I> {
     /// Reads the rest of the statement that begins with this word. `NotScript` where none begins so.
-    fn statement_behind(&self, word: Keyword, tokens: &mut Cursor<'_>) -> Result<Stmt, ParseFault>
+    fn statement_behind(&self, word: Keyword, tokens: &mut Cursor) -> Result<Stmt, ParseFault>
         ensures { Reads (statement_behind limit (expression_in self.now.grammar.depth)
             (body_in self.now.grammar.depth) (statement_in self.now.grammar.depth) word tokens.old)
             result tokens.new }
@@ -61,7 +61,7 @@ impl<I: Inside> Statements<I> {
 
     /// Reads a statement that begins with this word, which comes next.
     #[tactic(auto, using(crate::proofs::Beginnings::begun, crate::proofs::Beginnings::not_begun))]
-    fn statement_by_word(&self, word: Keyword, tokens: &mut Cursor<'_>) -> Result<Stmt, ParseFault>
+    fn statement_by_word(&self, word: Keyword, tokens: &mut Cursor) -> Result<Stmt, ParseFault>
         ensures { Reads (reader.statement_by limit (expression_in self.now.grammar.depth)
             (body_in self.now.grammar.depth) (statement_in self.now.grammar.depth)
             (Some (Word word)) tokens.old) result tokens.new }
@@ -77,7 +77,7 @@ impl<I: Inside> Statements<I> {
     }
 
     /// Reads a statement that begins with this sign, which comes next.
-    fn statement_by(&self, sign: Option<Sign>, tokens: &mut Cursor<'_>) -> Result<Stmt, ParseFault>
+    fn statement_by(&self, sign: Option<Sign>, tokens: &mut Cursor) -> Result<Stmt, ParseFault>
         ensures { Reads (reader.statement_by limit (expression_in self.now.grammar.depth)
             (body_in self.now.grammar.depth) (statement_in self.now.grammar.depth) sign tokens.old)
             result tokens.new }
@@ -95,7 +95,7 @@ impl<I: Inside> Statements<I> {
 
     /// Reads a statement.
     #[tactic(auto, unfolding(js_grammar::specs::StatementReader::any_statement))]
-    pub fn any_statement(&self, tokens: &mut Cursor<'_>) -> Result<Stmt, ParseFault>
+    pub fn any_statement(&self, tokens: &mut Cursor) -> Result<Stmt, ParseFault>
         ensures { Reads (reader.any_statement limit (expression_in self.now.grammar.depth)
             (body_in self.now.grammar.depth) (statement_in self.now.grammar.depth) tokens.old)
             result tokens.new }
@@ -106,7 +106,7 @@ impl<I: Inside> Statements<I> {
 
     /// Reads what stands behind the `function` of a declaration.
     #[tactic(auto, unfolding(js_grammar::specs::StatementReader::function))]
-    fn function(&self, tokens: &mut Cursor<'_>) -> Result<Stmt, ParseFault>
+    fn function(&self, tokens: &mut Cursor) -> Result<Stmt, ParseFault>
         ensures { Reads (reader.function limit (expression_in self.now.grammar.depth)
             (body_in self.now.grammar.depth) (statement_in self.now.grammar.depth) tokens.old)
             result tokens.new }
@@ -119,7 +119,7 @@ impl<I: Inside> Statements<I> {
 
     /// Reads a statement or a function declaration.
     #[tactic(auto, unfolding(js_grammar::specs::StatementReader::element))]
-    fn element(&self, tokens: &mut Cursor<'_>) -> Result<Stmt, ParseFault>
+    fn element(&self, tokens: &mut Cursor) -> Result<Stmt, ParseFault>
         ensures { Reads (reader.element limit (expression_in self.now.grammar.depth)
             (body_in self.now.grammar.depth) (statement_in self.now.grammar.depth) tokens.old)
             result tokens.new }
@@ -134,7 +134,7 @@ impl<I: Inside> Statements<I> {
     }
 
     /// Reads the source elements before a `}` and the end.
-    pub fn elements(&self, tokens: &mut Cursor<'_>) -> Result<Vec<Stmt>, ParseFault>
+    pub fn elements(&self, tokens: &mut Cursor) -> Result<Vec<Stmt>, ParseFault>
         ensures { ReadsAll (reader.elements limit (expression_in self.now.grammar.depth)
             (body_in self.now.grammar.depth) (statement_in self.now.grammar.depth) tokens.old)
             result tokens.new }

@@ -18,7 +18,7 @@ use js_grammar::Sign;
 
 impl<I: Inside> Statements<I> {
     /// Reads the statements of a clause.
-    fn clause_statements(&self, tokens: &mut Cursor<'_>) -> Result<Vec<Stmt>, ParseFault>
+    fn clause_statements(&self, tokens: &mut Cursor) -> Result<Vec<Stmt>, ParseFault>
         ensures { ReadsAll (spec_many reader.has_more_in_clause
             (statement_in self.now.grammar.depth) tokens.old) result tokens.new }
     {
@@ -32,7 +32,7 @@ impl<I: Inside> Statements<I> {
 
     /// Reads what stands behind `case`.
     #[tactic(auto, unfolding(js_grammar::specs::StatementReader::case))]
-    fn case(&self, tokens: &mut Cursor<'_>) -> Result<Case, ParseFault>
+    fn case(&self, tokens: &mut Cursor) -> Result<Case, ParseFault>
         ensures { ReadsClause (reader.case limit (expression_in self.now.grammar.depth)
             (body_in self.now.grammar.depth) (statement_in self.now.grammar.depth) tokens.old)
             result tokens.new }
@@ -48,7 +48,7 @@ impl<I: Inside> Statements<I> {
 
     /// Reads what stands behind `default`.
     #[tactic(auto, unfolding(js_grammar::specs::StatementReader::default))]
-    fn default(&self, tokens: &mut Cursor<'_>) -> Result<Case, ParseFault>
+    fn default(&self, tokens: &mut Cursor) -> Result<Case, ParseFault>
         ensures { ReadsClause (reader.default limit (expression_in self.now.grammar.depth)
             (body_in self.now.grammar.depth) (statement_in self.now.grammar.depth) tokens.old)
             result tokens.new }
@@ -60,7 +60,7 @@ impl<I: Inside> Statements<I> {
 
     /// Reads a clause.
     #[tactic(auto, unfolding(js_grammar::specs::StatementReader::clause))]
-    fn clause(&self, tokens: &mut Cursor<'_>) -> Result<Case, ParseFault>
+    fn clause(&self, tokens: &mut Cursor) -> Result<Case, ParseFault>
         ensures { ReadsClause (reader.clause limit (expression_in self.now.grammar.depth)
             (body_in self.now.grammar.depth) (statement_in self.now.grammar.depth) tokens.old)
             result tokens.new }
@@ -79,7 +79,7 @@ impl<I: Inside> Statements<I> {
     }
 
     /// Reads the clauses before a `}` and the end.
-    fn clauses(&self, tokens: &mut Cursor<'_>) -> Result<Vec<Case>, ParseFault>
+    fn clauses(&self, tokens: &mut Cursor) -> Result<Vec<Case>, ParseFault>
         ensures { ReadsClauses (spec_many reader.has_more
             (reader.clause limit (expression_in self.now.grammar.depth)
             (body_in self.now.grammar.depth) (statement_in self.now.grammar.depth)) tokens.old)
@@ -101,7 +101,7 @@ impl<I: Inside> Statements<I> {
         &self,
         value: Expr,
         cases: Vec<Case>,
-        tokens: &mut Cursor<'_>,
+        tokens: &mut Cursor,
     ) -> Result<Stmt, ParseFault>
         ensures { Reads (reader.switched limit (expression_in self.now.grammar.depth)
             (body_in self.now.grammar.depth) (statement_in self.now.grammar.depth) value
@@ -116,7 +116,7 @@ impl<I: Inside> Statements<I> {
     /// Reads what stands behind `switch`.
     #[inline(never)]
     #[tactic(auto, unfolding(js_grammar::specs::StatementReader::switch))]
-    pub fn switch(&self, tokens: &mut Cursor<'_>) -> Result<Stmt, ParseFault>
+    pub fn switch(&self, tokens: &mut Cursor) -> Result<Stmt, ParseFault>
         ensures { Reads (reader.switch limit (expression_in self.now.grammar.depth)
             (body_in self.now.grammar.depth) (statement_in self.now.grammar.depth) tokens.old)
             result tokens.new }

@@ -18,7 +18,7 @@ impl<I: Inside> Statements<I> {
         &self,
         block: Vec<Stmt>,
         catch: Option<Catch>,
-        tokens: &mut Cursor<'_>,
+        tokens: &mut Cursor,
     ) -> Result<Stmt, ParseFault>
         ensures { Reads (reader.finally limit (expression_in self.now.grammar.depth)
             (body_in self.now.grammar.depth) (statement_in self.now.grammar.depth) block.items
@@ -30,7 +30,7 @@ impl<I: Inside> Statements<I> {
 
     /// Reads what stands behind `catch`.
     #[tactic(auto, unfolding(js_grammar::specs::StatementReader::caught, js_grammar::specs::Parser::eat))]
-    fn caught(&self, block: Vec<Stmt>, tokens: &mut Cursor<'_>) -> Result<Stmt, ParseFault>
+    fn caught(&self, block: Vec<Stmt>, tokens: &mut Cursor) -> Result<Stmt, ParseFault>
         ensures { Reads (reader.caught limit (expression_in self.now.grammar.depth)
             (body_in self.now.grammar.depth) (statement_in self.now.grammar.depth) block.items
             tokens.old) result tokens.new }
@@ -49,7 +49,7 @@ impl<I: Inside> Statements<I> {
 
     /// Reads what stands behind `try`.
     #[tactic(auto, unfolding(js_grammar::specs::StatementReader::tried, js_grammar::specs::Parser::eat))]
-    pub fn tried(&self, tokens: &mut Cursor<'_>) -> Result<Stmt, ParseFault>
+    pub fn tried(&self, tokens: &mut Cursor) -> Result<Stmt, ParseFault>
         ensures { Reads (reader.tried limit (expression_in self.now.grammar.depth)
             (body_in self.now.grammar.depth) (statement_in self.now.grammar.depth) tokens.old)
             result tokens.new }

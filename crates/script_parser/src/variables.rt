@@ -21,7 +21,7 @@ impl<I: Inside> Statements<I> {
         inn: bool,
         name: Units,
         is_initialised: bool,
-        tokens: &mut Cursor<'_>,
+        tokens: &mut Cursor,
     ) -> Result<Declarator, ParseFault>
         ensures { Reads (reader.declared_by limit (expression_in self.now.grammar.depth)
             (body_in self.now.grammar.depth) (statement_in self.now.grammar.depth) inn name
@@ -38,7 +38,7 @@ impl<I: Inside> Statements<I> {
     }
 
     #[tactic(auto, unfolding(js_grammar::specs::StatementReader::declaration, js_grammar::specs::Parser::eat))]
-    fn declaration(&self, inn: bool, tokens: &mut Cursor<'_>) -> Result<Declarator, ParseFault>
+    fn declaration(&self, inn: bool, tokens: &mut Cursor) -> Result<Declarator, ParseFault>
         ensures { Reads (reader.declaration limit (expression_in self.now.grammar.depth)
             (body_in self.now.grammar.depth) (statement_in self.now.grammar.depth) inn tokens.old)
             result tokens.new }
@@ -52,7 +52,7 @@ impl<I: Inside> Statements<I> {
     pub fn declarations(
         &self,
         inn: bool,
-        tokens: &mut Cursor<'_>,
+        tokens: &mut Cursor,
     ) -> Result<Vec<Declarator>, ParseFault>
         ensures { ReadsAll (spec_separated (reader.declaration limit
             (expression_in self.now.grammar.depth) (body_in self.now.grammar.depth)
@@ -67,7 +67,7 @@ impl<I: Inside> Statements<I> {
 
     /// Reads the declarations behind `var`, and their end.
     #[tactic(auto, unfolding(js_grammar::specs::StatementReader::variables))]
-    pub fn variables(&self, tokens: &mut Cursor<'_>) -> Result<Stmt, ParseFault>
+    pub fn variables(&self, tokens: &mut Cursor) -> Result<Stmt, ParseFault>
         ensures { Reads (reader.variables limit (expression_in self.now.grammar.depth)
             (body_in self.now.grammar.depth) (statement_in self.now.grammar.depth) tokens.old)
             result tokens.new }
@@ -79,7 +79,7 @@ impl<I: Inside> Statements<I> {
 
     /// Reads an expression statement.
     #[tactic(auto, unfolding(js_grammar::specs::StatementReader::expressed))]
-    pub fn expressed(&self, tokens: &mut Cursor<'_>) -> Result<Stmt, ParseFault>
+    pub fn expressed(&self, tokens: &mut Cursor) -> Result<Stmt, ParseFault>
         ensures { Reads (reader.expressed limit (expression_in self.now.grammar.depth)
             (body_in self.now.grammar.depth) (statement_in self.now.grammar.depth) tokens.old)
             result tokens.new }
