@@ -1,2 +1,3 @@
 mod GlobalNamesLemmas
 mod Spelling
+mod Worked

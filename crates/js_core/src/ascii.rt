@@ -25,22 +25,3 @@ pub fn ascii_text(alloc: Global, text: &[u8]) -> Result<Units, OutOfMemory>
     push_ascii(text, &mut units)?;
     Units::of(alloc, units.as_slice())
 }
-
-#[cfg(test)]
-mod tests {
-    use super::*;
-    use std::test::Fail;
-
-    fn length_word(alloc: Global) -> Result<Units, OutOfMemory>
-        ensures { IfOk result (λ units. units ≡ 108 ∷ 101 ∷ 110 ∷ 103 ∷ 116 ∷ 104 ∷ []) }
-    {
-        ascii_text(alloc, b"length")
-    }
-
-    #[test]
-    fn a_literal_is_its_codes(rt: HostRuntime) -> Result<(), Fail> {
-        let word = Units::from_utf8(rt.alloc(), "length")?;
-        assert!(rt; length_word(rt.alloc())? == word);
-        Ok(())
-    }
-}

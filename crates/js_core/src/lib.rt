@@ -6,6 +6,7 @@ mod characters;
 mod global_names;
 mod height;
 mod keyword;
+mod laws;
 mod limits;
 mod line_text;
 mod memory;
@@ -20,6 +21,7 @@ pub use characters::{is_line_end, is_white_space};
 pub use global_names::is_global_name;
 pub use height::{exprs_height, fields_height, holes_height};
 pub use keyword::{Keyword, is_unused_word, keyword_of};
+pub use laws::{law_worked_numbers, law_worked_texts, law_worked_words};
 pub use limits::{
     DEPTH_LIMIT, EVENT_FILE_LIMIT, EVENT_LIMIT, FORM_HEIGHT_LIMIT, FUNCTION_HEIGHT_LIMIT,
     HEIGHT_LIMIT, PAGE_LIMIT, PLAIN_HEIGHT_LIMIT, SAVED_TEXT_LIMIT, SAVED_THINGS_LIMIT, STEP_LIMIT,

@@ -143,7 +143,6 @@ pub enum StmtNode {
 }
 
 /// A program (section 14).
-#[derive(Drop)]
 pub struct Script {
     pub body: Vec<Stmt>,
 }
@@ -224,6 +223,13 @@ impl Model for Stmt {
     ghost size_decreases = { λ a h. stmt_falls a.node };
 }
 
+// A function of its own, so that the crates above cite it and do not prove it again.
+impl Drop for Script {
+    fn drop(self) {
+        let Script { body: _body } = self;
+    }
+}
+
 impl Model for Script {
     ghost use Rattle.js_core.specs.Tree as tree;
     ghost use Rattle.js_core.specs.Codes.{coded_stmts};
@@ -240,6 +246,19 @@ impl Model for Script {
     ghost use Rattle.js_core.specs.Height.{stmts_height};
 
     ghost invariant = { λ s. stmts_height (stmts_of s.body.items) ≤ 1000 };
+}
+
+impl Script {
+    ghost use Rattle.std.specs.Prelude.{◌≡◌};
+    ghost use Rattle.js_core.specs.Tree.{stmts_of};
+
+    /// The statements of the program, without memory.
+    pub fn into_body(self) -> Vec<Stmt>
+        ensures { stmts_of result.items ≡ self }
+    {
+        let Script { body } = self;
+        body
+    }
 }
 
 impl Expr {

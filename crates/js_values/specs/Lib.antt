@@ -1,3 +1,4 @@
 pub mod Event
 pub mod Line
 pub mod Throw
+pub mod Worked

@@ -5,6 +5,7 @@
 mod built_in;
 mod event;
 mod ids;
+mod laws;
 mod line;
 mod throw;
 mod value;
@@ -12,6 +13,7 @@ mod value;
 pub use built_in::BuiltIn;
 pub use event::Event;
 pub use ids::{EnvId, NodeId, ObjId};
+pub use laws::law_worked_lines;
 pub use line::{Line, LineKind};
 pub use throw::{ErrorKind, Throw};
 pub use value::Value;

@@ -88,34 +88,3 @@ impl Line {
         push_line_text(self.text.as_slice(), out)
     }
 }
-
-#[cfg(test)]
-mod tests {
-    use super::*;
-    use std::test::Fail;
-
-    #[test]
-    fn writes_each_kind(rt: HostRuntime) -> Result<(), Fail> {
-        let mut out = Vec::new(rt.alloc());
-        let kinds = [
-            LineKind::Log,
-            LineKind::Alert,
-            LineKind::Uncaught,
-            LineKind::Dom,
-            LineKind::Stopped,
-            LineKind::NoElement,
-        ];
-        for kind in kinds {
-            let text = Units::from_utf8(rt.alloc(), "<p>\n\\</p>")?;
-            Line { kind, text }.write(&mut out)?;
-        }
-        let text = Units::from_utf8(rt.alloc(), "")?;
-        let kind = LineKind::Log;
-        Line { kind, text }.write(&mut out)?;
-        let wanted =
-            "log <p>\\u000A\\\\</p>\nalert <p>\\u000A\\\\</p>\nuncaught <p>\\u000A\\\\</p>\n\
-            dom <p>\\u000A\\\\</p>\nstopped\nno element\nlog \n";
-        assert_eq!(rt; out.as_slice(), wanted.as_bytes());
-        Ok(())
-    }
-}

@@ -37,25 +37,3 @@ impl Value {
         }
     }
 }
-
-#[cfg(test)]
-mod tests {
-    use super::*;
-    use std::test::Fail;
-
-    #[test]
-    fn a_clone_is_the_same_value(rt: HostRuntime) -> Result<(), Fail> {
-        let values = [
-            Value::Undefined,
-            Value::Null,
-            Value::Bool(true),
-            Value::Num(Whole::nan()),
-            Value::Text(Units::from_utf8(rt.alloc(), "text")?),
-            Value::Object(ObjId(7)),
-        ];
-        for value in &values {
-            assert!(rt; value.clone()? == *value, "{value:?}");
-        }
-        Ok(())
-    }
-}

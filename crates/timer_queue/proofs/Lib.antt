@@ -4,3 +4,4 @@ pub mod MarkLemmas
 pub mod Order
 pub mod Range
 pub mod Takings
+pub mod Worked

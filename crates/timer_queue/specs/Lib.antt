@@ -2,3 +2,4 @@ pub mod Laws
 pub mod Marks
 pub mod Sound
 pub mod Timers
+pub mod Worked

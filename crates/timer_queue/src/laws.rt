@@ -3,6 +3,7 @@
 ghost use Rattle.std.specs.Prelude.{ℕ, List};
 ghost use Rattle.timer_queue.specs.Laws.{AreInOrder, IsLeastFree, KeepsDistinctIds, TakesTheFirings};
 ghost use Rattle.timer_queue.specs.Timers.{least_free};
+ghost use Rattle.timer_queue.specs.Worked.{IsWorked};
 ghost use Rattle.timer_queue.specs.declared.timer.Live.{Live};
 
 /// The laws of ids.
@@ -19,4 +20,10 @@ pub fn law_takings_are_firings()
     ensures order { (ts : List Live) (moment : ℕ) → AreInOrder ts moment }
     // Taking until none is due takes each timer as often as it fires, in the order of time.
     ensures takings { (ts : List Live) (moment most : ℕ) → TakesTheFirings ts moment most }
+{}
+
+/// The worked queue is as it says after each call.
+#[tactic(auto, using(crate::proofs::Worked::is_worked))]
+pub fn law_worked_queue()
+    ensures { IsWorked }
 {}

@@ -4,10 +4,8 @@
 mod ids;
 mod laws;
 mod queue;
-#[cfg(test)]
-mod tests;
 mod timer;
 
-pub use laws::{law_ids_are_distinct, law_takings_are_firings};
+pub use laws::{law_ids_are_distinct, law_takings_are_firings, law_worked_queue};
 pub use queue::Queue;
 pub use timer::Live;
