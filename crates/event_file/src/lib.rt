@@ -6,8 +6,6 @@ mod item;
 mod kind;
 mod laws;
 mod reading;
-#[cfg(test)]
-mod tests;
 
 pub use fault::{EventFault, NotEvents};
 pub use laws::law_numbers_items;

@@ -7,3 +7,4 @@ pub mod Quotients
 pub mod ReadBack
 pub mod Spans
 pub mod Trims
+pub mod Worked

@@ -7,3 +7,4 @@ pub mod Numeral
 pub mod Order
 pub mod Power
 pub mod WhiteSpace
+pub mod Worked

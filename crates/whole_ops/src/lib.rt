@@ -8,11 +8,10 @@ mod conversions;
 mod digits;
 mod equality;
 mod fault;
+mod laws;
 mod numeral;
 mod order;
 mod power;
-#[cfg(test)]
-mod tests;
 mod text;
 mod white_space;
 
@@ -21,6 +20,7 @@ pub use bit_ops::{BitOp, bits, not, to_uint32};
 pub use conversions::{is_true, number_of, text_of};
 pub use equality::{loose, same};
 pub use fault::{LooseFault, OpFault};
+pub use laws::{law_worked_conversions, law_worked_equality, law_worked_texts};
 pub use numeral::to_number;
 pub use order::{less, text_less};
 pub use power::pow;
