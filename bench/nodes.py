@@ -1,5 +1,5 @@
 #!/usr/bin/env python3
-"""Runs the rows of crates/dom_tree/src/tests.rt on Python's minidom, and compares the text that is left. Prints the rows that
+"""Runs the rows of crates/page_rows/data/nodes.rows on Python's minidom, and compares the text that is left. Prints the rows that
 differ and how many there are; the status is 1 where one differs. Minidom does not look for ancestors, so a step that is
 refused for them is left out, as is a node before itself."""
 import os
@@ -7,14 +7,13 @@ import sys
 import xml.dom
 from xml.dom import minidom
 
-SOURCE = os.path.join(os.path.dirname(os.path.abspath(__file__)), "../crates/dom_tree/src/tests.rt")
+SOURCE = os.path.join(os.path.dirname(os.path.abspath(__file__)), "../crates/page_rows/data/nodes.rows")
 VOID = "area base br col embed hr img input link meta param source track wbr".split()
 
 
 def rows():
-    text = open(SOURCE, encoding="utf-8").read()
-    table = text.split('const ROWS: &str = "\\\n')[1].split('";\n')[0]
-    return table.replace('\\"', '"').split("\n")
+    with open(SOURCE, encoding="utf-8") as file:
+        return file.read().splitlines()
 
 
 def is_above(node, other):
@@ -47,6 +46,18 @@ def place(verb, parent, child, before):
         return "missing"
 
 
+def found(document, id):
+    """The number of the first element of this id, in the order of the document."""
+    inside = [node for node in document.getElementsByTagName("*") if node.getAttribute("id") == id]
+    return str(inside[0].number) if inside else "none"
+
+
+def text_of(node):
+    if node.nodeType == node.TEXT_NODE:
+        return node.data
+    return "".join(map(text_of, node.childNodes))
+
+
 def step(document, nodes, line):
     verb, _, rest = line.partition(" ")
     words = rest.split(" ", 2) + ["", ""]
@@ -55,6 +66,7 @@ def step(document, nodes, line):
             return "name"
         make = {"e": document.createElement, "t": document.createTextNode, "c": document.createComment}[verb]
         nodes.append(make(rest.lower() if verb == "e" else rest))
+        nodes[-1].number = len(nodes) - 1
         return "ok"
     if verb in ("set", "unset"):
         if verb == "set" and not words[1][0].isalpha():
@@ -64,6 +76,10 @@ def step(document, nodes, line):
         elif nodes[int(words[0])].hasAttribute(words[1].lower()):
             nodes[int(words[0])].removeAttribute(words[1].lower())
         return "ok"
+    if verb == "find":
+        return found(document, rest)
+    if verb == "text":
+        return text_of(nodes[int(rest)])
     before = None if words[2] in ("-", "") else nodes[int(words[2])]
     return place(verb, nodes[int(words[0])], nodes[int(words[1])], before)
 
@@ -83,7 +99,7 @@ def shown(node):
 
 differing = 0
 for row in rows():
-    steps, wanted = row.split(" => ")
+    steps, wanted = row.split("\t")
     ends, left = wanted.split(" | ")
     document = minidom.Document()
     nodes = [document]

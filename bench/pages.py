@@ -211,7 +211,10 @@ def pages():
           b" \t\f\n\r<html></html>\r\n", b"\x0b<html></html>", b"x<html></html>", b"<html></html>x", b"<html></html>&#32;",
           b"<!doctype html><html></html>", b"<!DOCTYPE a b><html></html>", b"<!doctype a><!doctype a><html></html>",
           b"<html></html><!doctype a>", b"<!doctype a", b"<!-- a --><html></html><!-- b -->", b"<!--><html></html>",
-          b"<!--><html>--><html></html>", b"<!--a--!><html></html>", b"<html></html><html></html>", b"<p></p>", b"<html/>", b"<htmlx></htmlx>"]
+          b"<!--><html>--><html></html>", b"<!--a--!><html></html>", b"<html></html><html></html>", b"<p></p>", b"<html/>", b"<htmlx></htmlx>",
+          b" <!doctype html>\n<!--a--><HTML><body> x </body>\n</HTML> <!--b-->\n", b"<html></html><p></p>", b"<html></html><!doctype html>",
+          b"<!doctype a><!doctype b><html></html>", b"&#32;<html></html>", b"<html></html>\r\n", b"<html>\xff</html>",
+          b"\xef\xbb\xbf\r\n<html><script></script>\r<script>\n</script></html>"]
     inner = [b"\0", b"a\r\nb\rc\n\n", b" \t\n", b"&#32;&#9;", b" a ", b"<body> </body>", b"<p>&nbsp;</p>", b"<br>", b"<br/>", b"<br />",
              b"<br/ >", b"<br></br>", b"</br>", b"<b/>", b"<b></i>", b"<b><i></b></i>", b"<b></B >", b"< b></b>", b"<b", b"<b></b", b"<1></1>",
              b"<a:b-c.d_e></A:B-c.d_e>", b"<_a></_a>", b"<!doctype a>", b"<!a>", b"<!--a-b--c-->", b"<!---->", b"<!-->-->", b"<!--a",
@@ -223,10 +226,18 @@ def pages():
              b"<script><!--<script></script>", b"<script/>", b"<script src=a></script>", b"<script type=''></script>",
              b"<script type=Text/JavaScript>\r\n\xc3\xa9\r</script>x<script type=application/javascript>2</script>", b"<script type=module></script>",
              b"<style>a<b &amp;</style>", b"<style></style>", b"<style></script></style >", b"<title>a<b>c</b></title>",
-             b"<textarea>&lt;<!--a--></textarea>"]
+             b"<textarea>&lt;<!--a--></textarea>", b"<p id=a ID=b><b>1</b>2<!--c--></p>", b"<br><img/>t", b"<p>&#32;</p>",
+             b"<script>a<b</script><style>b{}</style>", b"<script type='Text/JavaScript'></script>", b"<b onclick=a></b>", b"<b ONx></b>",
+             b"<p>a\r\nb\rc\r\r\n</p>", b"<p>\xc3\xa9\xe2\x82\xac\xf0\x9f\x98\x80</p>\r\n<script>\r\na\r</script>",
+             b"a b", b" \n\t\f<i>&#32;</i>", b"<P a=1>x</p >", b"<!--a--b-->", b"<br/><br />", b"<a  B = 'x\"y' c d=\"&lt;\" b></a>",
+             b"<script>a</scripty></SCRIPT ><style>&amp;</style>", b"&&; &#65;&#x1F600;&nbsp;&am p;", b"<", b"< a></a>", b"<1>", b"<!>", b"<!-",
+             b"<!--->", b"<!-- --", b"<!doctype", b"</a", b"</ a>", b"</1>", b"<a", b"<a b='></a>", b"<a b=></a>", b"<a b==c></a>",
+             b"<a b=`c></a>", b"<a 'b'></a>", b"<a b='1'c></a>", b"<a /b></a>", b"&foo;", b"&#x110000;", b"&#65", b"&#99999999999;",
+             b"<script>", b"<script></script", b"<style></script>", b"<a b=&x;></a>"]
     inner += [b"<%s></%s>" % (name.encode(), name.encode()) for name in sorted(REFUSED)]
     marked = [b"<!--imagen 1--><html><script>'use strict';\n1</script></html>",
-              b"\xef\xbb\xbf<html><body></body><script>'use strict';\r\n1</script></html>"]
+              b"\xef\xbb\xbf<html><body></body><script>'use strict';\r\n1</script></html>",
+              b"\xef\xbb\xbf<html>\r\n<script>\r\na</script>\xc3\xa9<SCRIPT ></script ></html>"]
     return ok + [html(it) for it in inner] + marked
 
 

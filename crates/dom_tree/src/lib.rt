@@ -10,8 +10,6 @@ mod laws;
 mod links;
 mod make;
 mod names;
-#[cfg(test)]
-mod tests;
 mod text;
 mod walk;
 

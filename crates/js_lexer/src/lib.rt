@@ -10,8 +10,6 @@ mod numbers;
 mod punctuators;
 mod separators;
 mod strings;
-#[cfg(test)]
-mod tests;
 mod words;
 
 pub use directives::strict;

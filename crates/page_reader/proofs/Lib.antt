@@ -14,3 +14,4 @@ pub mod Sizes
 pub mod Steps
 pub mod Swapping
 pub mod Whole
+pub mod Worked

@@ -6,3 +6,4 @@ pub mod Pages
 pub mod Reading
 pub mod Replacing
 pub mod Text
+pub mod Worked

@@ -10,6 +10,7 @@ ghost use Rattle.page_reader.specs.Bytes.{IsPageOf, IsTextPage};
 ghost use Rattle.page_reader.specs.Laws.{GoesOn, HasOneScript, IsScriptPage, script_page};
 ghost use Rattle.page_reader.specs.Pages.{PageOf};
 ghost use Rattle.page_reader.specs.Replacing.{AreScriptBytes, IsReadAs, form_mark, replaced};
+ghost use Rattle.page_reader.specs.Worked as worked;
 ghost use Rattle.page_reader.specs.Text.{mark_size, with_line_feeds};
 ghost use Rattle.js_core.specs.Text.{utf16_of};
 
@@ -38,6 +39,13 @@ pub fn law_fronts()
     ensures { (text more : List ℕ) (left right : Nodes) (first second : List PureRawText)
         → IsTextPage text left first → IsTextPage (text ++ more) right second
         → GoesOn more left right first second }
+{}
+
+/// The worked page has the texts of its scripts replaced as it says; so has the page without scripts, which stays.
+#[tactic(auto, using(crate::proofs::Worked::page_is_replaced))]
+pub fn law_worked_replacing()
+    ensures { (replaced worked.page worked.scripts worked.texts ≡ worked.replaced_page)
+        × (replaced worked.page [] [] ≡ worked.page) }
 {}
 
 /// Where the texts of scripts are replaced by as many bytes that may be a script's text, the new bytes are read as the same nodes with

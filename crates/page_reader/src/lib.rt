@@ -9,13 +9,14 @@ mod page;
 mod places;
 mod reader;
 mod replacing;
-#[cfg(test)]
-mod tests;
 mod text;
 mod tree;
 
 pub use fault::{NotPage, PageError, PageFault, TreeFault};
-pub use laws::{law_fronts, law_one_page, law_one_reading, law_replaced_scripts, law_script_pages};
+pub use laws::{
+    law_fronts, law_one_page, law_one_reading, law_replaced_scripts, law_script_pages,
+    law_worked_replacing,
+};
 pub use page::{Page, ScriptText};
 pub use reader::read_page;
 pub use replacing::replace_scripts;

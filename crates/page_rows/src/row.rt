@@ -2,6 +2,7 @@
 
 ghost use Rattle.std.specs.Prelude.{◌<◌};
 
+use dom_tree::Dom;
 use js_core::Units;
 use js_values::NodeId;
 use page_reader::{Page, PageError, PageFault, ScriptText, read_page};
@@ -33,6 +34,14 @@ fn digit(byte: u8) -> u8
     }
 }
 
+/// The text of these characters.
+pub fn units_of(alloc: Global, word: &str) -> Result<Units, AllocError> {
+    match Units::from_utf8(alloc, word) {
+        Ok(units) => Ok(units),
+        Err(_) => Err(AllocError),
+    }
+}
+
 /// How the bytes are read: `not utf8`, `not page`, or `page` with the text of the document, and for each script its place and text.
 pub fn reading(alloc: Global, bytes: &[u8]) -> Result<Vec<u8>, AllocError> {
     let mut out = Vec::new(alloc);
@@ -46,16 +55,21 @@ pub fn reading(alloc: Global, bytes: &[u8]) -> Result<Vec<u8>, AllocError> {
 }
 
 fn push_page(alloc: Global, page: &Page, out: &mut Vec<u8>) -> Result<(), AllocError> {
-    let mut units = Vec::new(alloc);
-    if page.dom.count() == 0 || page.dom.dom_text(NodeId(0), &mut units).is_err() {
-        return Err(AllocError);
-    }
     out.extend_from_slice(b"page ")?;
-    push_line(alloc, units.as_slice(), out)?;
+    push_document(alloc, &page.dom, out)?;
     for script in page.scripts.as_slice() {
         push_script(alloc, script, out)?;
     }
     Ok(())
+}
+
+/// Appends the text of the document as it stands in a line.
+pub fn push_document(alloc: Global, dom: &Dom, out: &mut Vec<u8>) -> Result<(), AllocError> {
+    let mut units = Vec::new(alloc);
+    if dom.count() == 0 || dom.dom_text(NodeId(0), &mut units).is_err() {
+        return Err(AllocError);
+    }
+    push_line(alloc, units.as_slice(), out)
 }
 
 fn push_script(alloc: Global, script: &ScriptText, out: &mut Vec<u8>) -> Result<(), AllocError> {
@@ -66,8 +80,8 @@ fn push_script(alloc: Global, script: &ScriptText, out: &mut Vec<u8>) -> Result<
     push_line(alloc, script.text.as_slice(), out)
 }
 
-/// The text as it stands in a line.
-fn push_line(alloc: Global, units: &[u16], out: &mut Vec<u8>) -> Result<(), AllocError> {
+/// Appends the text as it stands in a line.
+pub fn push_line(alloc: Global, units: &[u16], out: &mut Vec<u8>) -> Result<(), AllocError> {
     let Ok(text) = Units::of(alloc, units) else {
         return Err(AllocError);
     };

@@ -8,8 +8,6 @@ mod laws;
 mod opening;
 mod references;
 mod tags;
-#[cfg(test)]
-mod tests;
 mod token;
 mod tokens;
 
