@@ -56,7 +56,6 @@ pub struct Table {
 /// A function of a script (ECMA-262 5.1 section 13), or the script itself, which contracts see as its tree. Its nodes have
 /// numbers, less than 2^32 of them. A clone shares it.
 #[cycle(code)]
-#[derive(Drop)]
 pub struct FunctionCode {
     table: Rc<Table>,
 }
@@ -82,6 +81,14 @@ impl Model for FunctionCode {
     ghost use Rattle.code_table.specs.Falls.{table_falls};
 
     ghost size_decreases = { table_falls };
+}
+
+// A function of its own, so that the crates above cite it and do not prove it again.
+impl Drop for FunctionCode {
+    #[cycle(dropping)]
+    fn drop(self) {
+        let FunctionCode { table: _table } = self;
+    }
 }
 
 impl FunctionCode {
@@ -144,7 +151,7 @@ impl FunctionCode {
     pub fn of_script(alloc: Global, script: Script) -> Result<FunctionCode, OutOfMemory>
         ensures { IfOk result (λ f. f ≡ tree.code None [] script) }
     {
-        let code = Code::new(None, Vec::new(alloc), script.body);
+        let code = Code::new(None, Vec::new(alloc), script.into_body());
         FunctionCode::of(alloc, &Rc::new(alloc, code)?, true)
     }
 

@@ -10,9 +10,15 @@ use js_values::{EnvId, Value};
 use std::marker::Model;
 
 /// Names with values, in order, which contracts see as the list of them.
-#[derive(Drop)]
 pub struct Bindings {
     items: Vec<(Units, Value)>,
+}
+
+// A function of its own, so that the crates above cite it and do not prove it again.
+impl Drop for Bindings {
+    fn drop(self) {
+        let Bindings { items: _items } = self;
+    }
 }
 
 impl Model for Bindings {
@@ -24,10 +30,19 @@ impl Model for Bindings {
 }
 
 /// An environment: its names with their values, and the environment round it, if any, which is older.
-#[derive(Drop)]
 pub struct Environment {
     outer: Option<EnvId>,
     names: Bindings,
+}
+
+// A function of its own, so that the crates above cite it and do not prove it again.
+impl Drop for Environment {
+    fn drop(self) {
+        let Environment {
+            outer: _outer,
+            names: _names,
+        } = self;
+    }
 }
 
 impl Model for Environment {

@@ -80,7 +80,6 @@ pub struct EventParts {
 
 /// An object, which contracts see as its class, its prototype, whether it is extensible, whether it is closed, and its
 /// properties.
-#[derive(Drop)]
 pub struct Object {
     class: Class,
     // It never changes.
@@ -89,6 +88,19 @@ pub struct Object {
     // None of its properties may be put, defined or deleted.
     closed: bool,
     props: Properties,
+}
+
+// A function of its own, so that the crates above cite it and do not prove it again.
+impl Drop for Object {
+    fn drop(self) {
+        let Object {
+            class: _class,
+            proto: _proto,
+            extensible: _extensible,
+            closed: _closed,
+            props: _props,
+        } = self;
+    }
 }
 
 impl Model for Object {

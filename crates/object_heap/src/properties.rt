@@ -18,9 +18,15 @@ use std::marker::Model;
 
 /// The named properties of an object, in order of creation. Contracts see the list of names with properties. No two
 /// have the same name.
-#[derive(Drop)]
 pub struct Properties {
     table: IndexMap<Units, Prop>,
+}
+
+// A function of its own, so that the crates above cite it and do not prove it again.
+impl Drop for Properties {
+    fn drop(self) {
+        let Properties { table: _table } = self;
+    }
 }
 
 impl Model for Properties {

@@ -6,9 +6,15 @@ use std::alloc::Global;
 use std::marker::Model;
 
 /// A list of values, which contracts see as the list.
-#[derive(Drop)]
 pub struct Values {
     items: Vec<Value>,
+}
+
+// A function of its own, so that the crates above cite it and do not prove it again.
+impl Drop for Values {
+    fn drop(self) {
+        let Values { items: _items } = self;
+    }
 }
 
 impl Model for Values {
@@ -66,7 +72,8 @@ impl Values {
     pub fn into_vec(self) -> Vec<Value>
         ensures { result.items ≡ self }
     {
-        self.items
+        let Values { items } = self;
+        items
     }
 
     /// The same values. Strings share their units.

@@ -45,7 +45,7 @@ pub fn page_script(
     }
 }
 
-/// The strict script with this text. Its text and its tokens go as soon as it is read.
+/// The strict script with this text, which goes as soon as its tokens are there.
 fn strict_script(alloc: Global, number: u64, text: Units) -> Result<Script, AcceptFault>
     ensures ok { IfOk result (IsStrictScript text) }
     ensures syntax { IfOk result IsSyntax }
@@ -60,14 +60,16 @@ fn strict_script(alloc: Global, number: u64, text: Units) -> Result<Script, Acce
         }
         Err(LexFault::OutOfMemory) => return Err(AcceptFault::OutOfMemory),
     };
-    let script = match script(alloc, tokens.as_slice()) {
+    drop(text);
+    let is_strict = strict(tokens.as_slice());
+    let script = match script(alloc, tokens) {
         Ok(script) => script,
         Err(ParseFault::Cause(NotScript)) => {
             return Err(AcceptFault::Cause(Refusal::NotScript(number)));
         }
         Err(ParseFault::OutOfMemory) => return Err(AcceptFault::OutOfMemory),
     };
-    if !strict(tokens.as_slice()) {
+    if !is_strict {
         return Err(AcceptFault::Cause(Refusal::NotStrict(number)));
     }
     Ok(script)

@@ -30,10 +30,19 @@ use std::alloc::Global;
 use std::marker::Model;
 
 /// A page while it runs: its heap, and the lines that it put out.
-#[derive(Drop)]
 pub struct State {
     pub(crate) heap: Heap,
     pub(crate) lines: Vec<Line>,
+}
+
+// A function of its own, so that the crates above cite it and do not prove it again.
+impl Drop for State {
+    fn drop(self) {
+        let State {
+            heap: _heap,
+            lines: _lines,
+        } = self;
+    }
 }
 
 impl Model for State {

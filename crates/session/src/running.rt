@@ -13,10 +13,19 @@ use std::alloc::Global;
 use std::marker::Model;
 
 /// A page while host events act on it. One that wanted memory is spent: nothing is said of its page any more.
-#[derive(Drop)]
 pub struct Session {
     state: State,
     is_spent: bool,
+}
+
+// A function of its own, so that the crates above cite it and do not prove it again.
+impl Drop for Session {
+    fn drop(self) {
+        let Session {
+            state: _state,
+            is_spent: _is_spent,
+        } = self;
+    }
 }
 
 impl Model for Session {
