@@ -1,3 +1,2 @@
-mod GlobalNamesLemmas
 mod Spelling
 mod Worked

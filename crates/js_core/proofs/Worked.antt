@@ -1,17 +1,16 @@
 -- The worked examples have the values that they say, each by computing.
-use Rattle.std.proofs.Common.{◌≡◌, ◌∙◌, ℕ, true, false, List, [], ◌∷◌, refl, ap, length}
+use Rattle.std.proofs.Common.{◌≡◌, ◌∙◌, ℕ, true, false, List, [], ◌∷◌, refl, ap}
 use Rattle.std.proofs.Math.Utf8.{encode, encodes, scalars}
 use Rattle.std.proofs.lemmas.Bool.{and_parts}
 use Rattle.std.proofs.lemmas.Str.{chars-encodes}
 use Rattle.std.specs.Char.Escape.{encode_utf16}
 use Rattle.std.specs.List.{flat_map, list_all, list_any}
-use Rattle.js_core.specs.GlobalNames.{global_names, names_global}
 use Rattle.js_core.specs.Height.{stmts_height}
 use Rattle.js_core.specs.LineText.{line_text}
 use Rattle.js_core.specs.Spelling.{is_reserved_word}
 use Rattle.js_core.specs.Text.{utf16_of}
 use Rattle.js_core.specs.Whole.{whole_of}
-use Rattle.js_core.specs.Worked.{Values, controls, surrogates, units, reserved_words, other_words, names, other_names, numbers, heights}
+use Rattle.js_core.specs.Worked.{Values, controls, surrogates, units, reserved_words, other_words, numbers, heights}
 
 pub controls_are_escaped : Values line_text controls
 unfolding encode
@@ -33,10 +32,6 @@ units_are_taken = of_characters units refl (refl, (refl, (refl, (refl, (refl, (r
 
 pub words_are_reserved : (list_all is_reserved_word reserved_words ≡ true) × (list_any is_reserved_word other_words ≡ false)
 words_are_reserved = (refl, refl)
-
-pub names_are_global : (length global_names ≡ 27) × (list_all names_global names ≡ true) × (list_any names_global other_names ≡ false)
-unfolding global_names
-names_are_global = (refl, refl, refl)
 
 pub numbers_are_in_range : Values whole_of numbers
 numbers_are_in_range = (refl, (refl, (refl, (refl, (refl, (refl, (refl, (refl, (refl, tt)))))))))

@@ -1,9 +1,8 @@
 //! What holds of the definitions.
 
-ghost use Rattle.std.specs.Prelude.{◌≡◌, true, false, length};
+ghost use Rattle.std.specs.Prelude.{◌≡◌, true, false};
 ghost use Rattle.std.specs.Prelude.{encode_utf8_all};
 ghost use Rattle.std.specs.List.{list_all, list_any};
-ghost use Rattle.js_core.specs.GlobalNames.{global_names, names_global};
 ghost use Rattle.js_core.specs.Height.{stmts_height};
 ghost use Rattle.js_core.specs.LineText.{line_text};
 ghost use Rattle.js_core.specs.Spelling.{is_reserved_word};
@@ -20,13 +19,11 @@ pub fn law_worked_texts()
     ensures units { Values (λ cs. utf16_of (encode_utf8_all cs)) worked.units }
 {}
 
-/// The worked words are reserved, or are not; there are 27 global names, and none of those that are nearly one.
-#[tactic(auto, using(crate::proofs::Worked::words_are_reserved, crate::proofs::Worked::names_are_global))]
+/// The worked words are reserved, or are not.
+#[tactic(auto, using(crate::proofs::Worked::words_are_reserved))]
 pub fn law_worked_words()
-    ensures reserved { (list_all is_reserved_word worked.reserved_words ≡ true)
+    ensures { (list_all is_reserved_word worked.reserved_words ≡ true)
         × (list_any is_reserved_word worked.other_words ≡ false) }
-    ensures global { (length global_names ≡ 27) × (list_all names_global worked.names ≡ true)
-        × (list_any names_global worked.other_names ≡ false) }
 {}
 
 /// The worked numbers are in range, or are not; the worked trees are as high as they say.

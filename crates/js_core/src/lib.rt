@@ -3,7 +3,6 @@
 
 mod ascii;
 mod characters;
-mod global_names;
 mod height;
 mod keyword;
 mod laws;
@@ -18,7 +17,6 @@ mod whole;
 
 pub use ascii::{ascii_text, push_ascii};
 pub use characters::{is_line_end, is_white_space};
-pub use global_names::is_global_name;
 pub use height::{exprs_height, fields_height, holes_height};
 pub use keyword::{Keyword, is_unused_word, keyword_of};
 pub use laws::{law_worked_numbers, law_worked_texts, law_worked_words};

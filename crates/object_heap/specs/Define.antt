@@ -1,6 +1,6 @@
 -- How a property of an object is defined (ECMA-262 5.1 sections 8.12.9 and 15.4.5.1).
 use Rattle.std.specs.Prelude.{ℕ, ◌+◌, pos, Bool, true, false, List, [], ◌∷◌, ◌++◌, Option, Some, None, ◌&&◌, ◌||◌, not, nat_le, nat_lt, nat_eq, max, filter, codes, bytes_eq, is_some, if◌then◌else◌}
-use Rattle.js_core.specs.GlobalNames.{names_global}
+use Rattle.global_names.specs.Names.{names_global}
 use Rattle.js_values.specs.declared.throw.Throw.{Throw}
 use Rattle.js_values.specs.declared.throw.Throw.TheVariants.{CannotDefine, CannotDelete, CannotSet, InvalidLength}
 use Rattle.js_values.specs.declared.value.Value.{Value}

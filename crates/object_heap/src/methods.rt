@@ -10,7 +10,8 @@ ghost use Rattle.object_heap.specs.Property.{own_property};
 use crate::fault::{HeapFault, Refused};
 use crate::object::Object;
 use crate::property::{Change, Prop};
-use js_core::{OutOfMemory, Units, is_global_name};
+use global_names::is_global_name;
+use js_core::{OutOfMemory, Units};
 use js_values::Value;
 
 impl Object {

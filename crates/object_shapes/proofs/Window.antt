@@ -4,7 +4,7 @@ use Rattle.std.proofs.lemmas.Bool.{and_from, and_parts}
 use Rattle.std.proofs.lemmas.Slice.Eq.{bytes_eq-Decides}
 use Rattle.std.specs.List.{list_all}
 use Rattle.std.specs.Map.{lookup, remove_entry, set_value}
-use Rattle.js_core.specs.GlobalNames.{global_names, names_global}
+use Rattle.global_names.specs.Names.{global_names, names_global}
 use Rattle.object_heap.specs.Define.{is_closed_at}
 use Rattle.object_heap.specs.Object.{is_window, Object}
 use Rattle.object_heap.specs.Property.{Props, own_property, with_property, without_property}

@@ -2,7 +2,7 @@
 use Rattle.std.specs.Fmt.{digits}
 use Rattle.std.specs.Prelude.{refl}
 use Rattle.js_core.specs.Characters.{is_line_end, is_white_space}
-use Rattle.js_core.specs.GlobalNames.{global_names}
+use Rattle.global_names.specs.Names.{global_names}
 use Rattle.object_heap.specs.Chain.{can_put, get_property}
 use Rattle.object_heap.specs.Heap.{add_property, define_own, delete, lookup, prevent_extensions, put, set}
 use Rattle.whole_ops.specs.Numeral.{decimal_of, goes_on_as_decimal, hexadecimal_of, is_decimal, is_exponent, literal_of, to_whole}

@@ -5,7 +5,7 @@ use Rattle.std.specs.List.{IsDistinct, list_all}
 use Rattle.std.specs.Map.{keys_of}
 use Rattle.std.proofs.lemmas.Bool.{and_parts, and_right, cond-false, not-true}
 use Rattle.std.proofs.Math.Bool.{and-false}
-use Rattle.js_core.specs.GlobalNames.{names_global}
+use Rattle.global_names.specs.Names.{names_global}
 use Rattle.js_values.specs.declared.ids.ObjId.{ObjId}
 use Rattle.js_values.specs.declared.throw.Throw.TheVariants.{CannotDefine}
 use Rattle.js_values.specs.declared.value.Value.{Value}

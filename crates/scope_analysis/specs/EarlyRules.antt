@@ -3,7 +3,7 @@ use Rattle.std.specs.Prelude.{ℕ, Bool, true, false, not, ◌||◌, List, [], �
 use Rattle.std.specs.List.{list_any, find}
 use Rattle.js_core.specs.Tree as tree
 use Rattle.js_core.specs.Tree.{name, num, text, bool, null, this, list, literal, func, member, index, call, construct, unary, update, binary, logical_and, logical_or, conditional, assign, comma, no_exprs, then_expr, no_expr, one_expr, no_holes, then_hole, no_fields, then_field, code, var, function, expr, empty, block, if_else, do_while, while, for, for_in, continue, break, return, throw, try, switch, no_stmts, then_stmt, no_body, one_body, no_declarators, then_declarator, no_init, init_var, init_expr, no_catch, one_catch, no_cases, then_case}
-use Rattle.js_core.specs.GlobalNames.{names_global}
+use Rattle.global_names.specs.Names.{names_global}
 use Rattle.js_core.specs.declared.operators.UnaryOp.TheVariants.{Delete}
 use Rattle.scope_analysis.specs.declared.early_rule.EarlyRule.{EarlyRule}
 use Rattle.scope_analysis.specs.declared.early_rule.EarlyRule.TheVariants as rule

@@ -13,7 +13,8 @@ use crate::nodes::any_in_statements;
 use crate::scope_test::ScopeTest;
 use crate::use_table::UseTable;
 use crate::uses::note_statements;
-use js_core::{OutOfMemory, Script, Stmt, StmtNode, Units, is_global_name};
+use global_names::is_global_name;
+use js_core::{OutOfMemory, Script, Stmt, StmtNode, Units};
 use std::alloc::Global;
 
 const EARLY_RULES: [EarlyRule; 9] = [

@@ -3,7 +3,7 @@ use Rattle.std.proofs.Common.{◌≡◌, ◌↔◌, ℕ, List, Bool, IsTrue, sym
 use Rattle.std.proofs.lemmas.Cmp.{nat_list_eq_equiv}
 use Rattle.std.proofs.lemmas.Map.Views.{list_any-from_Contains, Contains-from_any}
 use Rattle.std.proofs.lemmas.Slice.Eq.{bytes_eq-Decides}
-use Rattle.js_core.specs.GlobalNames.{global_names, names_global, IsGlobalName}
+use Rattle.global_names.specs.Names.{global_names, names_global, IsGlobalName}
 
 -- a test that gives what `names_global` gives decides membership
 pub names_global-member : (name : List ℕ) (test : Bool) → test ≡ names_global name → IsTrue test ↔ IsGlobalName name

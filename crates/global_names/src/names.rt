@@ -1,9 +1,9 @@
 //! The names of the global object's built-in properties.
 
 ghost use Rattle.std.specs.Prelude.{◌≡◌, ◌↔◌, IsTrue};
-ghost use Rattle.js_core.specs.GlobalNames.{IsGlobalName, names_global};
+ghost use Rattle.global_names.specs.Names.{IsGlobalName, names_global};
 
-use crate::units::Units;
+use js_core::Units;
 
 const GLOBAL_NAMES: [&[u8]; 27] = [
     b"window",

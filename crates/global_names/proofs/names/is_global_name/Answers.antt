@@ -1,6 +1,6 @@
-use Rattle.js_core.specs.GlobalNames.{global_names}
-use Rattle.js_core.proofs.GlobalNamesLemmas.{names_global-member}
-use Rattle.js_core.proofs.global_names.is_global_name.Goals as goal
+use Rattle.global_names.specs.Names.{global_names}
+use Rattle.global_names.proofs.NamesLemmas.{names_global-member}
+use Rattle.global_names.proofs.names.is_global_name.Goals as goal
 
 pub returns-clause-value : goal.returns-clause-value
 unfolding global_names
