@@ -36,8 +36,7 @@ fn read_bytes<F: Files>(alloc: Global, files: &mut F, name: &str) -> Result<Vec<
 
 // Accepts the page of these bytes.
 fn accept_bytes(alloc: Global, bytes: &[u8]) -> Result<Accepted, Status>
-    ensures ok { IfOk result (λ accepted.
-        IsAcceptedAt bytes.now accepted.page accepted.with_body accepted.places.items) }
+    ensures ok { IfOk result (IsAcceptedAt bytes.now) }
     ensures stops { IfErr result (IsUnaccepted bytes.now) }
 {
     match accept(alloc, bytes) {

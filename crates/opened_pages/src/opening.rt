@@ -16,17 +16,16 @@ use std::alloc::Global;
 /// The text of an accepted page with opened scopes. Of a plain page it is the mark of a form page and the page, without a byte
 /// order mark, in which its script is the opened one, as it is printed; all else stays byte for byte. A form page stays as it is.
 pub fn open_page(alloc: Global, bytes: &[u8], accepted: &Accepted) -> Result<Vec<u8>, OutOfMemory>
-    requires { IsAcceptedAt bytes.now accepted.now.page accepted.now.with_body
-        accepted.now.places.items }
+    requires { IsAcceptedAt bytes.now accepted.now }
     ensures text { IfOk result (λ text.
         Opens accepted.now.page.kind bytes.now accepted.now.page.scripts text.items) }
     ensures numbered { OnOk result
         (HaveNumbers accepted.now.page.kind accepted.now.page.scripts) }
 {
-    let page = &accepted.page;
+    let page = accepted.page();
     match page.kind() {
         Kind::Form => Ok(Vec::from_slice(alloc, bytes)?),
-        Kind::Plain => open_plain(alloc, accepted.with_body, page.scripts()),
+        Kind::Plain => open_plain(alloc, accepted.with_body(), page.scripts()),
     }
 }
 

@@ -45,7 +45,7 @@ not_accepted page text bytes kind with_body places texts OutOfMemory utf8 e f fr
 
 pub accepted_at : (page text bytes : List ℕ) (kind : Kind) (with_body : Bool) (places : List Place) (texts : List (List ℕ)) (scripts : List tree.Stmts) → IsUtf8 bytes
     → page ≡ text_of text → text ≡ bytes → IsFrameAt page kind with_body places → texts ≡ map (part page) places → ArePageScripts kind texts scripts
-    → IsAcceptedAt bytes (record { kind = kind; scripts = scripts }) with_body places
+    → IsAcceptedAt bytes (record { page = record { kind = kind; scripts = scripts }; with_body = with_body; places = places })
 accepted_at page text bytes kind with_body places texts scripts utf8 e f framed g read =
     let is = framed_as page text bytes kind with_body places e f framed in
     record {

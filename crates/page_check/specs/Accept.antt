@@ -96,11 +96,17 @@ pub record IsAcceptedAs (bytes : List ℕ) (kind : Kind) (scripts : List tree.St
 abbrev pub IsAccepted : List ℕ → Page → Type 0
 IsAccepted bytes page = IsAcceptedAs bytes page.kind page.scripts
 
--- and an empty body stands before the scripts, or none does, and their texts stand at these places
-pub record IsAcceptedAt (bytes : List ℕ) (page : Page) (with_body : Bool) (places : List Place) : Type 0 where
-  pub accepted : IsAccepted bytes page
-  pub body : accepted.framed.with_body ≡ with_body
-  pub placed : places ≡ places_of accepted.framed
+-- a page, whether an empty body stands before its scripts, and where their texts stand
+pub record AcceptedPage : Type 0 where
+  pub page : Page
+  pub with_body : Bool
+  pub places : List Place
+
+-- the bytes are accepted as this page, with this body and at these places
+pub record IsAcceptedAt (bytes : List ℕ) (found : AcceptedPage) : Type 0 where
+  pub accepted : IsAccepted bytes found.page
+  pub body : accepted.framed.with_body ≡ found.with_body
+  pub placed : found.places ≡ places_of accepted.framed
 
 -- the bytes are a page but for one of its scripts
 pub record IsRefusedScript (bytes : List ℕ) (refusal : Refusal) : Type 0 where

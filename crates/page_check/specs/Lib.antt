@@ -1,4 +1,5 @@
 pub mod Accept
+pub mod CodedAccepted
 pub mod CodedPage
 pub mod Frame
 pub mod Rules

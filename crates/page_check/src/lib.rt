@@ -10,6 +10,6 @@ mod laws;
 mod page;
 mod script;
 
-pub use acceptance::accept;
+pub use acceptance::{Accepted, accept};
 pub use laws::{law_one_answer, law_one_frame};
-pub use page::{AcceptFault, Accepted, CheckedPage, Kind, Place, Refusal};
+pub use page::{AcceptFault, CheckedPage, Kind, Place, Refusal};

@@ -1,4 +1,4 @@
-//! Accepted pages, and why bytes are refused.
+//! Pages, and why bytes are refused.
 
 ghost use Rattle.std.specs.Prelude.{◌≡◌};
 ghost use Rattle.page_check.specs.Rules.{AllKeepRules};
@@ -76,27 +76,6 @@ impl CheckedPage {
         ensures { result.items ≡ self.scripts }
     {
         self.scripts
-    }
-}
-
-/// An accepted page, and where its parts stand in its text, whose line ends are LF.
-#[derive(Drop)]
-pub struct Accepted {
-    /// The page.
-    pub page: CheckedPage,
-    /// Whether an empty body stands before its scripts.
-    pub with_body: bool,
-    /// Where the texts of its scripts stand, in document order. A page has one script until nodes come, and who opens it needs
-    /// no place till then.
-    pub places: Vec<Place>,
-}
-
-impl Accepted {
-    /// The page, without a copy.
-    pub fn into_page(self) -> CheckedPage
-        ensures { result ≡ self.page }
-    {
-        self.page
     }
 }
 
