@@ -75,7 +75,7 @@ drop_shapes : (chain : List Around) → shapes (drop 1 chain) ≡ drop 1 (shapes
 drop_shapes [] = refl
 drop_shapes (s ∷ ss) = refl
 
-left_is : (n : ℕ) (chain : List Around) (ms : List Mark) → map use_seen (filter is_free (occurrences n chain ms)) ≡ left (shapes chain) ms
+pub left_is : (n : ℕ) (chain : List Around) (ms : List Mark) → map use_seen (filter is_free (occurrences n chain ms)) ≡ left (shapes chain) ms
 left_is n chain [] = refl
 left_is n chain (opens kind own fs ds ∷ ms) = left_is (suc n) (around n kind own fs ds ∷ chain) ms
 left_is n chain (uses kind x ∷ ms) = by_case (is_declared (shapes chain) x) refl (left_is n chain ms)

@@ -1,11 +1,14 @@
 pub mod Callees
 pub mod Callers
+pub mod Captured
+pub mod CapturedScopes
 pub mod Chains
 pub mod FreeOccurrences
 pub mod KeptRules
 pub mod LowFunctions
 pub mod MarkLists
 pub mod Outwards
+pub mod Pieces
 pub mod Repeats
 pub mod Rests
 pub mod ScopeNames

@@ -1,3 +1,4 @@
+pub mod Captured
 pub mod EarlyRules
 pub mod Form
 pub mod FormScripts

@@ -28,7 +28,7 @@ mod uses;
 pub use early_rule::EarlyRule;
 pub use early_rules::early;
 pub use form::{has_high_function, has_reserved_name, in_form};
-pub use laws::law_free_uses;
+pub use laws::{law_captured_is_resolved, law_free_uses};
 pub use name_tables::{bound_table, insert_names, name_table, parameter_table};
 pub use names::{own_name, push_declared_names, push_maybe_name, push_names};
 pub use needs::needed_variables;
