@@ -1,5 +1,7 @@
 -- Where line ends may be put between the symbols of a script: behind `{`, `;` and `:`, before `}`, and behind a `}` where no `++`
 -- or `--` follows. Statements begin there and end there, and no rule on semicolons looks at a line end there (section 7.9).
+-- Behind a `}` such a sign may be postfix, as any left-hand side may stand before it: `a={}++;` has a tree, and has none with a line
+-- end before the sign (section 11.3). Only an early rule refuses such an operand.
 use Rattle.std.specs.Prelude.{◌≡◌, Bool, true, false, not, ◌||◌, ◌&&◌, List, [], ◌∷◌, is_some}
 use Rattle.js_core.specs.Tree as tree
 use Rattle.js_core.specs.declared.token.Punct.TheVariants as p
