@@ -1,14 +1,14 @@
 -- An expression is derived from its symbols also where line ends are put between them.
-use Rattle.std.proofs.Common.{◌≡◌, ℕ, Bool, true, false, List, ◌∷◌, Option, Some, None, refl, subst}
-use Rattle.std.specs.Prelude.{◌||◌, ◌&&◌}
+use Rattle.std.proofs.Common.{◌≡◌, ℕ, Bool, true, false, List, ◌∷◌, Option, Some, None, refl, subst, ap}
+use Rattle.std.specs.Prelude.{not, ◌||◌, ◌&&◌}
 use Rattle.js_core.specs.Tree as tree
 use Rattle.js_core.specs.declared.token.Punct.{Punct}
 use Rattle.js_core.specs.declared.token.Punct.TheVariants as p
 use Rattle.js_core.specs.declared.keyword.Keyword.TheVariants as kw
 use Rattle.js_grammar.specs.declared.sign.Sign.{Sign}
 use Rattle.js_grammar.specs.declared.sign.Sign.TheVariants.{Mark, Word}
-use Rattle.js_grammar.specs.LineEnds.{is_opening, is_closing, may_part, first_of, others_of, parted}
-use Rattle.js_grammar.specs.Operators.{Level, sequence, assignment, binary, construction, member, step_of}
+use Rattle.js_grammar.specs.LineEnds.{is_opening, is_closing, begins_operand, operand_follows, may_part, first_of, others_of, parted}
+use Rattle.js_grammar.specs.Operators.{Level, sequence, assignment, binary, construction, member, Infix, infix_of, step_of}
 use Rattle.js_grammar.specs.Symbols.{Symbol, Lexeme, sign, identifier, unused, number, text, member_name}
 use Rattle.js_grammar.specs.Phrases.{Phrase, Name, name, Separated, only, further, Listed, nothing, something, Many, none, more, Divided, by_comma, by_close}
 use Rattle.js_grammar.specs.Expressions.{Element, absent, present, Field, field, Arguments, Procedure, procedure, Primary, this_value, null_value, true_value, false_value, named, numeral, string, array, object, grouped, anonymous, function, Member, is_primary, dotted, indexed, called, constructed, LeftHandSide, is_member, is_call, constructed_plainly, Postfix, is_left, stepped, Unary, is_postfix, operated, Binary, is_unary, tighter, combines, Assignment, is_binary, chosen, assigned, Sequence, sequenced, AtLevel}
@@ -32,6 +32,20 @@ pub record Ends {A : Type 0} (Item : Phrase A) (ls : List Bool) (b : Symbol) (x 
 abbrev pub Closed : {A : Type 0} → Phrase A → Type 0
 Closed {A} Item = (ls : List Bool) (b : Symbol) (x z : List Lexeme) (a : A) → Item x z a → Ends Item ls b x z a
 
+-- the same, where this holds of what comes behind it
+abbrev pub ClosedBefore : {A : Type 0} → (List Lexeme → Type 0) → Phrase A → Type 0
+ClosedBefore {A} Rest Item = (ls : List Bool) (b : Symbol) (x z : List Lexeme) (a : A) → Rest z → Item x z a → Ends Item ls b x z a
+
+-- what may end with a postfix sign has no operand behind it in the same line
+
+abbrev pub NoOperand : List Lexeme → Type 0
+NoOperand z = operand_follows z ≡ false
+
+abbrev pub Rests : Level → List Lexeme → Type 0
+Rests construction z = Unit {0}
+Rests member z = Unit {0}
+Rests l z = NoOperand z
+
 -- ---- lists
 
 pub many_parted : {A : Type 0} (Item : Phrase A) → Parted Item → Parted (Many Item)
@@ -41,21 +55,21 @@ many_parted Item item ls b x z found (more {y = y} {found = fs} {a = a} h k) =
     let s = item r.left r.last y z a k in
     record { last = s.last; left = s.left; item = more r.item s.item }
 
-pub separated_parted : {A I : Type 0} (Item : I → Phrase A) → ((i : I) → Closed (Item i)) → (i : I) → Closed (Separated Item i)
-separated_parted Item item i ls b x z found (only {a = a} h) = let r = item i ls b x z a h in record { last = r.last; left = r.left; item = only r.item; closed = r.closed }
-separated_parted Item item i ls b x z found (further {i = k} {l = l} {y = y} {found = fs} {a = a} h h') =
-    let r = separated_parted Item item k ls b x ((sign (Mark p.Comma), l) ∷ y) fs h in
-    let s = item i (others_of r.left) (sign (Mark p.Comma)) y z a h' in
+pub separated_parted : {A I : Type 0} (Item : I → Phrase A) → ((i : I) → ClosedBefore NoOperand (Item i)) → (i : I) → ClosedBefore NoOperand (Separated Item i)
+separated_parted Item item i ls b x z found n (only {a = a} h) = let r = item i ls b x z a n h in record { last = r.last; left = r.left; item = only r.item; closed = r.closed }
+separated_parted Item item i ls b x z found n (further {i = k} {l = l} {y = y} {found = fs} {a = a} h h') =
+    let r = separated_parted Item item k ls b x ((sign (Mark p.Comma), l) ∷ y) fs refl h in
+    let s = item i (others_of r.left) (sign (Mark p.Comma)) y z a n h' in
     record { last = s.last; left = s.left; item = further r.item s.item; closed = s.closed }
 
-listed_parted : {A I : Type 0} (Item : I → Phrase A) → ((i : I) → Closed (Item i)) → Closed (Listed Item)
+listed_parted : {A I : Type 0} (Item : I → Phrase A) → ((i : I) → ClosedBefore NoOperand (Item i)) → Closed (Listed Item)
 listed_parted Item item ls b x z found nothing = record { last = sign (Mark p.RightParenthesis); left = others_of ls; item = nothing; closed = refl }
 listed_parted Item item ls b x z found (something {i = i} {l = l} h) =
-    let r = separated_parted Item item i ls b x ((sign (Mark p.RightParenthesis), l) ∷ z) found h in
+    let r = separated_parted Item item i ls b x ((sign (Mark p.RightParenthesis), l) ∷ z) found refl h in
     record { last = sign (Mark p.RightParenthesis); left = others_of r.left; item = something r.item; closed = refl }
 
-name_parted : Closed Name
-name_parted ls b x z w name = record { last = identifier w; left = others_of ls; item = name; closed = refl }
+name_parted : ClosedBefore NoOperand Name
+name_parted ls b x z w n name = record { last = identifier w; left = others_of ls; item = name; closed = refl }
 
 -- a comma behind an element, or the closing sign
 record Divides (close : Punct) (ls : List Bool) (b : Symbol) (x z : List Lexeme) : Type 0 where
@@ -66,6 +80,10 @@ record Divides (close : Punct) (ls : List Bool) (b : Symbol) (x z : List Lexeme)
 divided_parted : {close : Punct} (ls : List Bool) (b : Symbol) (x z : List Lexeme) → Divided close x z → Divides close ls b x z
 divided_parted ls b x z by_comma = record { last = sign (Mark p.Comma); left = others_of ls; item = by_comma }
 divided_parted ls b x z by_close = record { last = b; left = ls; item = by_close }
+
+divided_rests : {close : Punct} {x z : List Lexeme} → begins_operand (sign (Mark close)) ≡ false → Divided close x z → NoOperand x
+divided_rests e by_comma = refl
+divided_rests e (by_close {l = l}) = ap (λ (b : Bool). b && not l) e
 
 -- ---- symbols
 
@@ -83,35 +101,43 @@ step_closed (Mark p.MinusMinus) up e = refl
 step_closed (Mark _) up e = absurd (cc)
 step_closed (Word _) up e = absurd (cc)
 
-and_none : (b : Bool) → (b && false) ≡ false
-and_none true = refl
-and_none false = refl
+none_is_put : (c l : Bool) → (false || ((c && not (c && true)) && l)) ≡ false
+none_is_put true l = refl
+none_is_put false l = refl
 
--- no line end is put before `++` or `--` behind what ends so
-step_stays : (a : Symbol) (s : Sign) (up l : Bool) → is_opening a ≡ false → step_of (Some s) ≡ Some up → (false || (may_part a (sign s) && l)) ≡ false
-step_stays a (Mark p.PlusPlus) up l c e = rw (c, and_none (is_closing a)) refl
-step_stays a (Mark p.MinusMinus) up l c e = rw (c, and_none (is_closing a)) refl
-step_stays a (Mark _) up l c e = absurd (cc)
-step_stays a (Word _) up l c e = absurd (cc)
+-- no line end is put before `++` or `--` behind what ends so, where no operand comes behind the sign
+step_stays : (a : Symbol) (s : Sign) (up l : Bool) (z : List Lexeme) → is_opening a ≡ false → NoOperand z → step_of (Some s) ≡ Some up → (false || (may_part a (sign s) z && l)) ≡ false
+step_stays a (Mark p.PlusPlus) up l z c n e = rw (c, n) (none_is_put (is_closing a) l)
+step_stays a (Mark p.MinusMinus) up l z c n e = rw (c, n) (none_is_put (is_closing a) l)
+step_stays a (Mark _) up l z c n e = absurd (cc)
+step_stays a (Word _) up l z c n e = absurd (cc)
+
+infix_rests : (inn : Bool) (s : Sign) (f : Infix) → infix_of inn (Some s) ≡ Some f → begins_operand (sign s) ≡ false
+infix_rests inn (Mark p.LeftParenthesis) f e = absurd (cc)
+infix_rests inn (Mark p.LeftBracket) f e = absurd (cc)
+infix_rests inn (Mark _) f e = refl
+infix_rests inn (Word kw.In) f e = refl
+infix_rests inn (Word kw.InstanceOf) f e = refl
+infix_rests inn (Word _) f e = absurd (cc)
 
 -- ---- phrases
 
 -- what is known of the expressions and bodies that stand inside another
 pub record PartedInside (E : Bool → Level → Bool → Phrase tree.Expr) (B : Phrase (List tree.Stmt)) : Type 0 where
-  pub expressions : (inn : Bool) (l : Level) (g : Bool) → Closed (E inn l g)
+  pub expressions : (inn : Bool) (l : Level) (g : Bool) → ClosedBefore (Rests l) (E inn l g)
   pub bodies : Parted B
 
 module _ (E : Bool → Level → Bool → Phrase tree.Expr) (B : Phrase (List tree.Stmt)) (inner : PartedInside E B) where
   element_parted : Parted (Element E B)
   element_parted ls b x z a absent = record { last = sign (Mark p.Comma); left = others_of ls; item = absent }
   element_parted ls b x z o (present {g = g} {y = y} {a = a} h k) =
-      let r = inner.expressions true assignment g ls b x y a h in
+      let r = inner.expressions true assignment g ls b x y a (divided_rests refl k) h in
       let d = divided_parted r.left r.last y z k in
       record { last = d.last; left = d.left; item = present r.item d.item }
 
   field_parted : Parted (Field E B)
   field_parted ls b x z f (field {g = g} {s = s} {x = x'} {y = y} {a = a} e h k) =
-      let r = inner.expressions true assignment g (others_of (others_of ls)) (sign (Mark p.Colon)) x' y a h in
+      let r = inner.expressions true assignment g (others_of (others_of ls)) (sign (Mark p.Colon)) x' y a (divided_rests refl k) h in
       let d = divided_parted r.left r.last y z k in
       record { last = d.last; left = d.left; item = field e r.item d.item }
 
@@ -139,7 +165,7 @@ module _ (E : Bool → Level → Bool → Phrase tree.Expr) (B : Phrase (List tr
       let r = many_parted (Field E B) field_parted (others_of ls) (sign (Mark p.LeftBrace)) x' ((sign (Mark p.RightBrace), k) ∷ z) found h in
       record { last = sign (Mark p.RightBrace); left = others_of r.left; item = object r.item; closed = refl }
   primary_parted ls b x z a (grouped {g = g} {k = k} {x = x'} h) =
-      let r = inner.expressions true sequence g (others_of ls) (sign (Mark p.LeftParenthesis)) x' ((sign (Mark p.RightParenthesis), k) ∷ z) a h in
+      let r = inner.expressions true sequence g (others_of ls) (sign (Mark p.LeftParenthesis)) x' ((sign (Mark p.RightParenthesis), k) ∷ z) a refl h in
       record { last = sign (Mark p.RightParenthesis); left = others_of r.left; item = grouped r.item; closed = refl }
   primary_parted ls b x z a (anonymous {x = x'} {c = c} h) =
       let r = procedure_parted None (others_of ls) (sign (Word kw.Function)) x' z c h in
@@ -155,14 +181,14 @@ module _ (E : Bool → Level → Bool → Phrase tree.Expr) (B : Phrase (List tr
       record { last = s; left = others_of (others_of r.left); item = dotted r.item e; closed = member_closed s w e }
   member_parted c ls b x z a (indexed {g = g} {l = l} {k = k} {y = y} {a = o} {b = i} h h') =
       let r = member_parted c ls b x ((sign (Mark p.LeftBracket), l) ∷ y) o h in
-      let s = inner.expressions true sequence g (others_of r.left) (sign (Mark p.LeftBracket)) y ((sign (Mark p.RightBracket), k) ∷ z) i h' in
+      let s = inner.expressions true sequence g (others_of r.left) (sign (Mark p.LeftBracket)) y ((sign (Mark p.RightBracket), k) ∷ z) i refl h' in
       record { last = sign (Mark p.RightBracket); left = others_of s.left; item = indexed r.item s.item; closed = refl }
   member_parted c ls b x z a (called {c = c'} {l = l} {y = y} {a = o} {found = found} h h') =
       let r = member_parted c' ls b x ((sign (Mark p.LeftParenthesis), l) ∷ y) o h in
       let s = arguments_parted (others_of r.left) (sign (Mark p.LeftParenthesis)) y z found h' in
       record { last = s.last; left = s.left; item = called r.item s.item; closed = s.closed }
   member_parted c ls b x z a (constructed {g = g} {k = k} {x = x'} {y = y} {a = o} {found = found} h h') =
-      let r = inner.expressions true member g (others_of ls) (sign (Word kw.New)) x' ((sign (Mark p.LeftParenthesis), k) ∷ y) o h in
+      let r = inner.expressions true member g (others_of ls) (sign (Word kw.New)) x' ((sign (Mark p.LeftParenthesis), k) ∷ y) o tt h in
       let s = arguments_parted (others_of r.left) (sign (Mark p.LeftParenthesis)) y z found h' in
       record { last = s.last; left = s.left; item = constructed r.item s.item; closed = s.closed }
 
@@ -170,14 +196,14 @@ module _ (E : Bool → Level → Bool → Phrase tree.Expr) (B : Phrase (List tr
   left_parted calls ls b x z a (is_member h) = let r = member_parted false ls b x z a h in record { last = r.last; left = r.left; item = is_member r.item; closed = r.closed }
   left_parted calls ls b x z a (is_call h) = let r = member_parted true ls b x z a h in record { last = r.last; left = r.left; item = is_call r.item; closed = r.closed }
   left_parted calls ls b x z a (constructed_plainly {g = g} {x = x'} {a = o} h) =
-      let r = inner.expressions true construction g (others_of ls) (sign (Word kw.New)) x' z o h in
+      let r = inner.expressions true construction g (others_of ls) (sign (Word kw.New)) x' z o tt h in
       record { last = r.last; left = r.left; item = constructed_plainly r.item; closed = r.closed }
 
-  postfix_parted : (grows : Bool) → Closed (Postfix E B grows)
-  postfix_parted grows ls b x z a (is_left h) = let r = left_parted true ls b x z a h in record { last = r.last; left = r.left; item = is_left r.item; closed = r.closed }
-  postfix_parted grows ls b x z a (stepped {s = s} {up = up} {a = o} h e) =
+  postfix_parted : (grows : Bool) → ClosedBefore NoOperand (Postfix E B grows)
+  postfix_parted grows ls b x z a n (is_left h) = let r = left_parted true ls b x z a h in record { last = r.last; left = r.left; item = is_left r.item; closed = r.closed }
+  postfix_parted grows ls b x z a n (stepped {s = s} {up = up} {a = o} h e) =
       let r = left_parted true ls b x ((sign s, false) ∷ z) o h in
-      let stays = step_stays r.last s up (first_of r.left) r.closed e in
+      let stays = step_stays r.last s up (first_of r.left) z r.closed n e in
       record {
         last = sign s;
         left = others_of r.left;
@@ -185,40 +211,40 @@ module _ (E : Bool → Level → Bool → Phrase tree.Expr) (B : Phrase (List tr
         closed = step_closed s up e;
       }
 
-  unary_parted : (grows : Bool) → Closed (Unary E B grows)
-  unary_parted grows ls b x z a (is_postfix h) = let r = postfix_parted grows ls b x z a h in record { last = r.last; left = r.left; item = is_postfix r.item; closed = r.closed }
-  unary_parted grows ls b x z a (operated {s = s} {x = x'} {a = o} e h) =
-      let r = inner.expressions true (binary 11) grows (others_of ls) (sign s) x' z o h in
+  unary_parted : (grows : Bool) → ClosedBefore NoOperand (Unary E B grows)
+  unary_parted grows ls b x z a n (is_postfix h) = let r = postfix_parted grows ls b x z a n h in record { last = r.last; left = r.left; item = is_postfix r.item; closed = r.closed }
+  unary_parted grows ls b x z a n (operated {s = s} {x = x'} {a = o} e h) =
+      let r = inner.expressions true (binary 11) grows (others_of ls) (sign s) x' z o n h in
       record { last = r.last; left = r.left; item = operated e r.item; closed = r.closed }
 
-  binary_parted : (inn : Bool) (n : ℕ) (grows : Bool) → Closed (Binary E B inn n grows)
-  binary_parted inn n grows ls b x z a (is_unary h) = let r = unary_parted grows ls b x z a h in record { last = r.last; left = r.left; item = is_unary r.item; closed = r.closed }
-  binary_parted inn n grows ls b x z a (tighter h) = let r = binary_parted inn _ grows ls b x z a h in record { last = r.last; left = r.left; item = tighter r.item; closed = r.closed }
-  binary_parted inn n grows ls b x z a (combines {g = g} {l = l} {s = s} {y = y} {a = o} {b = i} e h k) =
-      let r = binary_parted inn _ g ls b x ((sign s, l) ∷ y) o h in
-      let t = inner.expressions inn _ grows (others_of r.left) (sign s) y z i k in
+  binary_parted : (inn : Bool) (k : ℕ) (grows : Bool) → ClosedBefore NoOperand (Binary E B inn k grows)
+  binary_parted inn k grows ls b x z a n (is_unary h) = let r = unary_parted grows ls b x z a n h in record { last = r.last; left = r.left; item = is_unary r.item; closed = r.closed }
+  binary_parted inn k grows ls b x z a n (tighter h) = let r = binary_parted inn _ grows ls b x z a n h in record { last = r.last; left = r.left; item = tighter r.item; closed = r.closed }
+  binary_parted inn k grows ls b x z a n (combines {g = g} {l = l} {s = s} {f = f} {y = y} {a = o} {b = i} e h h') =
+      let r = binary_parted inn _ g ls b x ((sign s, l) ∷ y) o (ap (λ (t : Bool). t && not l) (infix_rests inn s f e)) h in
+      let t = inner.expressions inn _ grows (others_of r.left) (sign s) y z i n h' in
       record { last = t.last; left = t.left; item = combines e r.item t.item; closed = t.closed }
 
-  pub assignment_parted : (inn grows : Bool) → Closed (Assignment E B inn grows)
-  assignment_parted inn grows ls b x z a (is_binary h) = let r = binary_parted inn 1 grows ls b x z a h in record { last = r.last; left = r.left; item = is_binary r.item; closed = r.closed }
-  assignment_parted inn grows ls b x z a (chosen {g = g} {h = g'} {l = l} {k = k} {y = y} {v = v} {a = o} {b = i} {c = c} h h' h'') =
-      let r = binary_parted inn 1 g ls b x ((sign (Mark p.QuestionMark), l) ∷ y) o h in
-      let s = inner.expressions true assignment g' (others_of r.left) (sign (Mark p.QuestionMark)) y ((sign (Mark p.Colon), k) ∷ v) i h' in
-      let t = inner.expressions inn assignment grows (others_of s.left) (sign (Mark p.Colon)) v z c h'' in
+  pub assignment_parted : (inn grows : Bool) → ClosedBefore NoOperand (Assignment E B inn grows)
+  assignment_parted inn grows ls b x z a n (is_binary h) = let r = binary_parted inn 1 grows ls b x z a n h in record { last = r.last; left = r.left; item = is_binary r.item; closed = r.closed }
+  assignment_parted inn grows ls b x z a n (chosen {g = g} {h = g'} {l = l} {k = k} {y = y} {v = v} {a = o} {b = i} {c = c} h h' h'') =
+      let r = binary_parted inn 1 g ls b x ((sign (Mark p.QuestionMark), l) ∷ y) o refl h in
+      let s = inner.expressions true assignment g' (others_of r.left) (sign (Mark p.QuestionMark)) y ((sign (Mark p.Colon), k) ∷ v) i refl h' in
+      let t = inner.expressions inn assignment grows (others_of s.left) (sign (Mark p.Colon)) v z c n h'' in
       record { last = t.last; left = t.left; item = chosen r.item s.item t.item; closed = t.closed }
-  assignment_parted inn grows ls b x z a (assigned {l = l} {s = s} {y = y} {a = o} {b = i} h e k) =
+  assignment_parted inn grows ls b x z a n (assigned {l = l} {s = s} {y = y} {a = o} {b = i} h e k) =
       let r = left_parted true ls b x ((sign s, l) ∷ y) o h in
-      let t = inner.expressions inn assignment grows (others_of r.left) (sign s) y z i k in
+      let t = inner.expressions inn assignment grows (others_of r.left) (sign s) y z i n k in
       record { last = t.last; left = t.left; item = assigned r.item e t.item; closed = t.closed }
 
-  pub sequence_parted : (inn grows : Bool) → Closed (Sequence E B inn grows)
-  sequence_parted inn grows ls b x z a (sequenced {found = found} h) =
-      let r = separated_parted (Assignment E B inn) (assignment_parted inn) grows ls b x z found h in
+  pub sequence_parted : (inn grows : Bool) → ClosedBefore NoOperand (Sequence E B inn grows)
+  sequence_parted inn grows ls b x z a n (sequenced {found = found} h) =
+      let r = separated_parted (Assignment E B inn) (assignment_parted inn) grows ls b x z found n h in
       record { last = r.last; left = r.left; item = sequenced r.item; closed = r.closed }
 
-  pub level_parted : (inn : Bool) (l : Level) (grows : Bool) → Closed (AtLevel E B inn l grows)
+  pub level_parted : (inn : Bool) (l : Level) (grows : Bool) → ClosedBefore (Rests l) (AtLevel E B inn l grows)
   level_parted inn sequence grows = sequence_parted inn grows
   level_parted inn assignment grows = assignment_parted inn grows
   level_parted inn (binary n) grows = binary_parted inn n grows
-  level_parted inn construction grows = left_parted false
-  level_parted inn member grows = member_parted false
+  level_parted inn construction grows = λ ls b x z a n h. left_parted false ls b x z a h
+  level_parted inn member grows = λ ls b x z a n h. member_parted false ls b x z a h

@@ -35,8 +35,8 @@ pub fn law_derived_trees_are_syntax()
     ensures { TokensHaveSyntax }
 {}
 
-/// Line ends between the symbols of a script are harmless behind `{`, `;` and `:`, before `}`, and behind a `}` where no `++` or `--`
-/// follows: tokens with more of them derive the same script (section 7.9).
+/// Line ends between the symbols of a script are harmless behind `{`, `;` and `:`, before `}`, and behind a `}` but before a `++` or
+/// `--` that no operand follows in its line: tokens with more of them derive the same script (sections 7.9, 11.3 and 11.4).
 pub fn law_line_ends_are_harmless()
     ensures { LineEndsAreHarmless }
 {}

@@ -18,6 +18,7 @@ pub mod PrintedReads
 pub mod PrintedScripts
 pub mod PrintedSigns
 pub mod PrintedStatements
+pub mod PrintedSteps
 pub mod PrintedSymbols
 pub mod PrintedTrees
 pub mod Quotes

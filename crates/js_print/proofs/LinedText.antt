@@ -1,12 +1,12 @@
 -- A printed script with line ends between its lexemes is read again.
-use Rattle.std.proofs.Common.{◌≡◌, ◌∙◌, ℕ, ◌+◌, ◌-◌, ◌≤◌, Bool, true, false, List, [], ◌∷◌, ◌++◌, length, Some, None, refl, sym, ap, subst, length-append, lit<, arith}
-use Rattle.std.specs.Prelude.{not, ◌&&◌, ◌||◌, ◌==◌, codes, bytes_eq, encode_utf8_all, IsUtf8}
+use Rattle.std.proofs.Common.{◌≡◌, ◌∙◌, ℕ, ◌-◌, ◌≤◌, Bool, true, false, List, [], ◌∷◌, ◌++◌, length, Some, None, refl, sym, ap, subst, length-append, arith}
+use Rattle.std.specs.Prelude.{not, ◌&&◌, ◌||◌, ◌==◌, codes, bytes_eq, IsUtf8}
 use Rattle.std.specs.List.{list_all, flat_map}
 use Rattle.std.specs.Char.Escape.{encode_utf16}
-use Rattle.std.proofs.lemmas.Bool.{and_from, and_parts, eq-eqb}
+use Rattle.std.proofs.lemmas.Bool.{and_from, and_parts}
 use Rattle.std.proofs.lemmas.List.Folds.{list_all-append}
 use Rattle.std.proofs.lemmas.Slice.Eq.{bytes_eq-Decides}
-use Rattle.std.proofs.lemmas.Str.{chars-encodes, encodes-append}
+use Rattle.std.proofs.lemmas.Str.{chars-encodes}
 use Rattle.js_core.specs.Characters.{is_white_space, is_line_end}
 use Rattle.js_core.specs.Text.{utf16_of}
 use Rattle.js_core.specs.Tree as tree
@@ -16,15 +16,15 @@ use Rattle.js_core.specs.declared.token.Token.{Token}
 use Rattle.js_core.specs.declared.token.TokenKind.TheVariants as kind
 use Rattle.unicode_ident.proofs.Computing.{unicode_ident}
 use Rattle.js_lexer.specs.Characters.{is_identifier_start, is_identifier_part, begins_with}
-use Rattle.js_lexer.specs.Directives.{is_use_strict, behind_statement, IsStrict}
+use Rattle.js_lexer.specs.Directives.{IsStrict}
 use Rattle.js_lexer.specs.Directives.IsStrict.{here, later}
 use Rattle.js_lexer.specs.Numbers.{is_refused_behind_number}
 use Rattle.js_lexer.specs.Separators.{separator_of, Gap}
 use Rattle.js_lexer.specs.Separators.Gap.{none as no_gap_more, more as gap_more}
 use Rattle.js_lexer.specs.Tokens.{TokensOf}
 use Rattle.js_lexer.specs.Tokens.TokensOf.{none as no_tokens, more as token_more}
-use Rattle.js_grammar.specs.LineEnds.{first_of, others_of, may_part, parted}
-use Rattle.js_grammar.specs.Symbols.{Symbol, Lexeme as Found, symbol_of, lexemes}
+use Rattle.js_grammar.specs.LineEnds.{first_of, others_of, is_border, may_be_postfix, may_part, parted}
+use Rattle.js_grammar.specs.Symbols.{Lexeme as Found, symbol_of, lexemes}
 use Rattle.js_grammar.proofs.Callers.{line_ends_are_harmless}
 use Rattle.js_print.specs.declared.lexeme.Lexeme.{Lexeme}
 use Rattle.js_print.specs.declared.lexeme.Lexeme.TheVariants.{Keyword, Name, Number, Text, Punct}
@@ -34,12 +34,12 @@ use Rattle.js_print.specs.Lined.{gap, lined_after, lined_text, may_be_lined, ope
 use Rattle.js_print.specs.ReadAgain.{begins_strict}
 use Rattle.js_print.specs.ReadBack.{kind_of}
 use Rattle.js_print.specs.Spelling.{is_word, lexeme_text, space_between, string_text}
-use Rattle.js_print.specs.Written.{can_be_written}
 use Rattle.js_print.proofs.Ascii.{space_is_ascii}
 use Rattle.js_print.proofs.Calm.{alone, stmts_calm}
 use Rattle.js_print.proofs.Controls.{lexeme_is_free, space_is_free}
 use Rattle.js_print.proofs.Neighbours.{refused_behind, has, meets, calm, start, ends_with_less, begins_with_slash, no_slash_behind_less}
 use Rattle.js_print.proofs.PrintedScripts.{plain_tokens, are_tokens, lexemes_can_be_written, lexemes_derive_the_tree}
+use Rattle.js_print.proofs.PrintedSteps.{is_brace, steady, steady_behind, script_is_steady, never_postfix}
 use Rattle.js_print.proofs.ReadAgain.{written, written_are_ordinary, coded_has_no_tag}
 use Rattle.js_print.proofs.Scans.{scan, no_tag, lexeme_scan, spaced_scan, untagged}
 use Rattle.js_print.proofs.Strictness.{ends, spans}
@@ -154,20 +154,23 @@ has_lined size (x ∷ xs) ls before after_word w c =
 
 -- ---- symbols
 
-put : (l m : Bool) → (not l || m) ≡ true → l ≡ (false || (m && l))
-put true true e = refl
-put true false e = absurd (cc)
-put false true e = refl
-put false false e = refl
+put : (l m n : Bool) → (not l || m) ≡ true → n ≡ false → l ≡ (false || ((m && not n) && l))
+put true true false e f = refl
+put true false n e f = absurd (cc)
+put l m true e f = absurd (cc)
+put false true false e f = refl
+put false false false e f = refl
 
-same_symbols : (size : ℕ) (behind : Lexeme) (ls : List Bool) (xs : List Lexeme) → may_be_lined behind ls xs ≡ true → lexemes (lined_from size ls xs) ≡ parted ls (symbol_of (kind_of behind)) (lexemes (plain_tokens xs))
-same_symbols size behind ls [] h = refl
-same_symbols size behind ls (x ∷ xs) h =
+same_symbols : (size : ℕ) (behind : Lexeme) (ls : List Bool) (xs : List Lexeme) → may_be_lined behind ls xs ≡ true → steady (is_brace behind) xs ≡ true → lexemes (lined_from size ls xs) ≡ parted ls (symbol_of (kind_of behind)) (lexemes (plain_tokens xs))
+same_symbols size behind ls [] h k = refl
+same_symbols size behind ls (x ∷ xs) h k =
+    let a = symbol_of (kind_of behind) in
     let s = symbol_of (kind_of x) in
-    let mark = put (first_of ls) (may_part (symbol_of (kind_of behind)) s) (and_parts _ _ h).0 in
-    let more = same_symbols size x (others_of ls) xs (and_parts (not (first_of ls) || may_part (symbol_of (kind_of behind)) s) _ h).1 in
+    let rest = lexemes (plain_tokens xs) in
+    let mark = put (first_of ls) (is_border a s) (may_be_postfix a s rest) (and_parts _ _ h).0 (never_postfix behind x xs k) in
+    let more = same_symbols size x (others_of ls) xs (and_parts (not (first_of ls) || is_border a s) _ h).1 (steady_behind behind x xs k) in
     ap (λ (l : Bool). (s, l) ∷ lexemes (lined_from size (others_of ls) xs)) mark
-    ∙ ap (λ (ts : List Found). (s, false || (may_part (symbol_of (kind_of behind)) s && first_of ls)) ∷ ts) more
+    ∙ ap (λ (ts : List Found). (s, false || (may_part a s rest && first_of ls)) ∷ ts) more
 
 -- ---- strictness
 
@@ -232,6 +235,6 @@ lined_scripts_are_read_again script ls is may =
       no_control = ap (list_all is_lined) same ∙ units_are_lined xs ls false are;
       tokens = lined_from size ls xs;
       read = subst (λ us. TokensOf (length us) us (lined_from size ls xs)) (sym same) (has_lined size xs ls start false are c);
-      derived = line_ends_are_harmless ls (plain_tokens xs) (lined_from size ls xs) script (lexemes_derive_the_tree (plain_tokens xs) script is (are_tokens xs)) (same_symbols size opening ls xs may);
+      derived = line_ends_are_harmless ls (plain_tokens xs) (lined_from size ls xs) script (lexemes_derive_the_tree (plain_tokens xs) script is (are_tokens xs)) (same_symbols size opening ls xs may (script_is_steady script is));
       strict = λ e. lined_strict size ls script e (omega arith);
     }

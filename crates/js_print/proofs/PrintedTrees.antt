@@ -57,7 +57,7 @@ free_symbol w None e = by (is_unused_word w) e
     by true e = absurd (cc)
     by false e = refl
 
-identified : (w : List ℕ) → is_identifier w ≡ true → IsIdentifier Ok w
+pub identified : (w : List ℕ) → is_identifier w ≡ true → IsIdentifier Ok w
 identified w h = (free_symbol w (keyword_of w) (and_parts (can_be_written (kind.Word w)) _ h).1, (and_parts _ _ h).0)
 
 member_symbol : (w : List ℕ) (o : Option Reserved) → keyword_of w ≡ o → member_name (word_symbol w o) ≡ Some w

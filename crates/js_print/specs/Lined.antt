@@ -1,11 +1,11 @@
 -- Printed lexemes with line ends between them, as a page has them that is written statement by statement.
-use Rattle.std.specs.Prelude.{◌≡◌, ℕ, Bool, true, false, not, ◌&&◌, ◌||◌, ◌==◌, IsTrue, List, [], ◌∷◌, ◌++◌, IsUtf8}
+use Rattle.std.specs.Prelude.{ℕ, Bool, true, false, not, ◌&&◌, ◌||◌, ◌==◌, IsTrue, List, [], ◌∷◌, ◌++◌, IsUtf8}
 use Rattle.std.specs.List.{list_all}
 use Rattle.js_core.specs.Text.{utf16_of}
 use Rattle.js_core.specs.Tree as tree
 use Rattle.js_core.specs.declared.token.Punct.TheVariants as punct
 use Rattle.js_core.specs.declared.token.Token.{Token}
-use Rattle.js_grammar.specs.LineEnds.{first_of, others_of, may_part}
+use Rattle.js_grammar.specs.LineEnds.{first_of, others_of, is_border}
 use Rattle.js_grammar.specs.Scripts.{Derives}
 use Rattle.js_grammar.specs.Symbols.{symbol_of}
 use Rattle.js_grammar.specs.Syntax.{IsSyntax}
@@ -32,10 +32,11 @@ lined_after after_word ls (x ∷ xs) = gap (first_of ls) after_word (is_word x) 
 abbrev pub lined_text : List Bool → List Lexeme → List ℕ
 lined_text ls xs = lined_after false ls xs
 
--- each of the line ends may stand where it does: behind `{`, `;` and `:`, before `}`, and behind a `}` where no `++` or `--` follows
+-- Each of the line ends may stand where it does: behind `{`, `;`, `:` and `}`, and before `}`. So one may before each statement. No postfix
+-- `++` or `--` is printed behind a `}` (section 11.3), as an object literal or a function stands in parentheses there.
 abbrev pub may_be_lined : Lexeme → List Bool → List Lexeme → Bool
 may_be_lined behind ls [] = true
-may_be_lined behind ls (x ∷ xs) = (not (first_of ls) || may_part (symbol_of (kind_of behind)) (symbol_of (kind_of x))) && may_be_lined x (others_of ls) xs
+may_be_lined behind ls (x ∷ xs) = (not (first_of ls) || is_border (symbol_of (kind_of behind)) (symbol_of (kind_of x))) && may_be_lined x (others_of ls) xs
 
 -- what stands before a script, as before a statement
 abbrev pub opening : Lexeme

@@ -37,8 +37,7 @@ pub fn law_printed_scripts_are_read_again()
 {}
 
 /// The law that a printed script is read again also with line ends between its lexemes, where none stands but behind `{`,
-/// `;` and `:`, before `}`, and behind a `}` that no `++` or `--` follows: so a page may have one behind each statement, but where that
-/// ends with `}` and the next one begins with `++` or `--` (section 7.9).
+/// `;`, `:` and `}`, and before `}`: so a page may have one before each statement (section 7.9).
 pub fn law_lined_scripts_are_read_again()
     ensures { LinedScriptsAreReadAgain }
 {}

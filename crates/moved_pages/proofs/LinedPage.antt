@@ -4,7 +4,7 @@ use Rattle.std.specs.Prelude.{◌&&◌, ◌||◌, codes}
 use Rattle.std.proofs.lemmas.Str.{encode_ascii}
 use Rattle.js_core.specs.declared.keyword.Keyword.TheVariants as keyword
 use Rattle.js_core.specs.declared.token.Punct.TheVariants as punct
-use Rattle.js_grammar.specs.LineEnds.{is_opening, may_part}
+use Rattle.js_grammar.specs.LineEnds.{is_opening, is_border}
 use Rattle.js_grammar.specs.Symbols.{Symbol, symbol_of}
 use Rattle.js_print.specs.declared.lexeme.Lexeme.{Lexeme}
 use Rattle.js_print.specs.declared.lexeme.Lexeme.TheVariants.{Keyword, Name, Text, Punct}
@@ -122,7 +122,7 @@ none_may : (xs ys : List Lexeme) (b : Lexeme) (ls : List Bool) → may_be_lined 
 none_may [] ys b ls = refl
 none_may (x ∷ xs) ys b ls = none_may xs ys x ls
 
-may_behind : (a b : Symbol) (m : Bool) → is_opening a ≡ true → (may_part a b && m) ≡ m
+may_behind : (a b : Symbol) (m : Bool) → is_opening a ≡ true → (is_border a b && m) ≡ m
 may_behind a b m e = ap (λ (t : Bool). t && m) (by _ _ _ e)
   where
     by : (c o n : Bool) → o ≡ true → (c || (o || n)) ≡ true
