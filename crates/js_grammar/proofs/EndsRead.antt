@@ -1,5 +1,5 @@
 -- The ends of statements are read as the grammar has them.
-use Rattle.std.proofs.Common.{◌≡◌, Bool, true, false, List, [], ◌∷◌, Option, Some, None, refl, subst, ◌⊎◌, inl, inr}
+use Rattle.std.proofs.Common.{◌≡◌, Bool, true, false, List, [], ◌∷◌, Option, Some, None, refl, sym, subst, ◌∙◌, ◌⊎◌, inl, inr}
 use Rattle.std.proofs.lemmas.Bool.{and_parts, not-true, or_cases, or_parts}
 use Rattle.std.specs.Prelude.{not, ◌||◌, ◌&&◌}
 use Rattle.js_core.specs.declared.token.Punct.TheVariants as p
@@ -9,9 +9,10 @@ use Rattle.js_grammar.specs.Symbols.{Symbol, Lexeme, sign_of, sign_at, is_sign}
 use Rattle.js_grammar.specs.Operators.{sequence, climbs, is_later, is_suffix, step_of}
 use Rattle.js_grammar.specs.Parser.{sees}
 use Rattle.js_grammar.specs.ExpressionReader.{in_line}
-use Rattle.js_grammar.specs.Endings.{Ending, after_expression, after_name, after_all, is_operator, continues_name, continues, is_right_brace, ends_before, may_end}
+use Rattle.js_grammar.specs.Endings.{Ending, after_expression, after_name, after_all, continues_name, continues, goes_on, is_right_brace, ends_before, may_end}
 use Rattle.js_grammar.specs.Statements.{End, semicolon, automatic}
 use Rattle.js_grammar.specs.StatementReader.{ended, read_expression}
+use Rattle.js_grammar.proofs.Continues.{continues_by_operators}
 use Rattle.js_grammar.proofs.Stops.{Stops}
 use Rattle.js_grammar.proofs.Booleans.{or_true}
 
@@ -55,8 +56,13 @@ forgets (after_expression grows) = read_expression
 forgets after_name = after_name
 forgets after_all = after_all
 
+fewer : (grows goes no_suffix : Bool) → goes && (grows || no_suffix) ≡ false → goes && no_suffix ≡ false
+fewer grows false no_suffix h = refl
+fewer false true no_suffix h = h
+fewer true true no_suffix h = absurd (cc)
+
 forgets_fewer : (e : Ending) (s : Option Sign) → continues e s ≡ false → continues (forgets e) s ≡ false
-forgets_fewer (after_expression grows) s h = (or_parts (grows && is_suffix true s) (is_operator s) h).1
+forgets_fewer (after_expression grows) s h = fewer grows (goes_on s) (not (is_suffix true s)) h
 forgets_fewer after_name s h = h
 forgets_fewer after_all s h = h
 
@@ -81,7 +87,7 @@ quiet_by g l s ts h = by (sign_of s) (why_ends (after_expression g) (sign_of s) 
     by : (o : Option Sign) → (o ≡ Some (Mark p.RightBrace)) ⊎ ((l ≡ true) × (is_sign (Mark p.Semicolon) o ≡ false) × (continues (after_expression g) o ≡ false)) → (g ≡ true → (is_suffix true o ≡ false) × (in_line (step_of o) l ≡ None)) × (climbs true 1 o ≡ false) × (is_later o ≡ false) × (is_sign (Mark p.Comma) o ≡ false)
     by o (inl r) = ((λ t. (rw r refl, rw r refl)), rw r refl, rw r refl, rw r refl)
     by o (inr r) =
-        let parts = or_parts (g && is_suffix true o) (is_operator o) r.2 in
+        let parts = or_parts (g && is_suffix true o) (climbs true 1 o || (is_later o || is_sign (Mark p.Comma) o)) (sym (continues_by_operators g o) ∙ r.2) in
         let first = or_parts (climbs true 1 o) (is_later o || is_sign (Mark p.Comma) o) parts.1 in
         let second = or_parts (is_later o) (is_sign (Mark p.Comma) o) first.1 in
         ((λ t. (rest t (is_suffix true o) parts.0, in_new_line (step_of o) r.0)), first.0, second.0, second.1)

@@ -1,28 +1,29 @@
 -- Where a statement ends without a semicolon (section 7.9).
-use Rattle.std.specs.Prelude.{◌≡◌, Bool, true, false, not, ◌&&◌, ◌||◌, List, [], ◌∷◌, Option, Some}
+use Rattle.std.specs.Prelude.{◌≡◌, Bool, true, false, not, ◌&&◌, ◌||◌, List, [], ◌∷◌, Option, Some, None}
 use Rattle.js_core.specs.declared.token.Punct.TheVariants as p
 pub use Rattle.js_grammar.specs.declared.ending.Ending.{Ending}
 pub use Rattle.js_grammar.specs.declared.ending.Ending.TheVariants.{AfterExpression as after_expression, AfterName as after_name, AfterAll as after_all}
 use Rattle.js_core.specs.declared.keyword.Keyword.TheVariants as kw
 use Rattle.js_grammar.specs.declared.sign.Sign.{Sign}
 use Rattle.js_grammar.specs.declared.sign.Sign.TheVariants.{Mark, Word}
-use Rattle.js_core.specs.declared.token.TokenKind.{TokenKind}
-use Rattle.js_lexer.specs.Directives as directives
-use Rattle.js_grammar.specs.Symbols.{Lexeme, symbol_of, sign_of, is_sign}
+use Rattle.js_lexer.specs.Directives.{punct_continues, word_continues}
+use Rattle.js_grammar.specs.Symbols.{Lexeme, sign_of, is_sign}
 use Rattle.js_grammar.specs.Operators.{climbs, is_later, is_suffix}
 
--- a binary, logical, relational, conditional, assignment or comma operator
-abbrev pub is_operator : Option Sign → Bool
-is_operator s = climbs true 1 s || (is_later s || is_sign (Mark p.Comma) s)
+-- whether the sign goes on with an expression, by the table that directives end by
+abbrev pub goes_on : Option Sign → Bool
+goes_on (Some (Mark mark)) = punct_continues mark
+goes_on (Some (Word word)) = word_continues (Some word)
+goes_on None = false
 
 abbrev pub continues_name : Option Sign → Bool
 continues_name (Some (Mark p.SimpleAssign)) = true
 continues_name (Some (Mark p.Comma)) = true
 continues_name s = false
 
--- whether the sign goes on with the statement
+-- whether the sign goes on with the statement; `(`, `[` and a point only with an expression that grows
 abbrev pub continues : Ending → Option Sign → Bool
-continues (after_expression grows) s = (grows && is_suffix true s) || is_operator s
+continues (after_expression grows) s = goes_on s && (grows || not (is_suffix true s))
 continues after_name s = continues_name s
 continues after_all s = false
 
@@ -51,6 +52,7 @@ is_excluded (Some (Mark p.LeftBrace)) = true
 is_excluded (Some (Word kw.Function)) = true
 is_excluded s = false
 
--- what goes on with an expression in a list of directives goes on with it in the grammar
-abbrev pub ContinuingIsOne : Type 0
-ContinuingIsOne = (k : TokenKind) → directives.continues k ≡ continues (after_expression true) (sign_of (symbol_of k))
+-- what goes on with an expression is what the grammar has behind one
+abbrev pub OperatorsAndSuffixesGoOn : Type 0
+OperatorsAndSuffixesGoOn =
+    (s : Option Sign) → goes_on s ≡ (is_suffix true s || (climbs true 1 s || (is_later s || is_sign (Mark p.Comma) s)))

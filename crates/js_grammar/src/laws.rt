@@ -3,7 +3,7 @@
 ghost use Rattle.std.specs.Prelude.{◌≡◌, List, Some, None};
 ghost use Rattle.js_core.specs.Tree as tree;
 ghost use Rattle.js_core.specs.declared.token.Token.{Token};
-ghost use Rattle.js_grammar.specs.Endings.{ContinuingIsOne};
+ghost use Rattle.js_grammar.specs.Endings.{OperatorsAndSuffixesGoOn};
 ghost use Rattle.js_grammar.specs.Examples.{AreRead};
 ghost use Rattle.js_grammar.specs.ExpressionExamples as expressions;
 ghost use Rattle.js_grammar.specs.HeightExamples as heights;
@@ -41,10 +41,10 @@ pub fn law_line_ends_are_harmless()
     ensures { LineEndsAreHarmless }
 {}
 
-/// What goes on with an expression is said once for directives (section 14.1) and once for statements (section 7.9): the two
-/// tables are one.
-pub fn law_one_table_of_what_goes_on()
-    ensures { ContinuingIsOne }
+/// The signs that go on with an expression, so that a line end before them ends no statement (section 7.9), are those that the
+/// grammar has behind one: `(`, `[` and the point, the operators between operands, `?`, assignments and the comma.
+pub fn law_operators_and_suffixes_go_on()
+    ensures { OperatorsAndSuffixesGoOn }
 {}
 
 /// The examples that were worked by hand are read as they say.

@@ -19,7 +19,7 @@ mod sign;
 pub use ending::Ending;
 pub use laws::{
     law_derived_trees_are_syntax, law_examples_are_read, law_line_ends_are_harmless,
-    law_one_script, law_one_table_of_what_goes_on, law_reading_is_the_grammar,
+    law_one_script, law_operators_and_suffixes_go_on, law_reading_is_the_grammar,
 };
 pub use operators::{Infix, Level, Prefix};
 pub use sign::Sign;

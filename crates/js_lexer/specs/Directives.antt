@@ -1,13 +1,18 @@
--- Directive prologues (section 14.1).
+-- Directive prologues (section 14.1), and what goes on with an expression (section 7.9).
 use Rattle.std.specs.Prelude.{◌≡◌, ℕ, ◌+◌, Bool, true, false, not, ◌||◌, ◌&&◌, ◌==◌, if◌then◌else◌, List, [], ◌∷◌, Option, Some, None, codes}
 use Rattle.std.specs.Str.{bytes_eq}
+use Rattle.js_core.specs.Spelling.{keyword_of}
+use Rattle.js_core.specs.declared.keyword.Keyword.{Keyword}
+use Rattle.js_core.specs.declared.keyword.Keyword.TheVariants.{In, InstanceOf}
 use Rattle.js_core.specs.declared.token.Punct.{Punct}
 use Rattle.js_core.specs.declared.token.Punct.TheVariants.{LeftBrace, RightBrace, RightParenthesis, RightBracket, Semicolon, PlusPlus, MinusMinus, ExclamationMark, Tilde, Colon}
 use Rattle.js_core.specs.declared.token.Token.{Token}
 use Rattle.js_core.specs.declared.token.TokenKind.{TokenKind}
 use Rattle.js_core.specs.declared.token.TokenKind.TheVariants.{Word, Number, Text, Punct as Punctuator}
 
--- an operator that takes an expression before it, a comma, or `(`, `[` or `.`: all but these
+-- ---- what goes on with an expression that stands before it, in any statement
+
+-- an operator that takes an expression before it, a comma, or `(`, `[` or `.`: all punctuators but these
 abbrev pub punct_continues : Punct → Bool
 punct_continues LeftBrace = false
 punct_continues RightBrace = false
@@ -21,12 +26,19 @@ punct_continues Tilde = false
 punct_continues Colon = false
 punct_continues _ = true
 
--- the token goes on with an expression that stands before it
+-- two operators are reserved words
+abbrev pub word_continues : Option Keyword → Bool
+word_continues (Some In) = true
+word_continues (Some InstanceOf) = true
+word_continues word = false
+
 abbrev pub continues : TokenKind → Bool
-continues (Word word) = bytes_eq word (codes "in") || bytes_eq word (codes "instanceof")
+continues (Word word) = word_continues (keyword_of word)
 continues (Number number) = false
 continues (Text text) = false
 continues (Punctuator punct) = punct_continues punct
+
+-- ---- directives
 
 abbrev pub is_semicolon : TokenKind → Bool
 is_semicolon (Punctuator Semicolon) = true

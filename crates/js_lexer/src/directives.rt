@@ -4,7 +4,7 @@ ghost use Rattle.std.specs.Prelude.{◌≡◌, ◌↔◌, ◌<◌, ◌≤◌, le
 ghost use Rattle.js_lexer.specs.Directives as spec;
 ghost use Rattle.js_lexer.specs.Directives.{IsStrict};
 
-use js_core::{Punct, Token, TokenKind};
+use js_core::{Keyword, Punct, Token, TokenKind, keyword_of};
 
 /// How many units the strict directive has, with its quotes.
 const STRICT_LEN: u64 = 12;
@@ -72,14 +72,21 @@ fn continues(token: &Token) -> bool
     ensures { result ≡ spec.continues token.now.what }
 {
     match &token.what {
-        TokenKind::Word(word) => word.spells(b"in") || word.spells(b"instanceof"),
+        TokenKind::Word(word) => word_continues(keyword_of(word)),
         TokenKind::Punct(punct) => punct_continues(*punct),
         TokenKind::Number(_) | TokenKind::Text(_) => false,
     }
 }
 
+/// Whether the word is an operator that takes an expression before it. It is given as the reserved word that it is, if any.
+pub fn word_continues(word: Option<Keyword>) -> bool
+    ensures { result ≡ spec.word_continues word }
+{
+    matches!(word, Some(Keyword::In | Keyword::InstanceOf))
+}
+
 /// Whether the punctuator is an operator that takes an expression before it, a comma, or `(`, `[` or `.`.
-fn punct_continues(punct: Punct) -> bool
+pub fn punct_continues(punct: Punct) -> bool
     ensures { result ≡ spec.punct_continues punct }
 {
     !matches!(

@@ -12,7 +12,7 @@ mod separators;
 mod strings;
 mod words;
 
-pub use directives::strict;
+pub use directives::{punct_continues, strict, word_continues};
 pub use fault::{LexFault, NotTokens};
 pub use laws::{law_one_reading, law_tokens_are_longest};
 pub use lexing::tokens;

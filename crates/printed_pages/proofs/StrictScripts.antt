@@ -12,7 +12,6 @@ use Rattle.js_core.specs.declared.token.Token.{Token}
 use Rattle.js_core.specs.declared.token.TokenKind.{TokenKind}
 use Rattle.js_core.specs.declared.token.TokenKind.TheVariants as kind
 use Rattle.js_grammar.specs.declared.operators.Level.{Level}
-use Rattle.js_grammar.specs.Endings.{ContinuingIsOne}
 use Rattle.js_grammar.specs.Parser.{Parser, Outcome, added, and_then, many, repeat}
 use Rattle.js_grammar.specs.Scripts.{ScriptOf, height_limit}
 use Rattle.js_grammar.specs.ScriptReader.{inside, room_of, read_script, whole}
@@ -82,7 +81,7 @@ directive_text : (t : Token) → is_use_strict t ≡ true → is_text_of (codes 
 unfolding is_use_strict
 directive_text t e = (and_parts (is_text_of (codes "use strict") t.what) _ e).0
 
-module _ (one : ContinuingIsOne) (exp : Bool → Level → Parser tree.Expr) (body : Parser (List tree.Stmt)) (statement : Parser tree.Stmt) where
+module _ (exp : Bool → Level → Parser tree.Expr) (body : Parser (List tree.Stmt)) (statement : Parser tree.Stmt) where
   abbrev read : ℕ → List tree.Stmt → List Lexeme → Outcome (List tree.Stmt)
   read = repeat has_more (added (statements.element height_limit exp body statement))
 
@@ -97,7 +96,7 @@ module _ (one : ContinuingIsOne) (exp : Bool → Level → Parser tree.Expr) (bo
   token_added : (n : ℕ) (found all : List tree.Stmt) (u : List ℕ) (t : Token) (tokens rest : List Token) → t.what ≡ kind.Text u → behind_statement tokens ≡ Some rest
       → read n found (lexemes (t ∷ tokens)) ≡ Some (all, []) → (m : ℕ) × (read m (found ++ tree.expr (tree.text u) ∷ []) (lexemes rest) ≡ Some (all, []))
   token_added n found all u t tokens rest is ended e =
-      directive_added n found all u t.after_line (lexemes tokens) (lexemes rest) (directive_ends one tokens rest ended)
+      directive_added n found all u t.after_line (lexemes tokens) (lexemes rest) (directive_ends tokens rest ended)
       (subst (λ (k : TokenKind). read n found ((symbol_of k, t.after_line) ∷ lexemes tokens) ≡ Some (all, [])) is e)
 
   -- what is read of strict tokens begins with the strict directive
@@ -122,9 +121,9 @@ module _ (one : ContinuingIsOne) (exp : Bool → Level → Parser tree.Expr) (bo
 
 -- ---- the law
 
-read_begins_strict : ContinuingIsOne → (tokens : List Token) (script : tree.Stmts) → IsStrict tokens → read_script height_limit tokens ≡ Some script → begins_strict script ≡ true
+read_begins_strict : (tokens : List Token) (script : tree.Stmts) → IsStrict tokens → read_script height_limit tokens ≡ Some script → begins_strict script ≡ true
 unfolding read_script inside statements.elements many
-read_begins_strict one tokens script strict e =
+read_begins_strict tokens script strict e =
     by (inside height_limit (room_of height_limit) (suc (length tokens)) what.body (lexemes tokens)) refl e
   where
     by : (o : Outcome (List tree.Stmt)) → inside height_limit (room_of height_limit) (suc (length tokens)) what.body (lexemes tokens) ≡ o → whole o ≡ Some script
@@ -134,21 +133,20 @@ read_begins_strict one tokens script strict e =
     by (Some (all, [])) f g =
         let room = room_of height_limit - 1 in
         let fuel = length tokens in
-        let front = strict_front one (λ inn level. inside height_limit room fuel (what.expression inn level)) (inside height_limit room fuel what.body) (inside height_limit room fuel what.statement)
+        let front = strict_front (λ inn level. inside height_limit room fuel (what.expression inn level)) (inside height_limit room fuel what.body) (inside height_limit room fuel what.statement)
         tokens strict (length (lexemes tokens)) [] all f
         in
         let script_is : stmts_of all ≡ script = cc in
         subst (λ (s : tree.Stmts). begins_strict s ≡ true) (ap stmts_of (sym front.1) ∙ script_is) front.2
 
-pub accepted_scripts_begin_strict : ((tokens : List Token) (script : tree.Stmts) → ScriptOf height_limit tokens script → read_script height_limit tokens ≡ Some script)
-    → ContinuingIsOne → AcceptedScriptsBeginStrict
-accepted_scripts_begin_strict complete one bytes kind scripts is = all_strict is.texts scripts is.read
+pub accepted_scripts_begin_strict : ((tokens : List Token) (script : tree.Stmts) → ScriptOf height_limit tokens script → read_script height_limit tokens ≡ Some script) → AcceptedScriptsBeginStrict
+accepted_scripts_begin_strict complete bytes kind scripts is = all_strict is.texts scripts is.read
   where
     all_strict : (texts : List (List ℕ)) (scripts : List tree.Stmts) → ArePageScripts kind texts scripts → All (λ script. begins_strict script ≡ true) scripts
     all_strict [] [] read = All-nil (λ script. begins_strict script ≡ true)
     all_strict (one_text ∷ texts) (script ∷ scripts) read =
         let strict = read.0.low.orderly.strict in
         All-cons (λ script. begins_strict script ≡ true) script scripts
-        (read_begins_strict one strict.tokens script strict.strict (complete strict.tokens script strict.read.parsed)) (all_strict texts scripts read.1)
+        (read_begins_strict strict.tokens script strict.strict (complete strict.tokens script strict.read.parsed)) (all_strict texts scripts read.1)
     all_strict [] (script ∷ scripts) read = absurd read
     all_strict (one_text ∷ texts) [] read = absurd read

@@ -13,7 +13,8 @@ use Rattle.js_core.specs.declared.keyword.Keyword.{Keyword}
 use Rattle.js_core.specs.Spelling.{keyword_of, is_unused_word}
 use Rattle.js_grammar.specs.declared.sign.Sign.{Sign}
 use Rattle.js_grammar.specs.declared.sign.Sign.TheVariants.{Mark, Word}
-use Rattle.js_grammar.specs.Endings.{ContinuingIsOne, is_operator, is_right_brace}
+use Rattle.js_grammar.proofs.Callers.{operators_and_suffixes_go_on, token_goes_on}
+use Rattle.js_grammar.specs.Endings.{goes_on, is_right_brace}
 use Rattle.js_grammar.specs.ExpressionReader as reader
 use Rattle.js_grammar.specs.ExpressionReader.{in_line, step_at}
 use Rattle.js_grammar.specs.declared.operators.Level.{Level}
@@ -76,12 +77,14 @@ no_semicolon (kind.Text t) e = refl
 no_semicolon (kind.Punct p.Semicolon) e = absurd (cc)
 no_semicolon (kind.Punct _) e = refl
 
-ends_by_line : ContinuingIsOne → (k : TokenKind) (z : List Lexeme) → is_semicolon k ≡ false → directives.continues k ≡ false
+ends_by_line : (k : TokenKind) (z : List Lexeme) → is_semicolon k ≡ false → directives.continues k ≡ false
     → Ends ((symbol_of k, true) ∷ z) ((symbol_of k, true) ∷ z)
 unfolding ended sees
-ends_by_line one k z other off =
+ends_by_line k z other off =
     let s = sign_of (symbol_of k) in
-    let parts = or_parts (is_suffix true s) (is_operator s) (sym (one k) ∙ off) in
+    let stops : goes_on s ≡ false = sym (token_goes_on k) ∙ off in
+    let none = sym (operators_and_suffixes_go_on s) ∙ stops in
+    let parts = or_parts (is_suffix true s) (climbs true 1 s || (is_later s || is_sign (Mark p.Comma) s)) none in
     let operators = or_parts (climbs true 1 s) (is_later s || is_sign (Mark p.Comma) s) parts.1 in
     let signs = or_parts (is_later s) (is_sign (Mark p.Comma) s) operators.1 in
     let assigning = or_parts (is_question s) (is_assignment_by (assignment_of s)) signs.0 in
@@ -93,7 +96,7 @@ ends_by_line one k z other off =
       no_assignment = no_assignment_by (assignment_of s) assigning.1;
       no_question = no_question_by s assigning.0;
       no_comma = signs.1;
-      ended = rw (apart, parts.1, or-true (is_right_brace s)) refl;
+      ended = rw (apart, stops, or-true (is_right_brace s)) refl;
     }
 
 semicolon_is : (k : TokenKind) → is_semicolon k ≡ true → k ≡ kind.Punct p.Semicolon
@@ -116,28 +119,28 @@ behind semicolon brace line goes_on t ts = if semicolon then Some ts else (if br
 same : {A : Type 0} (a b : A) → ◌≡◌ {A = Option A} (Some a) (Some b) → a ≡ b
 same a b e = cc
 
-by_token : ContinuingIsOne → (t : Token) (ts rest : List Token) (a b l c : Bool) → is_semicolon t.what ≡ a → directives.is_right_brace t.what ≡ b
+by_token : (t : Token) (ts rest : List Token) (a b l c : Bool) → is_semicolon t.what ≡ a → directives.is_right_brace t.what ≡ b
     → t.after_line ≡ l → directives.continues t.what ≡ c → behind a b l c t ts ≡ Some rest → Ends (lexemes (t ∷ ts)) (lexemes rest)
-by_token one t ts rest true b l c ea eb el ec e =
+by_token t ts rest true b l c ea eb el ec e =
     subst (λ (us : List Token). Ends (lexemes (t ∷ ts)) (lexemes us)) (same ts rest e)
     (subst (λ (k : TokenKind). Ends ((symbol_of k, t.after_line) ∷ lexemes ts) (lexemes ts)) (sym (semicolon_is t.what ea)) (ends_by_semicolon t.after_line (lexemes ts)))
-by_token one t ts rest false true l c ea eb el ec e =
+by_token t ts rest false true l c ea eb el ec e =
     subst (λ (us : List Token). Ends (lexemes (t ∷ ts)) (lexemes us)) (same (t ∷ ts) rest e)
     (subst (λ (k : TokenKind). Ends ((symbol_of k, t.after_line) ∷ lexemes ts) ((symbol_of k, t.after_line) ∷ lexemes ts)) (sym (brace_is t.what eb))
     (ends_by_brace t.after_line (lexemes ts)))
-by_token one t ts rest false false true false ea eb el ec e =
+by_token t ts rest false false true false ea eb el ec e =
     subst (λ (us : List Token). Ends (lexemes (t ∷ ts)) (lexemes us)) (same (t ∷ ts) rest e)
     (subst (λ (b : Bool). Ends ((symbol_of t.what, b) ∷ lexemes ts) ((symbol_of t.what, b) ∷ lexemes ts)) (sym el)
-    (ends_by_line one t.what (lexemes ts) ea ec))
-by_token one t ts rest false false true true ea eb el ec e = absurd (cc)
-by_token one t ts rest false false false c ea eb el ec e = absurd (cc)
+    (ends_by_line t.what (lexemes ts) ea ec))
+by_token t ts rest false false true true ea eb el ec e = absurd (cc)
+by_token t ts rest false false false c ea eb el ec e = absurd (cc)
 
 -- where a directive ends
-pub directive_ends : ContinuingIsOne → (tokens rest : List Token) → behind_statement tokens ≡ Some rest → Ends (lexemes tokens) (lexemes rest)
+pub directive_ends : (tokens rest : List Token) → behind_statement tokens ≡ Some rest → Ends (lexemes tokens) (lexemes rest)
 unfolding behind_statement
-directive_ends one [] rest e = subst (λ (us : List Token). Ends [] (lexemes us)) (same [] rest e) ends_at_all
-directive_ends one (t ∷ ts) rest e =
-    by_token one t ts rest (is_semicolon t.what) (directives.is_right_brace t.what) t.after_line (directives.continues t.what) refl refl refl refl e
+directive_ends [] rest e = subst (λ (us : List Token). Ends [] (lexemes us)) (same [] rest e) ends_at_all
+directive_ends (t ∷ ts) rest e =
+    by_token t ts rest (is_semicolon t.what) (directives.is_right_brace t.what) t.after_line (directives.continues t.what) refl refl refl refl e
 
 -- ---- the statement is read
 

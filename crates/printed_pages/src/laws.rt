@@ -2,7 +2,7 @@
 
 ghost use Rattle.printed_pages.specs.Printed.{AcceptedScriptsBeginStrict, AcceptedScriptsHaveSyntax, FramedScriptsAreAccepted, PrintedScriptsAreAccepted};
 
-use js_grammar::{law_one_table_of_what_goes_on, law_reading_is_the_grammar};
+use js_grammar::law_reading_is_the_grammar;
 use js_print::{
     law_printed_scripts_are_read_again, law_syntax_is_what_tokens_have, law_tokens_can_be_written,
 };
@@ -33,5 +33,4 @@ pub fn law_accepted_scripts_begin_strict()
     ensures { AcceptedScriptsBeginStrict }
 {
     law_reading_is_the_grammar();
-    law_one_table_of_what_goes_on();
 }

@@ -1,6 +1,6 @@
 //! Where a statement ends, and where one more begins (ECMA-262 5.1 section 7.9).
 
-ghost use Rattle.std.specs.Prelude.{◌≡◌, ◌||◌, Some, true};
+ghost use Rattle.std.specs.Prelude.{◌≡◌, true};
 ghost use Rattle.js_core.specs.declared.token.Punct.TheVariants as p;
 ghost use Rattle.js_grammar.specs.declared.sign.Sign.TheVariants.{Mark};
 ghost use Rattle.js_grammar.specs.Operators as operators;
@@ -12,6 +12,7 @@ ghost use Rattle.expression_parser.specs.Reads.{Reads};
 use expression_parser::{Cursor, NotScript, ParseFault};
 use js_core::{Declarator, Keyword, Punct};
 use js_grammar::{Ending, Sign};
+use js_lexer::{punct_continues, word_continues};
 
 /// How an expression that was read to its end goes on: it has taken each `(`, `[` and point already.
 pub const READ_EXPRESSION: Ending = Ending::AfterExpression(false);
@@ -46,7 +47,7 @@ pub fn may_end(tokens: &Cursor, ending: Ending) -> bool
 fn ends_before(ending: Ending, sign: Option<Sign>, after_line: bool) -> bool
     ensures { result ≡ spec.ends_before ending sign after_line }
 {
-    is_right_brace(sign) || after_line && !goes_on(ending, sign)
+    is_right_brace(sign) || after_line && !(is_semicolon(sign) || continues(ending, sign))
 }
 
 fn is_right_brace(sign: Option<Sign>) -> bool
@@ -55,20 +56,31 @@ fn is_right_brace(sign: Option<Sign>) -> bool
     matches!(sign, Some(Sign::Mark(Punct::RightBrace)))
 }
 
-/// Whether the sign is a semicolon or goes on with the statement.
-fn goes_on(ending: Ending, sign: Option<Sign>) -> bool
-    ensures { result ≡ (is_sign (Mark p.Semicolon) sign || spec.continues ending sign) }
+fn is_semicolon(sign: Option<Sign>) -> bool
+    ensures { result ≡ is_sign (Mark p.Semicolon) sign }
 {
-    matches!(sign, Some(Sign::Mark(Punct::Semicolon))) || continues(ending, sign)
+    matches!(sign, Some(Sign::Mark(Punct::Semicolon)))
 }
 
+/// Whether the sign goes on with the statement.
 fn continues(ending: Ending, sign: Option<Sign>) -> bool
     ensures { result ≡ spec.continues ending sign }
 {
     match ending {
-        Ending::AfterExpression(grows) => grows && is_suffix(sign) || is_operator(sign),
+        Ending::AfterExpression(grows) => goes_on(sign) && (grows || !is_suffix(sign)),
         Ending::AfterName => matches!(sign, Some(Sign::Mark(Punct::SimpleAssign | Punct::Comma))),
         Ending::AfterAll => false,
+    }
+}
+
+/// Whether the sign goes on with an expression, as its token does in a directive prologue.
+fn goes_on(sign: Option<Sign>) -> bool
+    ensures { result ≡ spec.goes_on sign }
+{
+    match sign {
+        Some(Sign::Mark(mark)) => punct_continues(mark),
+        Some(Sign::Word(word)) => word_continues(Some(word)),
+        None => false,
     }
 }
 
@@ -80,38 +92,6 @@ fn is_suffix(sign: Option<Sign>) -> bool
         sign,
         Some(Sign::Mark(Punct::Dot | Punct::LeftBracket | Punct::LeftParenthesis))
     )
-}
-
-/// Whether the sign is a binary, logical, relational, conditional, assignment or comma operator.
-fn is_operator(sign: Option<Sign>) -> bool
-    ensures { result ≡ spec.is_operator sign }
-{
-    match sign {
-        Some(Sign::Mark(mark)) => is_operator_mark(mark),
-        Some(Sign::Word(Keyword::In | Keyword::InstanceOf)) => true,
-        _ => false,
-    }
-}
-
-fn is_operator_mark(mark: Punct) -> bool
-    ensures { result ≡ spec.is_operator (Some (Mark mark)) }
-{
-    match mark {
-        Punct::LeftBrace
-        | Punct::RightBrace
-        | Punct::LeftParenthesis
-        | Punct::RightParenthesis
-        | Punct::LeftBracket
-        | Punct::RightBracket
-        | Punct::Dot
-        | Punct::Semicolon
-        | Punct::PlusPlus
-        | Punct::MinusMinus
-        | Punct::ExclamationMark
-        | Punct::Tilde
-        | Punct::Colon => false,
-        _ => true,
-    }
 }
 
 /// How a list of declarators ends: behind the last name, or behind its initialiser.
