@@ -4,7 +4,7 @@
 # ratio to the shortest array's. It rises only with the time that the machine takes to reach memory, since an element costs
 # the same steps at any length.
 . "$(dirname "$0")/frame.sh"
-repository heap_bench js_core js_values code_table object_heap
+repository heap_bench js_core global_names js_values code_table object_heap
 cat >"$work/crates/heap_bench/src/main.rt" <<'END'
 //! Prints for each word the number of elements in it and the nanoseconds in which an array gets as many, one by one, or,
 //! where the word begins with `pop-`, loses them again.

@@ -3,7 +3,7 @@
 # under as many: the best of five runs, the nanoseconds for each byte of the script, and their ratio to the first row's, which
 # stays near 1 as a use costs the same whatever stands round it. The script is parsed before the clock starts.
 . "$(dirname "$0")/frame.sh"
-repository scopes_bench js_core js_lexer js_grammar js_print expression_parser script_parser scope_analysis
+repository scopes_bench js_core global_names js_lexer js_grammar js_print expression_parser script_parser scope_analysis
 cat >"$work/crates/scopes_bench/src/main.rt" <<'END'
 //! Prints for each file that is named how many bytes its script has, and the nanoseconds in which its scopes are found.
 #![tactic(auto)]
