@@ -1,5 +1,5 @@
 -- The worked examples have the values that they say, each by computing.
-use Rattle.std.proofs.Common.{◌≡◌, ℕ, true, false, refl, length}
+use Rattle.std.proofs.Common.{◌≡◌, true, false, refl, length}
 use Rattle.std.specs.List.{list_all, list_any}
 use Rattle.global_names.specs.Names.{global_names, names_global}
 use Rattle.global_names.specs.Worked.{names, other_names}
