@@ -8,7 +8,7 @@ ghost use Rattle.event_file.specs.Kinds as spec;
 use serde_json::{Map, Value};
 
 /// The kind of an item, which one of its keys tells.
-#[derive(Clone, Copy, Debug, PartialEq, Eq)]
+#[derive(Clone, Copy, PartialEq, Eq)]
 pub enum Kind {
     Fire,
     Input,
@@ -18,7 +18,7 @@ pub enum Kind {
 }
 
 /// The kinds whose items are events.
-#[derive(Clone, Copy, Debug, PartialEq, Eq)]
+#[derive(Clone, Copy, PartialEq, Eq)]
 pub enum Kinds {
     /// every kind
     All,

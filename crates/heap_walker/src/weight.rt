@@ -22,7 +22,7 @@ use page_state::{State, WINDOW, further};
 use std::alloc::Global;
 
 /// How much a saved page holds.
-#[derive(Clone, Copy, Debug, PartialEq, Eq)]
+#[derive(Clone, Copy, PartialEq, Eq)]
 pub struct Weight {
     /// The things, the own properties of things and of the global object that are written, the arguments that are bound, and the
     /// needed variables of functions; at most 2^64 - 1.

@@ -1,2 +1,5 @@
+pub mod Callers
+mod Causes
+mod Dropping
 mod Spelling
 mod Worked

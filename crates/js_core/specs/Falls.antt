@@ -18,7 +18,7 @@ use Rattle.js_core.specs.declared.syntax.ForInit.TheVariants as init
 use Rattle.js_core.specs.declared.syntax.Catch.{Catch}
 use Rattle.js_core.specs.declared.syntax.Case.{Case}
 use Rattle.js_core.specs.declared.syntax.Code.TheDeep.{deep-ExprNode, deep-StmtNode, deep-Code, deep-Declarator, deep-ForInit, deep-Catch, deep-Case}
-use Rattle.js_core.specs.declared.syntax.Code.TheShapes.{weighed-ExprNode-List-0-at-1, weighed-ExprNode-Literal-0-at-2, weighed-StmtNode-For-1-at-1, weighed-StmtNode-Try-1-at-1, weighed-StmtNode-If-2-at-2}
+use Rattle.js_core.specs.declared.syntax.Code.TheShapes.{weighed-ExprNode-List-0-at-1, weighed-ExprNode-Literal-0-at-2, weighed-StmtNode-Return-0-at-1, weighed-Try-catch-at-1, weighed-If-second-at-2}
 use Rattle.js_core.specs.declared.syntax.Code.TheInside.{Inside}
 
 abbrev below : tree.Expr → ℕ
@@ -31,7 +31,7 @@ exprs_fall : (es : List tree.Expr) → most below es ≤ exprs_size (exprs_of es
 exprs_fall [] = omega arith
 exprs_fall (e ∷ es) = omega (arith, exprs_fall es)
 
-maybe_falls : (o : Option tree.Expr) → weighed-StmtNode-For-1-at-1.weight tree.Expr below o ≤ maybe_expr_size (maybe_expr o)
+pub maybe_falls : (o : Option tree.Expr) → weighed-StmtNode-Return-0-at-1.weight tree.Expr below o ≤ maybe_expr_size (maybe_expr o)
 maybe_falls None = omega arith
 maybe_falls (Some e) = omega arith
 
@@ -44,11 +44,11 @@ fields_fall : (fs : List (List ℕ × tree.Expr)) → most (weighed-ExprNode-Lit
 fields_fall [] = omega arith
 fields_fall (f ∷ fs) = omega (arith, fields_fall fs)
 
-stmts_fall : (ss : List tree.Stmt) → most below_stmt ss ≤ stmts_size (stmts_of ss)
+pub stmts_fall : (ss : List tree.Stmt) → most below_stmt ss ≤ stmts_size (stmts_of ss)
 stmts_fall [] = omega arith
 stmts_fall (s ∷ ss) = omega (arith, stmts_fall ss)
 
-maybe_stmts_fall : (o : Option (Vec tree.Stmt Global)) → weighed-StmtNode-If-2-at-2.weight tree.Stmt below_stmt o ≤ maybe_stmts_size (maybe_stmts (option_map (λ v. v.items) o))
+pub maybe_stmts_fall : (o : Option (Vec tree.Stmt Global)) → weighed-If-second-at-2.weight tree.Stmt below_stmt o ≤ maybe_stmts_size (maybe_stmts (option_map (λ v. v.items) o))
 maybe_stmts_fall None = omega arith
 maybe_stmts_fall (Some ss) = omega (arith, stmts_fall ss.items)
 
@@ -61,7 +61,7 @@ init_falls init.Nothing = omega arith
 init_falls (init.Var ds) = omega (arith, declarators_fall ds.items)
 init_falls (init.Expr e) = omega arith
 
-catch_falls : (o : Option Catch) → weighed-StmtNode-Try-1-at-1.weight Catch deep-Catch o ≤ maybe_catch_size (catch_of o)
+catch_falls : (o : Option Catch) → weighed-Try-catch-at-1.weight Catch deep-Catch o ≤ maybe_catch_size (catch_of o)
 catch_falls None = omega arith
 catch_falls (Some c) = omega (arith, stmts_fall c.body.items)
 
@@ -98,16 +98,16 @@ stmt_falls (snode.Function c) = omega arith
 stmt_falls (snode.Expr e) = omega arith
 stmt_falls snode.Empty = omega arith
 stmt_falls (snode.Block ss) = omega (arith, stmts_fall ss.items)
-stmt_falls (snode.If e a b) = omega (arith, stmts_fall a.items, maybe_stmts_fall b)
+stmt_falls (snode.If p) = omega (arith, stmts_fall p.value.first.items, maybe_stmts_fall p.value.second)
 stmt_falls (snode.Do body e) = omega (arith, stmts_fall body.items)
 stmt_falls (snode.While e body) = omega (arith, stmts_fall body.items)
-stmt_falls (snode.For i t s body) = omega (arith, init_falls i, maybe_falls t, maybe_falls s, stmts_fall body.items)
+stmt_falls (snode.For p) = omega (arith, init_falls p.value.init, maybe_falls p.value.test, maybe_falls p.value.step, stmts_fall p.value.body.items)
 stmt_falls (snode.ForIn declared t e body) = omega (arith, stmts_fall body.items)
 stmt_falls snode.Continue = omega arith
 stmt_falls snode.Break = omega arith
 stmt_falls (snode.Return e) = omega (arith, maybe_falls e)
 stmt_falls (snode.Throw e) = omega arith
-stmt_falls (snode.Try b c l) = omega (arith, stmts_fall b.items, catch_falls c, maybe_stmts_fall l)
+stmt_falls (snode.Try p) = omega (arith, stmts_fall p.value.block.items, catch_falls p.value.catch, maybe_stmts_fall p.value.last)
 stmt_falls (snode.Switch e cs) = omega (arith, cases_fall cs.items)
 
 pub code_falls : (c : Inside) → deep-Code c ≤ code_size (tree.code c.name c.formals.items (stmts_of c.body.items))

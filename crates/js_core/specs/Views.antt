@@ -11,6 +11,9 @@ use Rattle.js_core.specs.declared.syntax.ForInit.{ForInit}
 use Rattle.js_core.specs.declared.syntax.ForInit.TheVariants as init
 use Rattle.js_core.specs.declared.syntax.Catch.{Catch}
 use Rattle.js_core.specs.declared.syntax.Case.{Case}
+use Rattle.js_core.specs.declared.syntax.If.{If}
+use Rattle.js_core.specs.declared.syntax.For.{For}
+use Rattle.js_core.specs.declared.syntax.Try.{Try}
 
 abbrev pub expr_of : ExprNode → tree.Expr
 expr_of (node.Name x) = tree.name x
@@ -52,20 +55,29 @@ abbrev pub cases_of : List Case → tree.Cases
 cases_of [] = tree.no_cases
 cases_of (c ∷ cs) = tree.then_case (maybe_expr c.test) (stmts_of c.body.items) (cases_of cs)
 
+abbrev pub if_of : If → tree.Stmt
+if_of p = tree.if_else p.test (stmts_of p.first.items) (maybe_stmts (option_map (λ v. v.items) p.second))
+
+abbrev pub for_of : For → tree.Stmt
+for_of p = tree.for (init_of p.init) (maybe_expr p.test) (maybe_expr p.step) (stmts_of p.body.items)
+
+abbrev pub try_of : Try → tree.Stmt
+try_of p = tree.try (stmts_of p.block.items) (catch_of p.catch) (maybe_stmts (option_map (λ v. v.items) p.last))
+
 abbrev pub stmt_of : StmtNode → tree.Stmt
 stmt_of (snode.Var ds) = tree.var (declarators_of ds.items)
 stmt_of (snode.Function c) = tree.function c.value
 stmt_of (snode.Expr e) = tree.expr e
 stmt_of snode.Empty = tree.empty
 stmt_of (snode.Block ss) = tree.block (stmts_of ss.items)
-stmt_of (snode.If e a b) = tree.if_else e (stmts_of a.items) (maybe_stmts (option_map (λ v. v.items) b))
-stmt_of (snode.Do body e) = tree.do_while (stmts_of body.items) e
-stmt_of (snode.While e body) = tree.while e (stmts_of body.items)
-stmt_of (snode.For i t s body) = tree.for (init_of i) (maybe_expr t) (maybe_expr s) (stmts_of body.items)
-stmt_of (snode.ForIn declared t e body) = tree.for_in declared t e (stmts_of body.items)
+stmt_of (snode.If p) = if_of p.value
+stmt_of (snode.Do body e) = tree.do_while (stmts_of body.items) e.value
+stmt_of (snode.While e body) = tree.while e.value (stmts_of body.items)
+stmt_of (snode.For p) = for_of p.value
+stmt_of (snode.ForIn declared t e body) = tree.for_in declared t.value e.value (stmts_of body.items)
 stmt_of snode.Continue = tree.continue
 stmt_of snode.Break = tree.break
 stmt_of (snode.Return e) = tree.return (maybe_expr e)
 stmt_of (snode.Throw e) = tree.throw e
-stmt_of (snode.Try b c l) = tree.try (stmts_of b.items) (catch_of c) (maybe_stmts (option_map (λ v. v.items) l))
-stmt_of (snode.Switch e cs) = tree.switch e (cases_of cs.items)
+stmt_of (snode.Try p) = try_of p.value
+stmt_of (snode.Switch e cs) = tree.switch e.value (cases_of cs.items)

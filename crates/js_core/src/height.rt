@@ -5,10 +5,12 @@
 
 ghost use Rattle.std.specs.Prelude.{◌≡◌, ◌≤◌, ◌<◌, ◌+◌, max, IfOk, option_map};
 ghost use Rattle.js_core.specs.Tree.{exprs_of, maybe_expr, holes_of, fields_of, stmts_of, maybe_stmts};
-ghost use Rattle.js_core.specs.Views.{declarators_of, init_of, catch_of, cases_of, expr_of, stmt_of};
+ghost use Rattle.js_core.specs.Views.{declarators_of, init_of, catch_of, cases_of, if_of, for_of, try_of, expr_of, stmt_of};
 ghost use Rattle.js_core.specs.Height as spec;
 
-use crate::syntax::{Case, Catch, Declarator, Expr, ExprNode, ForInit, Script, Stmt, StmtNode};
+use crate::syntax::{
+    Case, Catch, Declarator, Expr, ExprNode, For, ForInit, If, Script, Stmt, StmtNode, Try,
+};
 use crate::units::Units;
 
 impl Script {
@@ -69,22 +71,10 @@ impl StmtNode {
             StmtNode::Function(code) => code.height() + 3,
             StmtNode::Expr(e) | StmtNode::Throw(e) => e.height() + 1,
             StmtNode::Block(ss) => stmts_height(ss.as_slice()) + 1,
-            StmtNode::If(e, a, b) => {
-                e.height()
-                    .max(stmts_height(a.as_slice()).max(maybe_stmts_height(b)))
-                    + 1
-            }
+            StmtNode::If(parts) => if_height(parts) + 1,
             StmtNode::Do(body, e) => stmts_height(body.as_slice()).max(e.height()) + 1,
             StmtNode::While(e, body) => e.height().max(stmts_height(body.as_slice())) + 1,
-            StmtNode::For {
-                init,
-                test,
-                step,
-                body,
-            } => {
-                let header = maybe_expr_height(step).max(stmts_height(body.as_slice()));
-                init_height(init).max(maybe_expr_height(test).max(header)) + 1
-            }
+            StmtNode::For(parts) => for_height(parts) + 1,
             StmtNode::ForIn {
                 declared: _,
                 target,
@@ -97,13 +87,37 @@ impl StmtNode {
                     + 1
             }
             StmtNode::Return(e) => maybe_expr_height(e) + 1,
-            StmtNode::Try { block, catch, last } => {
-                let handlers = catch_height(catch).max(maybe_stmts_height(last));
-                stmts_height(block.as_slice()).max(handlers) + 1
-            }
+            StmtNode::Try(parts) => try_height(parts) + 1,
             StmtNode::Switch(e, cases) => e.height().max(cases_height(cases.as_slice())) + 1,
         }
     }
+}
+
+// The height of the highest part of an `if`.
+fn if_height(parts: &If) -> u64
+    ensures exact { result + 1 ≡ spec.stmt_height (if_of parts.now) }
+    ensures small { result ≤ 1000 }
+{
+    let branches = stmts_height(parts.first.as_slice()).max(maybe_stmts_height(&parts.second));
+    parts.test.height().max(branches)
+}
+
+// The height of the highest part of a `for`.
+fn for_height(parts: &For) -> u64
+    ensures exact { result + 1 ≡ spec.stmt_height (for_of parts.now) }
+    ensures small { result ≤ 1001 }
+{
+    let turn = maybe_expr_height(&parts.step).max(stmts_height(parts.body.as_slice()));
+    init_height(&parts.init).max(maybe_expr_height(&parts.test).max(turn))
+}
+
+// The height of the highest part of a `try`.
+fn try_height(parts: &Try) -> u64
+    ensures exact { result + 1 ≡ spec.stmt_height (try_of parts.now) }
+    ensures small { result ≤ 1000 }
+{
+    let handlers = catch_height(&parts.catch).max(maybe_stmts_height(&parts.last));
+    stmts_height(parts.block.as_slice()).max(handlers)
 }
 
 /// The height of the highest expression, or 0 where there is none.

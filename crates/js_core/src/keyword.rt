@@ -6,7 +6,7 @@ ghost use Rattle.js_core.specs.Spelling as spec;
 use crate::units::Units;
 
 /// A reserved word (ECMA-262 5.1 section 7.6.1) that stands in a form of the language.
-#[derive(Clone, Copy, Debug, PartialEq, Eq)]
+#[derive(Clone, Copy, PartialEq, Eq)]
 pub enum Keyword {
     Break,
     Case,

@@ -28,7 +28,9 @@ pub use limits::{
 pub use line_text::{push_line_text, push_unit_escape, truncate_on_error};
 pub use memory::{Failure, OutOfMemory};
 pub use operators::{BinaryOp, UnaryOp};
-pub use syntax::{Case, Catch, Code, Declarator, Expr, ExprNode, ForInit, Script, Stmt, StmtNode};
+pub use syntax::{
+    Case, Catch, Code, Declarator, Expr, ExprNode, For, ForInit, If, Script, Stmt, StmtNode, Try,
+};
 pub use token::{Punct, Token, TokenKind};
 pub use units::Units;
 pub use whole::Whole;

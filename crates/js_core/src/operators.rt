@@ -1,7 +1,7 @@
 //! The operators of expressions.
 
 /// The unary operators (ECMA-262 5.1 section 11.4) but `++` and `--`.
-#[derive(Clone, Copy, Debug, PartialEq, Eq)]
+#[derive(Clone, Copy, PartialEq, Eq)]
 pub enum UnaryOp {
     Delete,
     Void,
@@ -13,7 +13,7 @@ pub enum UnaryOp {
 }
 
 /// The binary operators (ECMA-262 5.1 sections 11.5 to 11.10) but `&&` and `||`.
-#[derive(Clone, Copy, Debug, PartialEq, Eq)]
+#[derive(Clone, Copy, PartialEq, Eq)]
 pub enum BinaryOp {
     Mul,
     Div,

@@ -10,7 +10,6 @@ use std::rc::Rc;
 
 /// An expression (section 11), made by `Expr::new`.
 #[cycle(syntax)]
-#[derive(Drop)]
 pub struct Expr {
     pub node: ExprNode,
     height: u64,
@@ -54,7 +53,6 @@ pub enum ExprNode {
 
 /// A function's name, formals and body (section 13), made by `Code::new`.
 #[cycle(syntax)]
-#[derive(Drop)]
 pub struct Code {
     pub name: Option<Units>,
     pub formals: Vec<Units>,
@@ -64,7 +62,6 @@ pub struct Code {
 
 /// A name that a `var` declares, with its initialiser.
 #[cycle(syntax)]
-#[derive(Drop)]
 pub struct Declarator {
     pub name: Units,
     pub value: Option<Expr>,
@@ -72,7 +69,6 @@ pub struct Declarator {
 
 /// What stands first in the header of a `for`.
 #[cycle(syntax)]
-#[derive(Drop)]
 pub enum ForInit {
     Nothing,
     Var(Vec<Declarator>),
@@ -81,7 +77,6 @@ pub enum ForInit {
 
 /// A clause of a `switch`; `None` is `default`.
 #[cycle(syntax)]
-#[derive(Drop)]
 pub struct Case {
     pub test: Option<Expr>,
     pub body: Vec<Stmt>,
@@ -89,7 +84,6 @@ pub struct Case {
 
 /// The catch clause of a `try`.
 #[cycle(syntax)]
-#[derive(Drop)]
 pub struct Catch {
     pub name: Units,
     pub body: Vec<Stmt>,
@@ -97,14 +91,39 @@ pub struct Catch {
 
 /// A statement (section 12), or a function declaration, made by `Stmt::new`.
 #[cycle(syntax)]
-#[derive(Drop)]
 pub struct Stmt {
     pub node: StmtNode,
     height: u64,
 }
 
+/// An `if` (section 12.5); `second` is what stands after `else`.
+#[cycle(syntax)]
+pub struct If {
+    pub test: Expr,
+    pub first: Vec<Stmt>,
+    pub second: Option<Vec<Stmt>>,
+}
+
+/// A `for` without `in` (section 12.6.3).
+#[cycle(syntax)]
+pub struct For {
+    pub init: ForInit,
+    pub test: Option<Expr>,
+    pub step: Option<Expr>,
+    pub body: Vec<Stmt>,
+}
+
+/// A `try` (section 12.14); `last` is the `finally`.
+#[cycle(syntax)]
+pub struct Try {
+    pub block: Vec<Stmt>,
+    pub catch: Option<Catch>,
+    pub last: Option<Vec<Stmt>>,
+}
+
 /// The kinds of statements. The body of an `If`, `Do`, `While`, `For` or `ForIn` is a block's list, or the one
-/// statement that stood there.
+/// statement that stood there. What is larger than an expression stands in a box, so that a short statement takes
+/// no more room than that.
 #[cycle(syntax)]
 #[derive(Drop)]
 pub enum StmtNode {
@@ -113,33 +132,23 @@ pub enum StmtNode {
     Expr(Expr),
     Empty,
     Block(Vec<Stmt>),
-    If(Expr, Vec<Stmt>, Option<Vec<Stmt>>),
-    Do(Vec<Stmt>, Expr),
-    While(Expr, Vec<Stmt>),
-    For {
-        init: ForInit,
-        test: Option<Expr>,
-        step: Option<Expr>,
-        body: Vec<Stmt>,
-    },
+    If(Box<If>),
+    Do(Vec<Stmt>, Box<Expr>),
+    While(Box<Expr>, Vec<Stmt>),
+    For(Box<For>),
     /// A declared target is a `Name`.
     ForIn {
         declared: bool,
-        target: Expr,
-        object: Expr,
+        target: Box<Expr>,
+        object: Box<Expr>,
         body: Vec<Stmt>,
     },
     Continue,
     Break,
     Return(Option<Expr>),
     Throw(Expr),
-    Try {
-        block: Vec<Stmt>,
-        catch: Option<Catch>,
-        /// The `finally`.
-        last: Option<Vec<Stmt>>,
-    },
-    Switch(Expr, Vec<Case>),
+    Try(Box<Try>),
+    Switch(Box<Expr>, Vec<Case>),
 }
 
 /// A program (section 14).
@@ -223,7 +232,114 @@ impl Model for Stmt {
     ghost size_decreases = { λ a h. stmt_falls a.node };
 }
 
-// A function of its own, so that the crates above cite it and do not prove it again.
+// Functions of their own, so that the crates above cite them and do not prove them again.
+impl Drop for Expr {
+    #[cycle(dropping)]
+    fn drop(self) {
+        let Expr {
+            node: _node,
+            height: _height,
+        } = self;
+    }
+}
+
+impl Drop for Stmt {
+    #[cycle(dropping)]
+    fn drop(self) {
+        let Stmt {
+            node: _node,
+            height: _height,
+        } = self;
+    }
+}
+
+impl Drop for Code {
+    #[cycle(dropping)]
+    fn drop(self) {
+        let Code {
+            name: _name,
+            formals: _formals,
+            body: _body,
+            height: _height,
+        } = self;
+    }
+}
+
+impl Drop for Declarator {
+    #[cycle(dropping)]
+    fn drop(self) {
+        let Declarator {
+            name: _name,
+            value: _value,
+        } = self;
+    }
+}
+
+impl Drop for ForInit {
+    #[cycle(dropping)]
+    fn drop(self) {
+        match self {
+            ForInit::Nothing => (),
+            ForInit::Var(_declarators) => (),
+            ForInit::Expr(_value) => (),
+        }
+    }
+}
+
+impl Drop for Case {
+    #[cycle(dropping)]
+    fn drop(self) {
+        let Case {
+            test: _test,
+            body: _body,
+        } = self;
+    }
+}
+
+impl Drop for Catch {
+    #[cycle(dropping)]
+    fn drop(self) {
+        let Catch {
+            name: _name,
+            body: _body,
+        } = self;
+    }
+}
+
+impl Drop for If {
+    #[cycle(dropping)]
+    fn drop(self) {
+        let If {
+            test: _test,
+            first: _first,
+            second: _second,
+        } = self;
+    }
+}
+
+impl Drop for For {
+    #[cycle(dropping)]
+    fn drop(self) {
+        let For {
+            init: _init,
+            test: _test,
+            step: _step,
+            body: _body,
+        } = self;
+    }
+}
+
+impl Drop for Try {
+    #[cycle(dropping)]
+    fn drop(self) {
+        let Try {
+            block: _block,
+            catch: _catch,
+            last: _last,
+        } = self;
+    }
+}
+
 impl Drop for Script {
     fn drop(self) {
         let Script { body: _body } = self;
@@ -323,6 +439,17 @@ impl Stmt {
     {
         let height = node.height();
         Stmt { node, height }
+    }
+
+    /// The node of the statement, without memory.
+    pub fn into_node(self) -> StmtNode
+        ensures { stmt_of result ≡ self }
+    {
+        let Stmt {
+            node,
+            height: _height,
+        } = self;
+        node
     }
 
     /// The height of the statement, which is kept. No memory.

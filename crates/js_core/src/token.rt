@@ -7,7 +7,7 @@ use crate::units::Units;
 use crate::whole::Whole;
 
 /// A token of a script (ECMA-262 5.1 section 7.5) and where it stands.
-#[derive(Debug, PartialEq, Eq, Drop)]
+#[derive(PartialEq, Eq, Drop)]
 pub struct Token {
     /// What it is.
     pub what: TokenKind,
@@ -20,7 +20,7 @@ pub struct Token {
 }
 
 /// What a token is.
-#[derive(Debug, PartialEq, Eq, Drop)]
+#[derive(PartialEq, Eq, Drop)]
 pub enum TokenKind {
     /// An identifier or a reserved word (section 7.6).
     Word(Units),
@@ -33,7 +33,7 @@ pub enum TokenKind {
 }
 
 /// A punctuator (section 7.7), each documented by its spelling.
-#[derive(Clone, Copy, Debug, PartialEq, Eq)]
+#[derive(Clone, Copy, PartialEq, Eq)]
 pub enum Punct {
     /// `{`
     LeftBrace,

@@ -17,7 +17,6 @@ use std::rc::RcSlice;
 
 /// A text (ECMA-262 5.1 section 8.4): a shared list of 16-bit units, which contracts see as the list of
 /// its units, each below 65,536.
-#[derive(Debug)]
 pub struct Units {
     units: RcSlice<u16>,
 }

@@ -8,7 +8,7 @@ use std::marker::Model;
 /// A number: a whole number from -9,007,199,254,740,991 to 9,007,199,254,740,991, or NaN. These are the values of
 /// ECMA-262 5.1 section 8.5 without fractions, infinities and -0. Contracts see `Some` of the number, and `None` for
 /// NaN. `==` tells whether two are the same value, so NaN equals NaN.
-#[derive(Clone, Copy, Debug, PartialEq, Eq, Hash)]
+#[derive(Clone, Copy, PartialEq, Eq, Hash)]
 pub struct Whole {
     number: Option<i64>,
 }

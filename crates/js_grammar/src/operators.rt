@@ -3,7 +3,7 @@
 use js_core::{BinaryOp, UnaryOp};
 
 /// The phrases that stand inside other expressions.
-#[derive(Clone, Copy, Debug, PartialEq, Eq)]
+#[derive(Clone, Copy, PartialEq, Eq)]
 pub enum Level {
     /// Expression (ECMA-262 5.1 section 11.14).
     Sequence,
@@ -19,7 +19,7 @@ pub enum Level {
 }
 
 /// An operator between two operands, but assignments and commas.
-#[derive(Clone, Copy, Debug, PartialEq, Eq)]
+#[derive(Clone, Copy, PartialEq, Eq)]
 pub enum Infix {
     /// `||`
     Either,
@@ -30,7 +30,7 @@ pub enum Infix {
 }
 
 /// An operator before its operand.
-#[derive(Clone, Copy, Debug, PartialEq, Eq)]
+#[derive(Clone, Copy, PartialEq, Eq)]
 pub enum Prefix {
     /// One that leaves its operand as it is.
     Operator(UnaryOp),

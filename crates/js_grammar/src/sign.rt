@@ -3,7 +3,7 @@
 use js_core::{Keyword, Punct};
 
 /// What tells one form from another.
-#[derive(Clone, Copy, Debug, PartialEq, Eq)]
+#[derive(Clone, Copy, PartialEq, Eq)]
 pub enum Sign {
     /// A punctuator (ECMA-262 5.1 section 7.7).
     Mark(Punct),

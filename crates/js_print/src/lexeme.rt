@@ -3,7 +3,7 @@
 use js_core::{Keyword, Punct, Units, Whole};
 
 /// A token to be printed.
-#[derive(Debug, Drop)]
+#[derive(Drop)]
 pub enum Lexeme {
     Keyword(Keyword),
     /// An identifier, or a name after a dot.

@@ -6,7 +6,7 @@ ghost use Rattle.js_print.specs.Places.{is_simple, is_in_test, is_braced, begins
 use js_core::{BinaryOp, Expr, ExprNode};
 
 /// Where an expression stands.
-#[derive(Clone, Copy, Debug, PartialEq, Eq)]
+#[derive(Clone, Copy, PartialEq, Eq)]
 pub enum Place {
     /// An operand, a callee or a target.
     Operand,

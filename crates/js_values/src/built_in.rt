@@ -2,7 +2,7 @@
 
 /// A built-in function (ECMA-262 5.1 section 15, DOM Level 2, HTML timers). A variant's name is the function's path without
 /// its dots, the first letter of each part in upper case.
-#[derive(Clone, Copy, Debug, PartialEq, Eq)]
+#[derive(Clone, Copy, PartialEq, Eq)]
 pub enum BuiltIn {
     // Section 15.1, and what the host adds to the global object.
     /// `isNaN`

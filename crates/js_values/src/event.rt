@@ -3,7 +3,7 @@
 use js_core::Units;
 
 /// What the host asks of a page.
-#[derive(Debug, PartialEq, Eq, Drop)]
+#[derive(PartialEq, Eq, Drop)]
 pub enum Event {
     /// Dispatch an event of this type at the element with this id.
     Fire {

@@ -7,7 +7,7 @@ ghost use Rattle.js_core.specs.LineText.{line_text};
 use js_core::{OutOfMemory, Units, push_line_text, truncate_on_error};
 
 /// What a line tells, which its first words say.
-#[derive(Clone, Copy, Debug, PartialEq, Eq)]
+#[derive(Clone, Copy, PartialEq, Eq)]
 pub enum LineKind {
     /// `console.log` was called.
     Log,
@@ -24,7 +24,7 @@ pub enum LineKind {
 }
 
 /// A line that a page puts out.
-#[derive(Debug, PartialEq, Eq, Drop)]
+#[derive(PartialEq, Eq, Drop)]
 pub struct Line {
     /// What the line tells.
     pub kind: LineKind,

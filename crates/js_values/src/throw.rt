@@ -7,7 +7,7 @@ use js_core::{OutOfMemory, Units, push_ascii};
 use std::alloc::Global;
 
 /// What is wrong where an error is thrown. It fixes the error's `name` and `message`.
-#[derive(Debug, PartialEq, Eq, Drop)]
+#[derive(PartialEq, Eq, Drop)]
 pub enum Throw {
     /// ReferenceError, NAME `is not defined`: the name is not resolved.
     NotDefined(Units),
@@ -49,7 +49,7 @@ pub enum Throw {
 }
 
 /// The kind of an error, whose constructor and prototype it has (ECMA-262 5.1 section 15.11).
-#[derive(Clone, Copy, Debug, PartialEq, Eq)]
+#[derive(Clone, Copy, PartialEq, Eq)]
 pub enum ErrorKind {
     /// Error
     Plain,

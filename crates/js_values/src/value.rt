@@ -6,7 +6,7 @@ use crate::ids::ObjId;
 use js_core::{OutOfMemory, Units, Whole};
 
 /// A value of the language (ECMA-262 5.1 section 8).
-#[derive(Debug, PartialEq, Eq, Drop)]
+#[derive(PartialEq, Eq, Drop)]
 pub enum Value {
     /// undefined
     Undefined,

@@ -8,7 +8,7 @@ use scope_analysis::EarlyRule;
 use std::marker::Model;
 
 /// What a page is.
-#[derive(Clone, Copy, Debug, PartialEq, Eq)]
+#[derive(Clone, Copy, PartialEq, Eq)]
 pub enum Kind {
     /// A page as an author writes it.
     Plain,
@@ -18,7 +18,7 @@ pub enum Kind {
 }
 
 /// Where a part of a text stands: from this unit to the one behind its last.
-#[derive(Clone, Copy, Debug, PartialEq, Eq)]
+#[derive(Clone, Copy, PartialEq, Eq)]
 pub struct Place {
     /// The number of units before it.
     pub start: usize,
@@ -80,7 +80,7 @@ impl CheckedPage {
 }
 
 /// Why a page is refused, in the order in which the causes are tried. A number is that of the script, counted from 1.
-#[derive(Clone, Copy, Debug, PartialEq, Eq)]
+#[derive(Clone, Copy, PartialEq, Eq)]
 pub enum Refusal {
     /// The bytes are no UTF-8.
     NotUtf8,

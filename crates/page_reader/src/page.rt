@@ -13,7 +13,7 @@ pub struct Page {
 }
 
 /// The text of a script and its place in the bytes of the page.
-#[derive(Debug, Drop)]
+#[derive(Drop)]
 pub struct ScriptText {
     /// The text, with its line ends made LF.
     pub text: Units,

@@ -21,7 +21,6 @@ use Rattle.page_tokens.proofs.RawStay.{Nowhere, first_again, raw_is}
 use Rattle.page_tokens.proofs.Runs.{IsSplit, all_append, run_again, run_split, same_unit}
 use Rattle.page_tokens.proofs.Shapes.{characters_shape, opens_characters}
 use Rattle.page_tokens.proofs.Staying.{RawStays, opens_again, raw_stays, token_stays}
-pub use Rattle.page_tokens.proofs.Causes.{handed, shown}
 
 pub stays : (size : ℕ) (us rest : List ℕ) (token : PageToken) → TokenAt size us rest token → StaysAt size us rest token
 stays size us rest token at = token_stays size us rest token at

@@ -1,7 +1,6 @@
 pub mod AllTokens
 pub mod AttributesStay
 pub mod Callers
-pub mod Causes
 pub mod Decoding
 pub mod Digits
 pub mod Listing

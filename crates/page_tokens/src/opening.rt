@@ -6,7 +6,7 @@ ghost use Rattle.page_tokens.specs.Tags as spec;
 use crate::characters::{is_front, is_front_in_any_case, is_letter};
 
 /// What a text opens with, by its units up to the first that tells it.
-#[derive(Clone, Copy, Debug, PartialEq, Eq)]
+#[derive(Clone, Copy, PartialEq, Eq)]
 pub enum Opening {
     /// A unit other than `<`.
     Characters,

@@ -7,7 +7,7 @@ use std::alloc::Global;
 use std::marker::Model;
 
 /// A token of a page.
-#[derive(Debug, Drop)]
+#[derive(Drop)]
 pub enum PageToken {
     /// A doctype.
     Doctype,
@@ -26,7 +26,7 @@ pub enum PageToken {
 }
 
 /// A start tag.
-#[derive(Debug, Drop)]
+#[derive(Drop)]
 pub struct Tag {
     /// The name, in lower case.
     pub name: Units,
@@ -37,7 +37,7 @@ pub struct Tag {
 }
 
 /// Raw text and its place.
-#[derive(Debug, Drop)]
+#[derive(Drop)]
 pub struct RawText {
     /// The text.
     pub text: Units,
@@ -49,7 +49,7 @@ pub struct RawText {
 
 /// Attributes in the order of the page: names, which are in lower case, with values, whose references are replaced by what they
 /// stand for. A name may stand twice. Contracts see the list of them.
-#[derive(Debug, Drop)]
+#[derive(Drop)]
 pub struct AttributeList {
     items: Vec<(Units, Units)>,
 }

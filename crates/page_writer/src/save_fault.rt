@@ -4,7 +4,7 @@ use heap_walker::Weight;
 use js_core::Failure;
 
 /// What stands in the way of saving a page.
-#[derive(Clone, Copy, Debug, PartialEq, Eq)]
+#[derive(Clone, Copy, PartialEq, Eq)]
 pub enum NotSaved {
     /// It has more things than a saved page may have.
     TooMany(Weight),

@@ -3,7 +3,7 @@
 use std::fmt;
 
 /// What is answered to a text.
-#[derive(Debug, Drop)]
+#[derive(Drop)]
 pub enum Answer {
     /// the printed text of its script
     Printed(Vec<u8>),

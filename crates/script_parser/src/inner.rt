@@ -40,8 +40,7 @@ impl<I: Inside> Statements<I> {
 pub fn body_of(alloc: Global, statement: Stmt) -> Result<Vec<Stmt>, OutOfMemory>
     ensures { IfOk result (λ found. stmts_of found.items ≡ spec_body_of statement) }
 {
-    let Stmt { node, .. } = statement;
-    match node {
+    match statement.into_node() {
         StmtNode::Block(found) => Ok(found),
         node => alone(alloc, Stmt::new(node)),
     }

@@ -8,7 +8,7 @@ use std::fmt;
 use whole_ops::{LooseFault, OpFault};
 
 /// What an operator answers.
-#[derive(Clone, Copy, Debug, PartialEq, Eq)]
+#[derive(Clone, Copy, PartialEq, Eq)]
 pub enum Answer {
     /// a number
     Number(Whole),

@@ -9,7 +9,7 @@ use js_values::Value;
 use whole_ops::{BitOp, add, bits, div, less, loose, mul, not, pow, rem, same, sub, to_number};
 
 /// An operator.
-#[derive(Clone, Copy, Debug, PartialEq, Eq)]
+#[derive(Clone, Copy, PartialEq, Eq)]
 pub enum Operator {
     Add,
     Sub,

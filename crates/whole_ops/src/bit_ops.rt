@@ -7,7 +7,7 @@ ghost use Rattle.whole_ops.specs.Bits as spec;
 use js_core::Whole;
 
 /// The binary operators on 32 bits (ECMA-262 5.1 sections 11.7 and 11.10).
-#[derive(Clone, Copy, Debug, PartialEq, Eq)]
+#[derive(Clone, Copy, PartialEq, Eq)]
 pub enum BitOp {
     /// `&`
     And,

@@ -3,7 +3,7 @@ use Rattle.dom_tree.specs.Node.{Nodes}
 use Rattle.page_tokens.specs.declared.token.RawText.{RawText}
 use Rattle.page_reader.specs.Bytes.{IsTextPage}
 use Rattle.page_reader.specs.Pages.{PageOf}
-use Rattle.page_tokens.proofs.Callers.{shown}
+use Rattle.js_core.proofs.Callers.{shown}
 use Rattle.page_reader.proofs.reader.page_of_text.Goals as goal
 
 pub returns-in-Ok-clause-refused : goal.returns-in-Ok-clause-refused

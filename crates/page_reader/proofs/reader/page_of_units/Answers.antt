@@ -1,5 +1,5 @@
 use Rattle.std.proofs.Common.{◌∙◌}
-use Rattle.page_tokens.proofs.Callers.{handed}
+use Rattle.js_core.proofs.Callers.{handed}
 use Rattle.page_reader.proofs.FromBytes.{mark_short, units_refused}
 use Rattle.page_reader.proofs.reader.page_of_units.Goals as goal
 

@@ -1,4 +1,4 @@
-use Rattle.page_tokens.proofs.Callers.{handed}
+use Rattle.js_core.proofs.Callers.{handed}
 use Rattle.page_reader.proofs.Steps.{ends_html, open_in_html, refused_at_end, refused_by, stays_in_html}
 use Rattle.page_reader.proofs.tree.content.Goals as goal
 

@@ -1,5 +1,5 @@
 use Rattle.std.proofs.Common.{◌∙◌, sym}
-use Rattle.page_tokens.proofs.Callers.{handed}
+use Rattle.js_core.proofs.Callers.{handed}
 use Rattle.page_reader.proofs.Whole.{Begun, page_read, page_refused, page_unfinished}
 use Rattle.page_reader.proofs.tree.page_of_tokens.Goals as goal
 

@@ -1,4 +1,4 @@
-use Rattle.page_tokens.proofs.Callers.{handed}
+use Rattle.js_core.proofs.Callers.{handed}
 use Rattle.page_reader.proofs.Steps.{closes, no_closes, no_place, places, stays_open}
 use Rattle.page_reader.proofs.tree.step.Goals as goal
 

@@ -1,5 +1,5 @@
 use Rattle.std.proofs.Common.{arith, subst, sym}
-use Rattle.page_tokens.proofs.Causes.{handed}
+use Rattle.js_core.proofs.Callers.{handed}
 use Rattle.page_tokens.proofs.Listing.{GoesOn, listing_begins, listing_ends, listing_goes_on, listing_refused}
 use Rattle.page_tokens.proofs.attributes.attributes.Goals as goal
 
