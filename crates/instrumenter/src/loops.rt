@@ -18,7 +18,7 @@ use crate::levels::{Level, field_of, is_own};
 use crate::pieces::push_node;
 use crate::statements::open_statements;
 use crate::variables::{is_changed, open_header, push_plain_names};
-use js_core::{Declarator, Expr, ExprNode, ForInit, OutOfMemory, Stmt, StmtNode, Units};
+use js_core::{Declarator, Expr, ExprNode, For, ForInit, OutOfMemory, Stmt, StmtNode, Units};
 use std::alloc::Global;
 use std::rc::Rc;
 
@@ -41,7 +41,7 @@ pub fn push_do(
 {
     let body = open_statements(alloc, levels, next, body)?;
     let test = open_expression(alloc, levels, next, test)?;
-    push_node(StmtNode::Do(body, test), out)
+    push_node(StmtNode::Do(body, Box::new(alloc, test)?), out)
 }
 
 #[cycle(opening)]
@@ -63,7 +63,7 @@ pub fn push_while(
 {
     let test = open_expression(alloc, levels, next, test)?;
     let body = open_statements(alloc, levels, next, body)?;
-    push_node(StmtNode::While(test, body), out)
+    push_node(StmtNode::While(Box::new(alloc, test)?, body), out)
 }
 
 #[cycle(opening)]
@@ -93,15 +93,13 @@ pub fn push_for(
     let test = open_maybe_expression(alloc, levels, next, test)?;
     let step = open_maybe_expression(alloc, levels, next, step)?;
     let body = open_statements(alloc, levels, next, body)?;
-    push_node(
-        StmtNode::For {
-            init,
-            test,
-            step,
-            body,
-        },
-        out,
-    )
+    let parts = For {
+        init,
+        test,
+        step,
+        body,
+    };
+    push_node(StmtNode::For(Box::new(alloc, parts)?), out)
 }
 
 #[cycle(opening)]
@@ -132,8 +130,8 @@ pub fn push_for_in(
     push_node(
         StmtNode::ForIn {
             declared,
-            target,
-            object,
+            target: Box::new(alloc, target)?,
+            object: Box::new(alloc, object)?,
             body,
         },
         out,

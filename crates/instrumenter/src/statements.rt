@@ -31,7 +31,7 @@ use crate::levels::Level;
 use crate::loops::{push_do, push_for, push_for_in, push_while};
 use crate::pieces::push_node;
 use crate::variables::push_variables;
-use js_core::{Case, Catch, Code, Expr, OutOfMemory, Stmt, StmtNode};
+use js_core::{Case, Catch, Code, Expr, If, OutOfMemory, Stmt, StmtNode, Try};
 use std::alloc::Global;
 use std::rc::Rc;
 
@@ -58,17 +58,22 @@ pub fn push_statement(
         StmtNode::Expr(value) => push_expression(alloc, levels, next, value, out),
         StmtNode::Empty => push_node(StmtNode::Empty, out),
         StmtNode::Block(body) => push_block(alloc, levels, next, body.as_slice(), out),
-        StmtNode::If(test, first, second) => {
-            push_if(alloc, levels, next, test, first.as_slice(), second, out)
+        StmtNode::If(parts) => {
+            let first = parts.first.as_slice();
+            push_if(alloc, levels, next, &parts.test, first, &parts.second, out)
         }
         StmtNode::Do(body, test) => push_do(alloc, levels, next, body.as_slice(), test, out),
         StmtNode::While(test, body) => push_while(alloc, levels, next, test, body.as_slice(), out),
-        StmtNode::For {
-            init,
-            test,
-            step,
-            body,
-        } => push_for(alloc, levels, next, init, test, step, body.as_slice(), out),
+        StmtNode::For(parts) => push_for(
+            alloc,
+            levels,
+            next,
+            &parts.init,
+            &parts.test,
+            &parts.step,
+            parts.body.as_slice(),
+            out,
+        ),
         StmtNode::ForIn {
             declared,
             target,
@@ -88,8 +93,9 @@ pub fn push_statement(
         StmtNode::Break => push_node(StmtNode::Break, out),
         StmtNode::Return(value) => push_return(alloc, levels, next, value, out),
         StmtNode::Throw(value) => push_throw(alloc, levels, next, value, out),
-        StmtNode::Try { block, catch, last } => {
-            push_try(alloc, levels, next, block.as_slice(), catch, last, out)
+        StmtNode::Try(parts) => {
+            let block = parts.block.as_slice();
+            push_try(alloc, levels, next, block, &parts.catch, &parts.last, out)
         }
         StmtNode::Switch(value, cases) => {
             push_switch(alloc, levels, next, value, cases.as_slice(), out)
@@ -178,7 +184,12 @@ fn push_if(
     let test = open_expression(alloc, levels, next, test)?;
     let first = open_statements(alloc, levels, next, first)?;
     let second = open_maybe_body(alloc, levels, next, second)?;
-    push_node(StmtNode::If(test, first, second), out)
+    let parts = If {
+        test,
+        first,
+        second,
+    };
+    push_node(StmtNode::If(Box::new(alloc, parts)?), out)
 }
 
 #[cycle(opening)]
@@ -243,7 +254,8 @@ fn push_try(
     let block = open_statements(alloc, levels, next, block)?;
     let catch = open_catch(alloc, levels, next, catch)?;
     let last = open_maybe_body(alloc, levels, next, last)?;
-    push_node(StmtNode::Try { block, catch, last }, out)
+    let parts = Try { block, catch, last };
+    push_node(StmtNode::Try(Box::new(alloc, parts)?), out)
 }
 
 #[cycle(opening)]
@@ -265,7 +277,7 @@ fn push_switch(
 {
     let value = open_expression(alloc, levels, next, value)?;
     let cases = open_cases(alloc, levels, next, cases)?;
-    push_node(StmtNode::Switch(value, cases), out)
+    push_node(StmtNode::Switch(Box::new(alloc, value)?, cases), out)
 }
 
 #[cycle(opening)]

@@ -377,6 +377,18 @@ impl Script {
     }
 }
 
+impl Declarator {
+    ghost use Rattle.std.specs.Prelude.{◌≡◌};
+
+    /// The name and the initialiser, without memory.
+    pub fn into_parts(self) -> (Units, Option<Expr>)
+        ensures { result ≡ (self.name, self.value) }
+    {
+        let Declarator { name, value } = self;
+        (name, value)
+    }
+}
+
 impl Expr {
     ghost use Rattle.std.specs.Prelude.{◌≡◌, ◌≤◌};
     ghost use Rattle.js_core.specs.Height.{expr_height};

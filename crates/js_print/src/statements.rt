@@ -57,15 +57,10 @@ fn push_statement(statement: &Stmt, out: &mut Vec<Lexeme>) -> Result<(), OutOfMe
         }
         StmtNode::Empty => push_punct(Punct::Semicolon, out),
         StmtNode::Block(statements) => push_body(statements.as_slice(), out),
-        StmtNode::If(test, first, second) => push_if(test, first.as_slice(), second, out),
+        StmtNode::If(parts) => push_if(&parts.test, parts.first.as_slice(), &parts.second, out),
         StmtNode::Do(body, test) => push_do(body.as_slice(), test, out),
         StmtNode::While(test, body) => push_while(test, body.as_slice(), out),
-        StmtNode::For {
-            init,
-            test,
-            step,
-            body,
-        } => push_for(init, test, step, body.as_slice(), out),
+        StmtNode::For(parts) => push_for(&parts.init, &parts.test, &parts.step, parts.body.as_slice(), out),
         StmtNode::ForIn {
             declared,
             target,
@@ -76,7 +71,7 @@ fn push_statement(statement: &Stmt, out: &mut Vec<Lexeme>) -> Result<(), OutOfMe
         StmtNode::Break => push_jump(Keyword::Break, out),
         StmtNode::Return(value) => push_return(value, out),
         StmtNode::Throw(value) => push_throw(value, out),
-        StmtNode::Try { block, catch, last } => push_try(block.as_slice(), catch, last, out),
+        StmtNode::Try(parts) => push_try(parts.block.as_slice(), &parts.catch, &parts.last, out),
         StmtNode::Switch(value, cases) => push_switch(value, cases.as_slice(), out),
     }
 }

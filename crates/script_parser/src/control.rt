@@ -1,5 +1,8 @@
 //! Blocks (ECMA-262 5.1 section 12.1) and `if` (section 12.5).
 
+ghost use Rattle.std.specs.Prelude.{option_map};
+ghost use Rattle.js_core.specs.Tree as tree;
+ghost use Rattle.js_core.specs.Tree.{maybe_stmts, stmts_of};
 ghost use Rattle.js_grammar.specs.StatementReader as reader;
 ghost use Rattle.expression_parser.specs.Inside.{limit, expression_in, body_in, statement_in};
 ghost use Rattle.expression_parser.specs.Reads.{Reads};
@@ -10,7 +13,7 @@ use crate::ending::has_more;
 use crate::inner::{Statements, body_of};
 use crate::node::node;
 use expression_parser::{Cursor, Inside, ParseFault, many};
-use js_core::{Expr, Keyword, Punct, Stmt, StmtNode};
+use js_core::{Expr, If, Keyword, Punct, Stmt, StmtNode};
 use js_grammar::Sign;
 
 impl<I: Inside> Statements<I> {
@@ -63,6 +66,25 @@ impl<I: Inside> Statements<I> {
         Ok(value)
     }
 
+    // The `if` with these parts.
+    fn branching(
+        &self,
+        test: Expr,
+        first: Vec<Stmt>,
+        second: Option<Vec<Stmt>>,
+        tokens: &Cursor,
+    ) -> Result<Stmt, ParseFault>
+        ensures { Reads (reader.node limit (tree.if_else test (stmts_of first.items)
+            (maybe_stmts (option_map (λ v. v.items) second))) tokens.now) result tokens.now }
+    {
+        let parts = If {
+            test,
+            first,
+            second,
+        };
+        node(StmtNode::If(Box::new(self.grammar.alloc, parts)?), tokens)
+    }
+
     /// Reads what stands behind `if`. An `else` belongs to the nearest `if`.
     #[inline(never)]
     #[tactic(auto, unfolding(js_grammar::specs::StatementReader::conditional, js_grammar::specs::Parser::eat))]
@@ -77,9 +99,9 @@ impl<I: Inside> Statements<I> {
             let second = self.statement(tokens)?;
             let body = body_of(self.grammar.alloc, first)?;
             let other = body_of(self.grammar.alloc, second)?;
-            return node(StmtNode::If(test, body, Some(other)), tokens);
+            return self.branching(test, body, Some(other), tokens);
         }
         let body = body_of(self.grammar.alloc, first)?;
-        node(StmtNode::If(test, body, None), tokens)
+        self.branching(test, body, None, tokens)
     }
 }

@@ -9,7 +9,7 @@ ghost use Rattle.expression_parser.specs.Reads.{Reads};
 use crate::inner::{Statements, body_of};
 use crate::node::node;
 use expression_parser::{Cursor, Inside, NotScript, ParseFault, prefix_of};
-use js_core::{Declarator, Expr, ExprNode, ForInit, Keyword, Punct, Stmt, StmtNode};
+use js_core::{Declarator, Expr, ExprNode, For, ForInit, Keyword, Punct, Stmt, StmtNode};
 use js_grammar::{Prefix, Sign};
 
 impl<I: Inside> Statements<I> {
@@ -41,15 +41,13 @@ impl<I: Inside> Statements<I> {
         tokens.expect(Sign::Mark(Punct::RightParenthesis))?;
         let repeated = self.statement(tokens)?;
         let body = body_of(self.grammar.alloc, repeated)?;
-        node(
-            StmtNode::For {
-                init,
-                test,
-                step,
-                body,
-            },
-            tokens,
-        )
+        let parts = For {
+            init,
+            test,
+            step,
+            body,
+        };
+        node(StmtNode::For(Box::new(self.grammar.alloc, parts)?), tokens)
     }
 
     /// Reads a `for` from behind its `in`.
@@ -66,8 +64,8 @@ impl<I: Inside> Statements<I> {
         node(
             StmtNode::ForIn {
                 declared,
-                target,
-                object,
+                target: Box::new(self.grammar.alloc, target)?,
+                object: Box::new(self.grammar.alloc, object)?,
                 body,
             },
             tokens,
@@ -80,7 +78,7 @@ impl<I: Inside> Statements<I> {
             (body_in self.now.grammar.depth) (statement_in self.now.grammar.depth) declarator.value
             declarator.name tokens.old) result tokens.new }
     {
-        let Declarator { name, value } = declarator;
+        let (name, value) = declarator.into_parts();
         if value.is_some() {
             return Err(ParseFault::Cause(NotScript));
         }

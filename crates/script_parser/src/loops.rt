@@ -25,7 +25,7 @@ impl<I: Inside> Statements<I> {
         let test = self.condition(tokens)?;
         ended(tokens, Ending::AfterAll)?;
         let body = body_of(self.grammar.alloc, repeated)?;
-        node(StmtNode::Do(body, test), tokens)
+        node(StmtNode::Do(body, Box::new(self.grammar.alloc, test)?), tokens)
     }
 
     /// Reads what stands behind `while`.
@@ -38,6 +38,6 @@ impl<I: Inside> Statements<I> {
         let test = self.condition(tokens)?;
         let repeated = self.statement(tokens)?;
         let body = body_of(self.grammar.alloc, repeated)?;
-        node(StmtNode::While(test, body), tokens)
+        node(StmtNode::While(Box::new(self.grammar.alloc, test)?, body), tokens)
     }
 }

@@ -1,5 +1,8 @@
 //! `try` (ECMA-262 5.1 section 12.14).
 
+ghost use Rattle.std.specs.Prelude.{option_map};
+ghost use Rattle.js_core.specs.Tree as tree;
+ghost use Rattle.js_core.specs.Tree.{maybe_stmts, stmts_of};
 ghost use Rattle.js_core.specs.Views.{catch_of};
 ghost use Rattle.js_grammar.specs.StatementReader as reader;
 ghost use Rattle.expression_parser.specs.Inside.{limit, expression_in, body_in, statement_in};
@@ -8,10 +11,25 @@ ghost use Rattle.expression_parser.specs.Reads.{Reads};
 use crate::inner::Statements;
 use crate::node::node;
 use expression_parser::{Cursor, Inside, ParseFault};
-use js_core::{Catch, Keyword, Punct, Stmt, StmtNode};
+use js_core::{Catch, Keyword, Punct, Stmt, StmtNode, Try};
 use js_grammar::Sign;
 
 impl<I: Inside> Statements<I> {
+    // The `try` with these parts.
+    fn handled(
+        &self,
+        block: Vec<Stmt>,
+        catch: Option<Catch>,
+        last: Option<Vec<Stmt>>,
+        tokens: &Cursor,
+    ) -> Result<Stmt, ParseFault>
+        ensures { Reads (reader.node limit (tree.try (stmts_of block.items) (catch_of catch)
+            (maybe_stmts (option_map (λ v. v.items) last))) tokens.now) result tokens.now }
+    {
+        let parts = Try { block, catch, last };
+        node(StmtNode::Try(Box::new(self.grammar.alloc, parts)?), tokens)
+    }
+
     /// Reads what stands behind `finally`.
     #[tactic(auto, unfolding(js_grammar::specs::StatementReader::finally))]
     fn finally(
@@ -24,8 +42,8 @@ impl<I: Inside> Statements<I> {
             (body_in self.now.grammar.depth) (statement_in self.now.grammar.depth) block.items
             (catch_of catch) tokens.old) result tokens.new }
     {
-        let last = Some(self.braced(tokens)?);
-        node(StmtNode::Try { block, catch, last }, tokens)
+        let last = self.braced(tokens)?;
+        self.handled(block, catch, Some(last), tokens)
     }
 
     /// Reads what stands behind `catch`.
@@ -43,8 +61,7 @@ impl<I: Inside> Statements<I> {
         if tokens.eat(Sign::Word(Keyword::Finally)) {
             return self.finally(block, catch, tokens);
         }
-        let last = None;
-        node(StmtNode::Try { block, catch, last }, tokens)
+        self.handled(block, catch, None, tokens)
     }
 
     /// Reads what stands behind `try`.
