@@ -1,0 +1,335 @@
+#!/usr/bin/env python3
+"""Which definitions the clauses of `run` reach, and how many lines these are: docs/BELIEVE.md says so, and .ci/check compares.
+
+Names are followed one definition at a time, from the theorem (`run` in crates/command_line/src/program.rt) through the files of `specs/`, the
+types of `src/` that definitions match on, and the traits of its parameters. Proofs and the library's own definitions are not followed.
+
+    .ci/reached.py            the rows of docs/BELIEVE.md as they should be
+    .ci/reached.py --write    writes them there
+    .ci/reached.py FILE       the definitions of one file that are reached
+"""
+import os
+import re
+import sys
+
+TOP = os.path.dirname(os.path.dirname(os.path.abspath(__file__)))
+PAGE = "docs/BELIEVE.md"
+START = ("command_line/src/program.rt", "run")
+UNREACHED = "What no clause of `run` reaches"
+# Words of a definition: names with the dots that join them, so that what stands after a dot is told from a name of its own.
+NAME = r"[^\W\d][\w'?!-]*|◌\S*◌"
+WORD = re.compile(rf"(?:{NAME})(?:\.(?:{NAME}|\d+))*")
+BEGINS = re.compile(rf"^\s*(?:abbrev |unfoldable )?(?:pub )?(?:(record|data) )?({NAME})\b(?=[^=]*:|.* where)")
+GROUP = re.compile(r"(?:abbrev |unfoldable )?(?:pub )?mutual\b")
+ROW = re.compile(r"^\| `([\w/]+\.(?:antt|rt))` \| (\d+) \| (\d+) \| (.*) \|$")
+
+
+def read(path):
+    with open(os.path.join(TOP, path), encoding="utf-8") as file:
+        return file.read()
+
+
+def sections():
+    """The headings of crates.txt in order, each with its crates."""
+    found = {}
+    heading = None
+    for line in read("crates.txt").splitlines():
+        if line.startswith("# "):
+            heading = line[2:]
+            found[heading] = []
+        elif ":" in line and heading:
+            found[heading].append(line.split(":")[0].split()[0])
+    return found
+
+
+def imported(text, crate):
+    """The names that a file imports: where each stands, as a crate, a module and a name, and the modules that it has another name for."""
+    names, aliases, opened = {}, {}, []
+    for path, listed, alias in re.findall(r"^\s*(?:pub )?(?:ghost )?use Rattle\.([\w.]+?)(?:\.\{([^}]*)\}| as (\w+))?;?$", text, re.M):
+        if listed:
+            for name in listed.split(","):
+                origin, _, other = name.strip().partition(" as ")
+                names[other or origin] = (path, origin)
+        elif alias:
+            aliases[alias] = path
+    return names, aliases
+
+
+class Block:
+    """One definition: where it stands, its text without comments, and how many lines it has with the comments on it."""
+
+    def __init__(self, names, text, lines):
+        self.names, self.text, self.lines = names, text, lines
+
+
+def blocks_of_specs(text):
+    """The definitions of a file of specs. A group of mutual ones is one."""
+    lines = text.splitlines()
+    comments, start, found = [], None, []
+    k = 0
+    while k < len(lines):
+        line = lines[k]
+        if line.startswith("--") or not line.strip():
+            comments = comments + [line] if line.strip() else []
+            k += 1
+            continue
+        if re.match(r"(pub )?(use|mod) ", line):
+            comments = []
+            k += 1
+            continue
+        begun = k
+        k += 1
+        name = None if GROUP.match(line) else BEGINS.match(line)
+        own = name.group(2) if name else None
+        while k < len(lines):
+            after = lines[k]
+            if not after.strip():
+                ahead = next((it for it in lines[k:] if it.strip()), "")
+                if not (GROUP.match(line) and ahead.startswith(" ")):
+                    break
+            elif not after.startswith((" ", "--")) and not (own and re.match(rf"{re.escape(own)}\b", after)) and BEGINS.match(after):
+                break
+            elif after.startswith("--"):
+                break
+            k += 1
+        body = lines[begun:k]
+        whole = [it for it in body if it.strip()]
+        bare = "\n".join(it.split(" -- ")[0] for it in body if not it.strip().startswith("--"))
+        found.append(Block(declared_names(body, own), bare, len(whole) + len(comments)))
+        comments = []
+    return found
+
+
+def declared_names(body, own):
+    """The names that a definition makes: its own, its constructors, and those inside a group."""
+    names = {own} if own else set()
+    data = False
+    for line in body:
+        begins = BEGINS.match(line)
+        if GROUP.match(line):
+            continue
+        if begins and begins.group(1):
+            names.add(begins.group(2))
+            data = begins.group(1) == "data"
+        elif begins and (data or GROUP.match(body[0])) and line.startswith(" "):
+            names.add(begins.group(2))
+    return names
+
+
+def blocks_of_source(text):
+    """The types and traits of a file of code, and the clauses of `run`. What is inside a type that contracts see as something else
+    is seen by no definition: of that type the line counts that says as what it is seen."""
+    found, seen = {}, {}
+    lines = text.splitlines()
+    for k, line in enumerate(lines):
+        begins = re.match(r"(?:pub(?:\(\w+\))? )?(enum|struct|trait|fn) (\w+)", line)
+        model = re.match(r"impl(?:<[^>]*>)? Model for (\w+)", line)
+        if begins:
+            end = k if line.endswith((";", "}")) else next(j for j in range(k, len(lines)) if lines[j] == ("{" if begins.group(1) == "fn" else "}"))
+            first = k
+            while first and lines[first - 1].startswith(("///", "#[")):
+                first -= 1
+            body = lines[first:end + (begins.group(1) != "fn")]
+            count = len([it for it in body if it.strip() and not it.strip().startswith("#[")])
+            bare = "\n".join(it for it in body if not it.strip().startswith(("//", "#[")))
+            held = found.setdefault(begins.group(2), Block({begins.group(2)}, "", 0))
+            held.text += bare
+            held.lines += count
+        elif model:
+            seen[model.group(1)] = "".join(re.findall(r"^    ghost Value = (.*)$", "\n".join(lines[k:lines.index("}", k)]), re.M))
+    for name in seen.keys() & found.keys():
+        found[name].text = seen[name]
+        found[name].lines += 1
+    return list(found.values())
+
+
+class Definitions:
+    """All files that were read, and what is reached of them."""
+
+    def __init__(self):
+        self.files, self.reached = {}, {}
+
+    def file(self, path):
+        if path not in self.files:
+            full = os.path.join(TOP, "crates", path)
+            if not os.path.isfile(full):
+                self.files[path] = None
+                return None
+            text = read("crates/" + path)
+            blocks = blocks_of_specs(text) if path.endswith(".antt") else blocks_of_source(text)
+            names, aliases = imported(text, path.split("/")[0])
+            index = {}
+            for block in blocks:
+                for name in block.names:
+                    index.setdefault(name, block)
+            self.files[path] = (text, blocks, names, aliases, index)
+        return self.files[path]
+
+    def place(self, module, name):
+        """The file and the name there of what a module of the repository holds, or None where it is another's."""
+        parts = module.split(".")
+        crate = parts[0]
+        if len(parts) > 2 and parts[1] == "specs" and parts[2] in ("declared", "contracts"):
+            kinds = [it for it in parts[3:] if it[0].isupper() and not it.startswith("The")]
+            folders = [it for it in parts[3:] if not it[0].isupper()]
+            path = f"{crate}/src/{'/'.join(folders)}.rt"
+            return (path, kinds[0] if kinds else name) if self.file(path) and parts[2] == "declared" else None
+        if len(parts) > 2 and parts[1] == "specs":
+            path = f"{crate}/specs/{'/'.join(parts[2:])}.antt"
+            return (path, name) if self.file(path) else None
+        return None
+
+    def rust_place(self, path, name):
+        """The file and the name of a type or trait that code names."""
+        text = self.file(path)[0]
+        crate = path.split("/")[0]
+        for origin, listed in re.findall(r"^use ([\w:]+)::(\{[^}]*\}|\w+);$", text, re.M):
+            if name not in re.findall(r"\w+", listed):
+                continue
+            parts = origin.split("::")
+            if parts[0] == "crate":
+                return f"{crate}/src/{'/'.join(parts[1:])}.rt", name
+            door = self.file(f"{parts[0]}/src/lib.rt")
+            for module, out in re.findall(r"^pub use ([\w:]+)::(\{[^}]*\}|\w+);$", door[0] if door else "", re.M):
+                if name in re.findall(r"\w+", out):
+                    return f"{parts[0]}/src/{module.replace('::', '/')}.rt", name
+        return None
+
+    def bound(self, block):
+        """The variables of a definition: what patterns, functions and types of functions bind."""
+        found = set(re.findall(r"λ ([^.]*)\.", block.text))
+        found |= set(re.findall(r"[({]([^():{}]+) :(?!:)", block.text))
+        names = set()
+        for group in found:
+            names |= set(re.findall(NAME, group))
+        return names
+
+    def operators(self, path, block):
+        """The operators in a definition. `do` joins by one that is not written."""
+        _, _, names, _, index = self.file(path)
+        for name in {*names, *index}:
+            signs = [it for it in name.split("◌") if it]
+            if "◌" in name and (all(it in block.text for it in signs) or signs == [">>="] and re.search(r"\bdo$", block.text, re.M)):
+                yield name
+
+    def resolve(self, path, word, bound):
+        text, _, names, aliases, index = self.file(path)
+        first, _, rest = word.partition(".")
+        if first in aliases and rest:
+            return self.place(aliases[first], rest.split(".")[0])
+        if first in bound:
+            return None
+        if first in names:
+            return self.place(*names[first])
+        if first in index:
+            return path, first
+        if path.endswith(".rt") and first[0].isupper():
+            return self.rust_place(path, first)
+        return None
+
+    def follow(self, start):
+        waiting = [start]
+        while waiting:
+            path, name = waiting.pop()
+            file = self.file(path)
+            block = file and file[4].get(name)
+            if file and not block:
+                # A module may hand on what it imports.
+                again = self.place(*file[2][name]) if name in file[2] else None
+                waiting += [again] if again else []
+                continue
+            if not block or block in self.reached.get(path, []):
+                continue
+            self.reached.setdefault(path, []).append(block)
+            bound = self.bound(block)
+            for word in {*WORD.findall(block.text), *self.operators(path, block)}:
+                target = self.resolve(path, word, bound)
+                if target and target != (path, name):
+                    waiting.append(target)
+
+
+def lines_of(path):
+    """The lines of a file without those that are blank or import."""
+    return len([it for it in read("crates/" + path).splitlines() if it.strip() and not re.match(r"\s*(pub )?use ", it)])
+
+
+def reached():
+    definitions = Definitions()
+    definitions.follow(START)
+    return definitions
+
+
+def says_of(path):
+    """What a new row says: the comment at the beginning of the file."""
+    first = next((it for it in read("crates/" + path).splitlines() if it.startswith(("-- ", "//! "))), "")
+    return re.sub(r"^(--|//!) ", "", first)
+
+
+def rows(page, definitions):
+    """The rows of each section as they should be."""
+    said = {path: says for path, _, _, says in (row.groups() for row in map(ROW.match, page.splitlines()) if row)}
+    crates = sections()
+    found = {heading: [] for heading in [*crates, UNREACHED]}
+    order = {path: place for place, path in enumerate(said)}
+    paths = sorted({*definitions.reached, *(it for it in said if os.path.isfile(os.path.join(TOP, "crates", it)))},
+                   key=lambda it: (order.get(it, len(order)), it))
+    for path in paths:
+        count = sum(it.lines for it in definitions.reached.get(path, []))
+        whole = lines_of(path) if path.endswith(".antt") else count
+        if not whole:
+            continue
+        heading = next((it for it, listed in crates.items() if path.split("/")[0] in listed), None) if count else UNREACHED
+        place = list(crates.get(heading, [])).index(path.split("/")[0]) if count else 0
+        found[heading].append((place, f"| `{path}` | {whole} | {count} | {said.get(path, says_of(path))} |"))
+    return {heading: [row for _, row in sorted(listed, key=lambda it: it[0])] for heading, listed in found.items()}
+
+
+def totals(table):
+    counts = [tuple(map(int, ROW.match(row).group(2, 3))) for listed in table.values() for row in listed]
+    return sum(it[0] for it in counts), sum(it[1] for it in counts)
+
+
+def written(page, definitions):
+    """The page with its rows and its two sums as they should be."""
+    table = rows(page, definitions)
+    lines, done, heading = [], set(), None
+    for line in page.splitlines():
+        if line.startswith("## "):
+            heading = line[3:]
+        if ROW.match(line):
+            if heading not in done:
+                lines += table.get(heading, [])
+                done.add(heading)
+            continue
+        if re.match(r"\|-", line):
+            lines.append(line)
+            if heading in table and heading not in done:
+                lines += table[heading]
+                done.add(heading)
+            continue
+        lines.append(line)
+    whole, part = totals(table)
+    text = "\n".join(lines) + "\n"
+    text = re.sub(r"In all [\d,]+ lines, of which the clauses of `run` reach [\d,]+\.",
+                  f"In all {whole:,} lines, of which the clauses of `run` reach {part:,}.", text)
+    return text
+
+
+def main():
+    definitions = reached()
+    if sys.argv[1:] == ["--write"]:
+        text = written(read(PAGE), definitions)
+        with open(os.path.join(TOP, PAGE), "w", encoding="utf-8") as file:
+            file.write(text)
+    elif sys.argv[1:]:
+        for block in definitions.reached.get(sys.argv[1], []):
+            print(block.text.rstrip() + "\n")
+    else:
+        for heading, listed in rows(read(PAGE), definitions).items():
+            print(f"## {heading}")
+            print("\n".join(listed))
+    return 0
+
+
+if __name__ == "__main__":
+    sys.exit(main())
