@@ -5,7 +5,7 @@ Names are followed one definition at a time, from the theorem (`run` in crates/c
 types of `src/` that definitions match on, and the traits of its parameters. Proofs and the library's own definitions are not followed.
 
     .ci/reached.py            the rows of docs/BELIEVE.md as they should be
-    .ci/reached.py --write    writes them there
+    .ci/reached.py --write    writes them there; a new row may stand anywhere as `| `FILE` | what it says |`
     .ci/reached.py FILE       the definitions of one file that are reached
 """
 import os
@@ -19,9 +19,12 @@ UNREACHED = "What no clause of `run` reaches"
 # Words of a definition: names with the dots that join them, so that what stands after a dot is told from a name of its own.
 NAME = r"[^\W\d][\w'?!-]*|◌\S*◌"
 WORD = re.compile(rf"(?:{NAME})(?:\.(?:{NAME}|\d+))*")
-BEGINS = re.compile(rf"^\s*(?:abbrev |unfoldable )?(?:pub )?(?:(record|data) )?({NAME})\b(?=[^=]*:|.* where)")
+BEGINS = re.compile(rf"^\s*(?:abbrev |unfoldable )?(?:pub )?(?:(record|data) (?=.*:))?({NAME})(?(1)\s| :)")
+PRECEDENCE = re.compile(r"infix[lr]? \d")
+APART = re.compile(r"--|(?:pub )?(?:use|mod) ")
 GROUP = re.compile(r"(?:abbrev |unfoldable )?(?:pub )?mutual\b")
-ROW = re.compile(r"^\| `([\w/]+\.(?:antt|rt))` \| (\d+) \| (\d+) \| (.*) \|$")
+# A row: the file, its lines, those that are reached, and what it says. Of a new row the numbers may be missing.
+ROW = re.compile(r"^\| `([\w/]+\.(?:antt|rt))` \|(?: (\d+) \|)?(?: (\d+) \|)? (.*) \|$")
 
 
 def read(path):
@@ -62,42 +65,58 @@ class Block:
         self.names, self.text, self.lines = names, text, lines
 
 
+def flat(text):
+    """The lines of a file of specs, each with the heading of the module with parameters in which it stands, out of which it is taken."""
+    found, heading = [], ""
+    for line in text.splitlines():
+        if re.match(r"module _ .* where$", line):
+            heading = line
+            found.append(("-- " + line, heading))
+        elif heading and (line.startswith("  ") or not line.strip()):
+            found.append((line[2:], heading))
+        else:
+            heading = heading if not line.strip() else ""
+            found.append((line, heading))
+    return found
+
+
 def blocks_of_specs(text):
     """The definitions of a file of specs. A group of mutual ones is one."""
-    lines = text.splitlines()
-    comments, start, found = [], None, []
-    k = 0
+    lines = flat(text)
+    comments, found, k = 0, [], 0
     while k < len(lines):
-        line = lines[k]
-        if line.startswith("--") or not line.strip():
-            comments = comments + [line] if line.strip() else []
-            k += 1
-            continue
-        if re.match(r"(pub )?(use|mod) ", line):
-            comments = []
-            k += 1
-            continue
+        line, heading = lines[k]
         begun = k
         k += 1
-        name = None if GROUP.match(line) else BEGINS.match(line)
-        own = name.group(2) if name else None
-        while k < len(lines):
-            after = lines[k]
-            if not after.strip():
-                ahead = next((it for it in lines[k:] if it.strip()), "")
-                if not (GROUP.match(line) and ahead.startswith(" ")):
-                    break
-            elif not after.startswith((" ", "--")) and not (own and re.match(rf"{re.escape(own)}\b", after)) and BEGINS.match(after):
-                break
-            elif after.startswith("--"):
-                break
+        if line.startswith("--") or PRECEDENCE.match(line):
+            comments += 1
+            continue
+        if not line.strip() or APART.match(line):
+            comments = 0
+            continue
+        while k < len(lines) and goes_on(line, lines[k:]):
             k += 1
-        body = lines[begun:k]
-        whole = [it for it in body if it.strip()]
-        bare = "\n".join(it.split(" -- ")[0] for it in body if not it.strip().startswith("--"))
-        found.append(Block(declared_names(body, own), bare, len(whole) + len(comments)))
-        comments = []
+        body = [it for it, _ in lines[begun:k] if it.strip()]
+        bare = heading + "\n" + "\n".join(it.split(" -- ")[0] for it in body if not it.strip().startswith("--"))
+        begins = None if GROUP.match(line) else BEGINS.match(line)
+        own = begins.group(2) if begins else line.split()[0].strip("(")
+        # A clause after a comment belongs to what is defined already.
+        held = None if begins or GROUP.match(line) else next((it for it in reversed(found) if own in it.names), None)
+        if held:
+            held.text += "\n" + bare
+            held.lines += len(body) + comments
+        else:
+            found.append(Block(declared_names(body, own if begins else None), bare, len(body) + comments))
+        comments = 0
     return found
+
+
+def goes_on(first, rest):
+    """Whether a definition that begins with this line goes on with the first line of the rest."""
+    line = rest[0][0]
+    if not line.strip():
+        return bool(GROUP.match(first)) and next((it for it, _ in rest if it.strip()), "").startswith(" ")
+    return line.startswith(" ") or not any(it.match(line) for it in (PRECEDENCE, APART, BEGINS, GROUP))
 
 
 def declared_names(body, own):
@@ -278,8 +297,8 @@ def rows(page, definitions):
         whole = lines_of(path) if path.endswith(".antt") else count
         if not whole:
             continue
-        heading = next((it for it, listed in crates.items() if path.split("/")[0] in listed), None) if count else UNREACHED
-        place = list(crates.get(heading, [])).index(path.split("/")[0]) if count else 0
+        heading = next((it for it, listed in crates.items() if count and path.split("/")[0] in listed), UNREACHED)
+        place = crates[heading].index(path.split("/")[0]) if heading in crates else 0
         found[heading].append((place, f"| `{path}` | {whole} | {count} | {said.get(path, says_of(path))} |"))
     return {heading: [row for _, row in sorted(listed, key=lambda it: it[0])] for heading, listed in found.items()}
 
