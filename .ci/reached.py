@@ -45,9 +45,9 @@ def sections():
     return found
 
 
-def imported(text, crate):
-    """The names that a file imports: where each stands, as a crate, a module and a name, and the modules that it has another name for."""
-    names, aliases, opened = {}, {}, []
+def imported(text):
+    """The names that a file imports, each with the module and the name there, and the modules that it has another name for."""
+    names, aliases = {}, {}
     for path, listed, alias in re.findall(r"^\s*(?:pub )?(?:ghost )?use Rattle\.([\w.]+?)(?:\.\{([^}]*)\}| as (\w+))?;?$", text, re.M):
         if listed:
             for name in listed.split(","):
@@ -169,6 +169,7 @@ class Definitions:
         self.files, self.reached = {}, {}
 
     def file(self, path):
+        """A file's text, definitions, imports and other names of modules, and its definitions by name; None where there is no such file."""
         if path not in self.files:
             full = os.path.join(TOP, "crates", path)
             if not os.path.isfile(full):
@@ -176,7 +177,7 @@ class Definitions:
                 return None
             text = read("crates/" + path)
             blocks = blocks_of_specs(text) if path.endswith(".antt") else blocks_of_source(text)
-            names, aliases = imported(text, path.split("/")[0])
+            names, aliases = imported(text)
             index = {}
             for block in blocks:
                 for name in block.names:
@@ -214,15 +215,6 @@ class Definitions:
                     return f"{parts[0]}/src/{module.replace('::', '/')}.rt", name
         return None
 
-    def bound(self, block):
-        """The variables of a definition: what patterns, functions and types of functions bind."""
-        found = set(re.findall(r"λ ([^.]*)\.", block.text))
-        found |= set(re.findall(r"[({]([^():{}]+) :(?!:)", block.text))
-        names = set()
-        for group in found:
-            names |= set(re.findall(NAME, group))
-        return names
-
     def operators(self, path, block):
         """The operators in a definition. `do` joins by one that is not written."""
         _, _, names, _, index = self.file(path)
@@ -231,13 +223,12 @@ class Definitions:
             if "◌" in name and (all(it in block.text for it in signs) or signs == [">>="] and re.search(r"\bdo$", block.text, re.M)):
                 yield name
 
-    def resolve(self, path, word, bound):
-        text, _, names, aliases, index = self.file(path)
+    def resolve(self, path, word):
+        """The file and the name there of what a word of a definition names, or None."""
+        _, _, names, aliases, index = self.file(path)
         first, _, rest = word.partition(".")
         if first in aliases and rest:
             return self.place(aliases[first], rest.split(".")[0])
-        if first in bound:
-            return None
         if first in names:
             return self.place(*names[first])
         if first in index:
@@ -247,6 +238,7 @@ class Definitions:
         return None
 
     def follow(self, start):
+        """Reaches the definition that stands there, all that it names, and so on."""
         waiting = [start]
         while waiting:
             path, name = waiting.pop()
@@ -260,9 +252,8 @@ class Definitions:
             if not block or block in self.reached.get(path, []):
                 continue
             self.reached.setdefault(path, []).append(block)
-            bound = self.bound(block)
             for word in {*WORD.findall(block.text), *self.operators(path, block)}:
-                target = self.resolve(path, word, bound)
+                target = self.resolve(path, word)
                 if target and target != (path, name):
                     waiting.append(target)
 
