@@ -42,7 +42,7 @@ def best(script, folder):
         said = subprocess.run([PROGRAM, "replay", page, events], capture_output=True, check=True).stdout
         spent.append(time.perf_counter() - begun)
         if said:
-            sys.exit(f"the page put out {said!r}")
+            sys.exit(f"the page printed {said!r}")
     return min(spent)
 
 

@@ -1,5 +1,5 @@
 #!/bin/sh
-# Times 10,000, 100,000 and 1,000,000 elements that are put behind the last one of an array, and as many that are taken
+# Times 10,000, 100,000 and 1,000,000 elements that are put after the last one of an array, and as many that are taken
 # from its end one by one, each by a put of the length: the best of five runs, the nanoseconds for each element, and their
 # ratio to the shortest array's. It rises only with the time that the machine takes to reach memory, since an element costs
 # the same steps at any length.

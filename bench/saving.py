@@ -1,9 +1,9 @@
 #!/usr/bin/env python3
 """Times what it costs to write a page that rebuilds another one. Each page makes things of a kind, so many that it weighs about 7,500 and then about
-75,000; a second page does the same and lets go of all, so that what is left over is the writing. It prints the milliseconds of each, the best of five
-runs less the best of the page that lets go, and their ratio, which stays near 10 where the cost is in proportion.
+75,000; a second page does the same and drops all, so that what is left over is the writing. It prints the milliseconds of each, the best of five
+runs less the best of the page that drops all, and their ratio, which stays near 10 where the cost is in proportion.
 
-Closures of one long code are more text than a saved page may have: of these the cost is that of finding it out. Behind it comes the
+Closures of one long code are more text than a saved page may have: of these the cost is that of finding it out. After it comes the
 same for as many closures of a code that is ten times as long, where the ratio would be near 1 if each code were measured once.
 
     bench/saving.py [PROGRAM]

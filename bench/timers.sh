@@ -5,7 +5,7 @@
 . "$(dirname "$0")/frame.sh"
 repository timers_bench js_core js_values timer_queue
 cat >"$work/crates/timers_bench/src/main.rt" <<'END'
-//! Prints for each word, a call and the number of live timers behind it, how many calls were made and their nanoseconds.
+//! Prints for each word, a call and the number of live timers after it, how many calls were made and their nanoseconds.
 #![tactic(auto)]
 
 ghost use Rattle.std.specs.Prelude.{◌≤◌, length};

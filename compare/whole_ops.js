@@ -1,7 +1,7 @@
 "use strict";
 // Compares the operators on numbers, `===`, `==` and the reading of texts as numbers with those of node.
 //
-//     node bench/whole_ops.js [CASES [SEED]]
+//     node compare/whole_ops.js [CASES [SEED]]
 //
 // It makes CASES random cases (100,000 where left out), has crates/whole_lines answer them, and compares each answer with
 // node's: the same where node's result is true, false, NaN or a whole number in range, with 0 for -0, and `outside` where it

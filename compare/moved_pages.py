@@ -3,7 +3,7 @@
 
 Makes COUNT random pages (1,000), as random_pages.py does, and moves each at a random event: `save` after the earlier calls, `replay` of the saved
 page on the later ones. The lines have to be those of the page that never moved, and the saved page, saved again, has to have the same bytes.
-The page with opened scopes (`instrument`) has to put out the lines of the page. Prints each page that does otherwise, and then how many were moved.
+The page with opened scopes (`instrument`) has to print the lines of the page. Prints each page that does otherwise, and then how many were moved.
 """
 import json
 import os

@@ -9,11 +9,11 @@ work=$(mktemp -d)
 trap 'rm -rf "$work"' EXIT
 cd "$work"
 turns=10
-printf '<html><script>%s</script></html>' "$(cat "$top/bench/loops.js")" >page.html
+printf '<html><script>%s</script></html>' "$(cat "$top/compare/loops.js")" >page.html
 # each event has a million steps: work takes some 400,000, closures some 400,000
 awk -v n=$turns 'BEGIN { printf "["; for (i = 0; i < n; i++) printf "%s{\"call\":\"work\"},{\"call\":\"closures\"}", i ? "," : ""; printf "]" }' >events.json
 {
-    cat "$top/bench/loops.js"
+    cat "$top/compare/loops.js"
     echo "for (var k = 0; k < $turns; k = k + 1) { work(); closures(); }"
     echo "print(total);"
 } >loops.js
