@@ -4,7 +4,7 @@ ghost use Rattle.std.specs.Prelude.{◌≡◌, map, option_map, string_bytes};
 ghost use Rattle.command_line.specs.Command as spec;
 
 /// What is done with a page and its events.
-#[derive(Clone, Copy, Debug, PartialEq, Eq)]
+#[derive(Clone, Copy, PartialEq, Eq)]
 pub enum Work {
     /// Writes the lines of loading the page and then those of its events.
     Replay,
@@ -13,7 +13,7 @@ pub enum Work {
 }
 
 /// A command line.
-#[derive(Clone, Copy, Debug, PartialEq, Eq)]
+#[derive(Clone, Copy, PartialEq, Eq)]
 pub enum Command<'a> {
     /// `check P`: writes of which kind the page file P is.
     Check(&'a str),

@@ -4,7 +4,7 @@ use heap_walker::Weight;
 use page_check::Refusal;
 
 /// How a command ends. The number of each is the exit status of the program.
-#[derive(Clone, Copy, Debug, PartialEq, Eq)]
+#[derive(Clone, Copy, PartialEq, Eq)]
 pub enum Status {
     /// 0: the whole text was written.
     Ok,

@@ -12,7 +12,7 @@ use std::marker::Model;
 
 /// Names with values, in order of first setting, which contracts see as the list of them. A call looks through them one by
 /// one, since an element has few.
-#[derive(Debug, Drop)]
+#[derive(Drop)]
 pub struct Attributes {
     items: Vec<(Units, Units)>,
 }

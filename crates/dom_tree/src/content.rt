@@ -7,7 +7,7 @@ use crate::attributes::Attributes;
 use js_core::Units;
 
 /// What kind of node it is (DOM Level 2 Core, interface Node), with what only nodes of this kind have.
-#[derive(Debug, Drop)]
+#[derive(Drop)]
 pub enum Kind {
     Document,
     /// An element, by its name, which is in lower case.
@@ -17,7 +17,7 @@ pub enum Kind {
 }
 
 /// A node without its place in a tree.
-#[derive(Debug, Drop)]
+#[derive(Drop)]
 pub struct Content {
     pub kind: Kind,
     /// The attributes of an element, in order of first setting.

@@ -3,7 +3,7 @@
 use js_core::Failure;
 
 /// What is wrong with what a call on nodes was asked (DOM Level 2 Core, section 1.2, DOMException).
-#[derive(Clone, Copy, Debug, PartialEq, Eq)]
+#[derive(Clone, Copy, PartialEq, Eq)]
 pub enum DomError {
     /// HIERARCHY_REQUEST_ERR: the child may not stand under the parent.
     Hierarchy,

@@ -8,7 +8,7 @@ use crate::content::Content;
 use js_values::NodeId;
 
 /// The parent of a node, its first and its last child, and the nodes beside it under its parent.
-#[derive(Clone, Copy, Debug)]
+#[derive(Clone, Copy)]
 pub struct Links {
     pub parent: Option<NodeId>,
     pub first: Option<NodeId>,
@@ -18,7 +18,7 @@ pub struct Links {
 }
 
 /// A node with its links. They are made with the node, so that to change them takes no memory.
-#[derive(Debug, Drop)]
+#[derive(Drop)]
 pub struct Linked {
     pub content: Content,
     pub links: Links,

@@ -10,7 +10,7 @@ use js_core::Units;
 use js_values::NodeId;
 
 /// A step of a walk: a node is entered before the nodes under it, and left after them.
-#[derive(Clone, Copy, Debug)]
+#[derive(Clone, Copy)]
 pub(crate) enum Visit {
     Enter(NodeId),
     Leave(NodeId),

@@ -11,7 +11,7 @@ use js_values::Throw;
 pub type HeapFault = Failure<Throw>;
 
 /// What was asked of a property where it is rejected.
-#[derive(Clone, Copy, Debug, PartialEq, Eq)]
+#[derive(Clone, Copy, PartialEq, Eq)]
 pub enum Refused {
     Put,
     Define,

@@ -62,7 +62,7 @@ pub enum Class {
 }
 
 /// The parts of an event.
-#[derive(Debug, Drop)]
+#[derive(Drop)]
 pub struct EventParts {
     /// Its type.
     pub kind: Units,

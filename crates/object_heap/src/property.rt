@@ -7,7 +7,7 @@ use js_core::OutOfMemory;
 use js_values::Value;
 
 /// A property with its attributes (ECMA-262 5.1 section 8.6.1). There are no accessors.
-#[derive(Debug, PartialEq, Eq, Drop)]
+#[derive(PartialEq, Eq, Drop)]
 pub struct Prop {
     pub value: Value,
     pub writable: bool,
@@ -67,7 +67,7 @@ impl Prop {
 
 /// What a property is to become: a value for each attribute that is to change or that a new property is to have
 /// (a property descriptor, ECMA-262 5.1 section 8.10).
-#[derive(Debug, Drop)]
+#[derive(Drop)]
 pub struct Change {
     pub value: Option<Value>,
     pub writable: Option<bool>,

@@ -34,7 +34,7 @@ impl From<OutOfMemory> for KeeperFault {
 }
 
 /// A row without its bytes.
-#[derive(Debug, Drop)]
+#[derive(Drop)]
 pub struct KeptName {
     /// The name, as UTF-16.
     pub name: Units,

@@ -5,7 +5,7 @@ ghost use Rattle.scope_analysis.specs.EarlyRules.{rule_number};
 
 /// A rule that a script is refused by before it runs, in the order of their numbers. The sections are those of ECMA-262
 /// 5.1; a rule without one is this program's own.
-#[derive(Clone, Copy, Debug, PartialEq, Eq)]
+#[derive(Clone, Copy, PartialEq, Eq)]
 pub enum EarlyRule {
     /// Two formals of a function have one name (section 13.1).
     RepeatedFormal,

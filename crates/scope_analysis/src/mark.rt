@@ -3,7 +3,7 @@
 use js_core::Units;
 
 /// What makes a scope.
-#[derive(Clone, Copy, Debug, PartialEq, Eq)]
+#[derive(Clone, Copy, PartialEq, Eq)]
 pub enum ScopeKind {
     /// A function expression.
     Expression,
@@ -14,7 +14,7 @@ pub enum ScopeKind {
 }
 
 /// What is done with a name.
-#[derive(Clone, Copy, Debug, PartialEq, Eq)]
+#[derive(Clone, Copy, PartialEq, Eq)]
 pub enum UseKind {
     /// It is read, called, or taken by an operator.
     Read,

@@ -6,7 +6,7 @@ ghost use Rattle.scope_analysis.specs.Identifiers as spec;
 use js_core::Units;
 
 /// What is asked of a name.
-#[derive(Clone, Copy, Debug, PartialEq, Eq)]
+#[derive(Clone, Copy, PartialEq, Eq)]
 pub enum NameTest {
     /// It is `eval` or `arguments`.
     IsRestricted,

@@ -1,7 +1,7 @@
 //! The tests that the nodes of a tree are put to.
 
 /// What is asked of a node.
-#[derive(Clone, Copy, Debug, PartialEq, Eq)]
+#[derive(Clone, Copy, PartialEq, Eq)]
 pub enum NodeTest {
     /// A function, two of whose formals have one name.
     RepeatsFormal,

@@ -17,7 +17,7 @@ use js_core::{OutOfMemory, Units};
 use std::alloc::Global;
 
 /// The innermost open scope that declares a name.
-#[derive(Clone, Copy, Debug, PartialEq, Eq)]
+#[derive(Clone, Copy, PartialEq, Eq)]
 pub struct Binding {
     /// The number of the scope.
     pub scope: usize,

@@ -3,7 +3,7 @@
 use js_values::ObjId;
 
 /// A live timer.
-#[derive(Clone, Copy, Debug, PartialEq, Eq)]
+#[derive(Clone, Copy, PartialEq, Eq)]
 pub struct Live {
     /// The number by which a page knows the timer, above 0.
     pub id: u32,
