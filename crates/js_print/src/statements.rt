@@ -60,7 +60,13 @@ fn push_statement(statement: &Stmt, out: &mut Vec<Lexeme>) -> Result<(), OutOfMe
         StmtNode::If(parts) => push_if(&parts.test, parts.first.as_slice(), &parts.second, out),
         StmtNode::Do(body, test) => push_do(body.as_slice(), test, out),
         StmtNode::While(test, body) => push_while(test, body.as_slice(), out),
-        StmtNode::For(parts) => push_for(&parts.init, &parts.test, &parts.step, parts.body.as_slice(), out),
+        StmtNode::For(parts) => push_for(
+            &parts.init,
+            &parts.test,
+            &parts.step,
+            parts.body.as_slice(),
+            out,
+        ),
         StmtNode::ForIn {
             declared,
             target,

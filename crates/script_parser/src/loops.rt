@@ -25,7 +25,10 @@ impl<I: Inside> Statements<I> {
         let test = self.condition(tokens)?;
         ended(tokens, Ending::AfterAll)?;
         let body = body_of(self.grammar.alloc, repeated)?;
-        node(StmtNode::Do(body, Box::new(self.grammar.alloc, test)?), tokens)
+        node(
+            StmtNode::Do(body, Box::new(self.grammar.alloc, test)?),
+            tokens,
+        )
     }
 
     /// Reads what stands behind `while`.
@@ -38,6 +41,9 @@ impl<I: Inside> Statements<I> {
         let test = self.condition(tokens)?;
         let repeated = self.statement(tokens)?;
         let body = body_of(self.grammar.alloc, repeated)?;
-        node(StmtNode::While(Box::new(self.grammar.alloc, test)?, body), tokens)
+        node(
+            StmtNode::While(Box::new(self.grammar.alloc, test)?, body),
+            tokens,
+        )
     }
 }

@@ -110,7 +110,10 @@ impl<I: Inside> Statements<I> {
         if !has_one_default(cases.as_slice()) {
             return Err(ParseFault::Cause(NotScript));
         }
-        node(StmtNode::Switch(Box::new(self.grammar.alloc, value)?, cases), tokens)
+        node(
+            StmtNode::Switch(Box::new(self.grammar.alloc, value)?, cases),
+            tokens,
+        )
     }
 
     /// Reads what stands behind `switch`.
