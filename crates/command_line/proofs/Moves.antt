@@ -17,7 +17,7 @@ use Rattle.page_meaning.specs.Store.{Store}
 use Rattle.page_writer.specs.Page.{saved_page}
 use Rattle.page_writer.specs.Sizes.{text_limit, things_limit}
 use Rattle.rebuilding.specs.Laws.{LoadsWithin}
-use Rattle.scope_analysis.specs.Form.{in_form}
+use Rattle.script_rules.specs.Form.{in_form}
 use Rattle.command_line.specs.Moving.{CanBeSaved}
 use Rattle.command_line.specs.Page.{Page, Accepts, opened}
 use Rattle.command_line.specs.Saving.{GoesOn, IsTooMuch, MovesTo}

@@ -13,9 +13,9 @@ use Rattle.page_check.specs.declared.page.Kind.{Kind}
 use Rattle.page_check.specs.declared.page.Kind.TheVariants.{Plain, Form}
 use Rattle.page_rest.specs.Laws.{IsInForm}
 use Rattle.printed_pages.proofs.Callers.{accepted_scripts_have_syntax}
-use Rattle.scope_analysis.proofs.Callers.{has_no_high_function}
-use Rattle.scope_analysis.specs.Form.{has_high_function, in_form}
-use Rattle.scope_analysis.specs.Limits.{form_height_limit, plain_height_limit}
+use Rattle.script_rules.proofs.Callers.{has_no_high_function}
+use Rattle.script_rules.specs.Form.{has_high_function, in_form}
+use Rattle.early_rules.specs.Limits.{form_height_limit, plain_height_limit}
 use Rattle.moved_pages.specs.Moved.{AcceptedScriptsAreInForm}
 
 low_of : (kind : Kind) (script : tree.Stmts) → is_too_deep kind script ≡ false → stmts_height script ≤ form_height_limit

@@ -17,7 +17,7 @@ use Rattle.page_writer.specs.Sizes.{text_limit, things_limit}
 use Rattle.rebuild_plan.specs.Compact.{compact}
 use Rattle.rebuild_plan.specs.Plan.{plan}
 use Rattle.rebuilding.specs.Laws.{LoadsWithin}
-use Rattle.scope_analysis.specs.Form.{in_form}
+use Rattle.script_rules.specs.Form.{in_form}
 
 -- scripts of form pages, after whose events these things can be reached; what they write can be written, and they and their text are no more
 -- than a saved page may have

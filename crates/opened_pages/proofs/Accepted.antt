@@ -17,8 +17,8 @@ use Rattle.page_check.proofs.Callers.{one_page_script}
 use Rattle.page_check.specs.Accept.{IsAcceptedAs, IsPageScript, text_of}
 use Rattle.page_check.specs.declared.page.Kind.TheVariants.{Plain, Form}
 use Rattle.printed_pages.specs.Printed.{AcceptedScriptsBeginStrict, AcceptedScriptsHaveSyntax, PrintedScriptsAreAccepted, framed}
-use Rattle.scope_analysis.specs.Form.{has_reserved_name}
-use Rattle.scope_analysis.specs.Limits.{plain_height_limit}
+use Rattle.script_rules.specs.Form.{has_reserved_name}
+use Rattle.early_rules.specs.Limits.{plain_height_limit}
 use Rattle.opened_pages.specs.Opened.{OpenedPagesAreAccepted, opened_text}
 
 -- ---- directives stay where they are

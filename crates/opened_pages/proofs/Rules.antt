@@ -11,9 +11,9 @@ use Rattle.instrumenter.specs.Opening.{open_from, open_script}
 use Rattle.js_grammar.specs.Syntax.{IsSyntax}
 use Rattle.page_check.specs.Rules.{AllKeepRules, KeepsRules}
 use Rattle.page_check.specs.declared.page.Kind.TheVariants.{Form, Plain}
-use Rattle.scope_analysis.specs.Form.{has_high_function, has_reserved_name}
-use Rattle.scope_analysis.specs.FormScripts.{IsFormPageScript}
-use Rattle.scope_analysis.specs.Limits.{form_height_limit, plain_height_limit}
+use Rattle.script_rules.specs.Form.{has_high_function, has_reserved_name}
+use Rattle.script_rules.specs.FormScripts.{IsFormPageScript}
+use Rattle.early_rules.specs.Limits.{form_height_limit, plain_height_limit}
 
 low_of : (script : tree.Stmts) → KeepsRules Plain script → stmts_height script ≤ plain_height_limit
 low_of script keeps = ltb-false plain_height_limit (stmts_height script) keeps.low

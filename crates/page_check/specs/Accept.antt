@@ -9,7 +9,7 @@ use Rattle.js_core.specs.declared.token.Token.{Token}
 use Rattle.js_grammar.specs.Scripts.{ScriptOf, height_limit}
 use Rattle.js_lexer.specs.Directives.{IsStrict}
 use Rattle.js_lexer.specs.Tokens.{Tokens}
-use Rattle.scope_analysis.specs.EarlyRules.{early_rule}
+use Rattle.early_rules.specs.EarlyRules.{early_rule}
 pub use Rattle.page_check.specs.Rules.{Page, is_too_deep, keeps_form}
 use Rattle.js_core.specs.declared.memory.Failure.{Failure}
 use Rattle.js_core.specs.declared.memory.Failure.TheVariants.{Cause, OutOfMemory}

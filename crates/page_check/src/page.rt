@@ -4,8 +4,8 @@ ghost use Rattle.std.specs.Prelude.{◌≡◌};
 ghost use Rattle.page_check.specs.Rules.{AllKeepRules};
 
 use dom_tree::Dom;
+use early_rules::EarlyRule;
 use js_core::{Failure, Script};
-use scope_analysis::EarlyRule;
 use std::marker::Model;
 
 /// What a page is.

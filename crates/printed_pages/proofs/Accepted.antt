@@ -13,9 +13,9 @@ use Rattle.js_print.specs.Printing.{script_text}
 use Rattle.js_print.specs.ReadAgain.{ReadAgain, ScriptsAreReadAgain, begins_strict}
 use Rattle.page_check.specs.Accept.{IsPageScript, IsRead, IsStrictScript, is_too_deep}
 use Rattle.page_check.specs.declared.page.Kind.TheVariants.{Form}
-use Rattle.scope_analysis.specs.Form.{has_high_function}
-use Rattle.scope_analysis.specs.FormScripts.{IsFormPageScript}
-use Rattle.scope_analysis.specs.Limits.{form_height_limit}
+use Rattle.script_rules.specs.Form.{has_high_function}
+use Rattle.script_rules.specs.FormScripts.{IsFormPageScript}
+use Rattle.early_rules.specs.Limits.{form_height_limit}
 use Rattle.printed_pages.specs.Printed.{FramedScriptsAreAccepted, PrintedScriptsAreAccepted}
 use Rattle.printed_pages.proofs.Frames.{framed_is_utf8, is_framed}
 

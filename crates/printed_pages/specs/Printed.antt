@@ -10,7 +10,7 @@ use Rattle.page_check.specs.Accept.{IsAcceptedAs}
 use Rattle.page_check.specs.Frame.{body_text}
 use Rattle.page_check.specs.declared.page.Kind.{Kind}
 use Rattle.page_check.specs.declared.page.Kind.TheVariants.{Form}
-use Rattle.scope_analysis.specs.FormScripts.{IsFormPageScript}
+use Rattle.script_rules.specs.FormScripts.{IsFormPageScript}
 
 -- what stands before the text of a form page's script, with an empty body or none, and what stands behind it
 abbrev pub page_front : Bool → List ℕ
