@@ -51,7 +51,8 @@ accepted_as bytes nodes texts scripts kind read are = record {
 
 -- ---- in the frame of a saved page
 
-abbrev ScriptPages : Type 0
+-- a page round one script is read as such
+abbrev pub ScriptPages : Type 0
 ScriptPages =
     (bytes : List ℕ) (with_body : Bool) (script : List ℕ) → IsUtf8 bytes → IsScriptPage (with_line_feeds (utf16_of bytes)) with_body script
     → IsReadAs bytes (script_page with_body) (script ∷ [])

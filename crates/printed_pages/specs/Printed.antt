@@ -43,11 +43,15 @@ page_back = codes "</script></html>"
 abbrev pub framed : List ℕ → List ℕ
 framed text = page_front ++ (text ++ page_back)
 
+-- the page that it is with this script
+abbrev pub framed_page : tree.Stmts → Page
+framed_page script = form_page (script_page false) (script ∷ [])
+
 -- where the text is read again as what a form page asks of a script, and this begins with the strict directive, it is accepted in this frame
 abbrev pub FramedScriptsAreAccepted : Type 0
 FramedScriptsAreAccepted =
     (script : tree.Stmts) (text : List ℕ) → IsFormPageScript script → IsTrue (begins_strict script) → LinedAgain script text
-    → IsAccepted (framed text) (form_page (script_page false) (script ∷ []))
+    → IsAccepted (framed text) (framed_page script)
 
 -- ---- the scripts of accepted pages
 
