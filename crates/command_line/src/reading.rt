@@ -1,7 +1,7 @@
 //! Reading the files of a command.
 
 ghost use Rattle.std.specs.Prelude.{◌≡◌, ℕ, true, List, IfOk, IfErr};
-ghost use Rattle.page_check.specs.Accept.{IsAcceptedAt, IsRefused};
+ghost use Rattle.page_check.specs.Accept.{IsAccepted, IsAcceptedAt, IsRefused};
 ghost use Rattle.command_line.specs.Bare.{IsBareAs, IsNotRun, is_bare};
 ghost use Rattle.command_line.specs.Opening.{IsOpened, OpensTo};
 ghost use Rattle.command_line.specs.Page.{IsPage};
@@ -84,6 +84,29 @@ fn is_bare(alloc: Global, page: &CheckedPage) -> Result<bool, OutOfMemory>
     Ok(Units::of(alloc, text.as_slice())?.is_among(BARE_TEXTS))
 }
 
+// Accepts the page of these bytes, without where its parts stand.
+fn accept_page(alloc: Global, bytes: &[u8]) -> Result<CheckedPage, Status>
+    ensures ok { IfOk result (IsAccepted bytes.now) }
+    ensures stops { IfErr result (IsUntaken IsRefused bytes.now) }
+{
+    match accept_bytes(alloc, bytes) {
+        Ok(accepted) => Ok(accepted.into_page()),
+        Err(status) => Err(status),
+    }
+}
+
+// The same of a page that can be run.
+fn accept_bare_page(alloc: Global, bytes: &[u8]) -> Result<CheckedPage, Status>
+    ensures ok { IfOk result (IsAccepted bytes.now) }
+    ensures bare { IfOk result (λ page. is_bare page.nodes ≡ true) }
+    ensures stops { IfErr result (IsUntaken IsNotRun bytes.now) }
+{
+    match accept_bare(alloc, bytes) {
+        Ok(accepted) => Ok(accepted.into_page()),
+        Err(status) => Err(status),
+    }
+}
+
 /// Reads and accepts a page.
 pub fn read_page<F: Files>(alloc: Global, files: &mut F, name: &str) -> Result<CheckedPage, Status>
     ensures ok { IfOk result (λ page. Of ((F.seen files.old).content name.now)
@@ -97,10 +120,7 @@ pub fn read_page<F: Files>(alloc: Global, files: &mut F, name: &str) -> Result<C
         Ok(bytes) => bytes,
         Err(status) => return Err(status),
     };
-    match accept_bytes(alloc, &bytes) {
-        Ok(accepted) => Ok(accepted.into_page()),
-        Err(status) => Err(status),
-    }
+    accept_page(alloc, &bytes)
 }
 
 /// Reads and accepts a page that can be run.
@@ -117,10 +137,7 @@ pub fn read_bare<F: Files>(alloc: Global, files: &mut F, name: &str) -> Result<C
         Ok(bytes) => bytes,
         Err(status) => return Err(status),
     };
-    match accept_bare(alloc, &bytes) {
-        Ok(accepted) => Ok(accepted.into_page()),
-        Err(status) => Err(status),
-    }
+    accept_bare_page(alloc, &bytes)
 }
 
 // The text of the page of these bytes with opened scopes.
