@@ -1,5 +1,7 @@
 pub mod Calls
 pub mod Chains
+pub mod Emptying
+pub mod Enough
 pub mod First
 pub mod Generations
 pub mod Kept
@@ -9,7 +11,10 @@ pub mod Moves
 pub mod Named
 pub mod Neighbours
 pub mod Proper
+pub mod Replacing
 pub mod Shown
+pub mod Stays
+pub mod Taken
 pub mod Texts
 pub mod Trees
 pub mod Upheld
