@@ -1,11 +1,13 @@
 -- More generations than there are nodes change nothing.
-use Rattle.std.proofs.Common.{◌≡◌, refl, sym, ap, ◌∙◌, ℕ, zero, suc, ◌<◌, ◌≤◌, ◌||◌, Bool, true, nat_eq, List, [], ◌∷◌, Option, Some, None, length, arith}
+use Rattle.std.proofs.Common.{◌≡◌, refl, sym, ap, ◌∙◌, ℕ, zero, suc, ◌+◌, ◌-◌, ◌<◌, ◌≤◌, ◌||◌, Bool, true, false, nat_eq, List, [], ◌∷◌, ◌++◌, append_assoc, subst, Option, Some, None, length, arith}
+use Rattle.std.proofs.lemmas.Bool.{eqb-true}
 use Rattle.js_values.specs.declared.ids.NodeId.{NodeId}
 use Rattle.dom_tree.specs.Change.{is_above_within, of_parent}
 use Rattle.dom_tree.specs.Laws.{GenerationsAreEnough}
-use Rattle.dom_tree.specs.Node.{AreThere, Nodes, above_within, parent_at}
+use Rattle.dom_tree.specs.Node.{AreThere, Nodes, above_within, has, parent_at}
 use Rattle.dom_tree.specs.Sound.{AreTrees, Rooted}
 use Rattle.dom_tree.proofs.Generations.{Deep, parent_depth, stable}
+use Rattle.dom_tree.proofs.Lists.{has_tail}
 use Rattle.dom_tree.proofs.Trees.{depth, depth_below}
 
 same_above : (o : Option NodeId) (f g : ℕ → Bool) → ((p : NodeId) → o ≡ Some p → f p.0 ≡ g p.0) → of_parent o f ≡ of_parent o g
@@ -58,3 +60,22 @@ generations_are_enough t n a many = record {
   is_above = λ x k k_in. let r : Rooted t k = a.rooted k in let low : depth r < length t = depth_below t a k r k_in in above_stable t a x n (length t) k r (omega (arith, low, many)) low;
   above = λ k k_in. let r : Rooted t k.0 = a.rooted k.0 in let low : depth r < length t = depth_below t a k.0 r k_in in line_stable t a n (length t) k.0 r (omega (arith, low, many)) (omega (arith, low));
 }
+
+-- ---- the line up, one node after another
+
+pub line_step : (t : Nodes) (n i : ℕ) (xs : List NodeId) (p : NodeId) → i < n → (xs ++ p ∷ []) ++ above_within t (n - (i + 1)) (parent_at t p.0) ≡ xs ++ above_within t (n - i) (Some p)
+line_step t n i xs p h =
+    let less : n - i ≡ suc (n - (i + 1)) = omega (arith, h) in
+    append_assoc xs (p ∷ []) (above_within t (n - (i + 1)) (parent_at t p.0)) ∙ ap (λ m. xs ++ above_within t m (Some p)) (sym less)
+
+pub there_too : (t : Nodes) (l : List NodeId) (p : NodeId) → AreThere t l → p.0 < length t → AreThere t (l ++ p ∷ [])
+there_too t [] p there h c i = by (nat_eq c.0 p.0) refl i
+  where
+    by : (b : Bool) → nat_eq c.0 p.0 ≡ b → b || false ≡ true → c.0 < length t
+    by true e j = subst (λ k. k < length t) (sym (eqb-true c.0 p.0 e)) h
+    by false e j = cc
+there_too t (d ∷ l) p there h c i = by (nat_eq c.0 d.0) refl i (λ j. there_too t l p (λ e k. there e (has_tail e d l k)) h c j)
+  where
+    by : (b : Bool) → nat_eq c.0 d.0 ≡ b → b || has c.0 (l ++ p ∷ []) ≡ true → (has c.0 (l ++ p ∷ []) ≡ true → c.0 < length t) → c.0 < length t
+    by true e j later = there c (ap (λ b. b || has c.0 l) e)
+    by false e j later = later j

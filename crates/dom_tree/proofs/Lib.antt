@@ -1,3 +1,4 @@
+pub mod Callers
 pub mod Calls
 pub mod Chains
 pub mod Emptying
@@ -5,6 +6,7 @@ pub mod Enough
 pub mod First
 pub mod Generations
 pub mod Kept
+pub mod Kids
 pub mod Linking
 pub mod Lists
 pub mod Moves
