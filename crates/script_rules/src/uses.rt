@@ -20,7 +20,8 @@ ghost use Rattle.scope_analysis.specs.Uses as spec;
 use crate::scope_test::ScopeTest;
 use crate::scope_tests::{clause_scope_passes, declaration_scope_passes, expression_scope_passes};
 use js_core::{
-    Case, Catch, Code, Declarator, Expr, ExprNode, ForInit, OutOfMemory, Stmt, StmtNode, Units,
+    Case, Catch, Code, Declarator, Expr, ExprNode, For, ForInit, If, OutOfMemory, Stmt, StmtNode,
+    Try, Units,
 };
 use scope_analysis::{UseTable, note_leaving_clause, note_leaving_function, note_use};
 
@@ -63,15 +64,7 @@ fn note_statement(
         StmtNode::Function(code) => note_declaration(test, code, out),
         StmtNode::Expr(value) | StmtNode::Throw(value) => note_expression(test, value, out),
         StmtNode::Block(body) => note_statements(test, body.as_slice(), out),
-        StmtNode::If(parts) => {
-            note_if(
-                test,
-                &parts.test,
-                parts.first.as_slice(),
-                &parts.second,
-                out,
-            )
-        }
+        StmtNode::If(parts) => note_if(test, parts, out),
         StmtNode::Do(body, value) => {
             let in_body = note_statements(test, body.as_slice(), out)?;
             let in_value = note_expression(test, value, out)?;
@@ -82,14 +75,7 @@ fn note_statement(
             let in_body = note_statements(test, body.as_slice(), out)?;
             Ok(in_value || in_body)
         }
-        StmtNode::For(parts) => note_for(
-            test,
-            &parts.init,
-            &parts.test,
-            &parts.step,
-            parts.body.as_slice(),
-            out,
-        ),
+        StmtNode::For(parts) => note_for(test, parts, out),
         StmtNode::ForIn {
             declared: _,
             target,
@@ -97,58 +83,45 @@ fn note_statement(
             body,
         } => note_for_in(test, target, object, body.as_slice(), out),
         StmtNode::Return(value) => note_maybe_expression(test, value, out),
-        StmtNode::Try(parts) => {
-            note_try(test, parts.block.as_slice(), &parts.catch, &parts.last, out)
-        }
+        StmtNode::Try(parts) => note_try(test, parts, out),
         StmtNode::Switch(value, cases) => {
-            let in_value = note_expression(test, value, out)?;
+            let in_subject = note_expression(test, value, out)?;
             let in_cases = note_cases(test, cases.as_slice(), out)?;
-            Ok(in_value || in_cases)
+            Ok(in_subject || in_cases)
         }
     }
 }
 
 #[cycle(using_names)]
-fn note_if(
-    test: ScopeTest,
-    value: &Expr,
-    first: &[Stmt],
-    second: &Option<Vec<Stmt>>,
-    out: &mut UseTable,
-) -> Result<bool, OutOfMemory>
+fn note_if(test: ScopeTest, parts: &If, out: &mut UseTable) -> Result<bool, OutOfMemory>
     ensures uses { OnOk result (out.new ≡ noted out.old
-        (spec.stmt_uses (tree.if_else value.now (stmts_of first.now)
-        (maybe_stmts (option_map (λ v. v.items) second.now))))) }
+        (spec.stmt_uses (tree.if_else parts.now.test (stmts_of parts.now.first.items)
+        (maybe_stmts (option_map (λ v. v.items) parts.now.second))))) }
     ensures found { IfOk result (λ found. found
-        ≡ nodes.stmt_any (scope_passes test) (tree.if_else value.now (stmts_of first.now)
-        (maybe_stmts (option_map (λ v. v.items) second.now)))) }
+        ≡ nodes.stmt_any (scope_passes test) (tree.if_else parts.now.test
+        (stmts_of parts.now.first.items)
+        (maybe_stmts (option_map (λ v. v.items) parts.now.second)))) }
 {
-    let in_value = note_expression(test, value, out)?;
-    let in_first = note_statements(test, first, out)?;
-    let in_second = note_maybe_body(test, second, out)?;
+    let in_value = note_expression(test, &parts.test, out)?;
+    let in_first = note_statements(test, parts.first.as_slice(), out)?;
+    let in_second = note_maybe_body(test, &parts.second, out)?;
     Ok(in_value || in_first || in_second)
 }
 
 #[cycle(using_names)]
-fn note_for(
-    test: ScopeTest,
-    init: &ForInit,
-    condition: &Option<Expr>,
-    step: &Option<Expr>,
-    body: &[Stmt],
-    out: &mut UseTable,
-) -> Result<bool, OutOfMemory>
+fn note_for(test: ScopeTest, parts: &For, out: &mut UseTable) -> Result<bool, OutOfMemory>
     ensures uses { OnOk result (out.new ≡ noted out.old
-        (spec.stmt_uses (tree.for (init_of init.now) (maybe_expr condition.now)
-        (maybe_expr step.now) (stmts_of body.now)))) }
+        (spec.stmt_uses (tree.for (init_of parts.now.init) (maybe_expr parts.now.test)
+        (maybe_expr parts.now.step) (stmts_of parts.now.body.items)))) }
     ensures found { IfOk result (λ found. found
-        ≡ nodes.stmt_any (scope_passes test) (tree.for (init_of init.now) (maybe_expr condition.now)
-        (maybe_expr step.now) (stmts_of body.now))) }
+        ≡ nodes.stmt_any (scope_passes test) (tree.for (init_of parts.now.init)
+        (maybe_expr parts.now.test) (maybe_expr parts.now.step)
+        (stmts_of parts.now.body.items))) }
 {
-    let in_init = note_init(test, init, out)?;
-    let in_condition = note_maybe_expression(test, condition, out)?;
-    let in_step = note_maybe_expression(test, step, out)?;
-    let in_body = note_statements(test, body, out)?;
+    let in_init = note_init(test, &parts.init, out)?;
+    let in_condition = note_maybe_expression(test, &parts.test, out)?;
+    let in_step = note_maybe_expression(test, &parts.step, out)?;
+    let in_body = note_statements(test, parts.body.as_slice(), out)?;
     Ok(in_init || in_condition || in_step || in_body)
 }
 
@@ -173,23 +146,17 @@ fn note_for_in(
 }
 
 #[cycle(using_names)]
-fn note_try(
-    test: ScopeTest,
-    block: &[Stmt],
-    catch: &Option<Catch>,
-    last: &Option<Vec<Stmt>>,
-    out: &mut UseTable,
-) -> Result<bool, OutOfMemory>
+fn note_try(test: ScopeTest, parts: &Try, out: &mut UseTable) -> Result<bool, OutOfMemory>
     ensures uses { OnOk result (out.new ≡ noted out.old
-        (spec.stmt_uses (tree.try (stmts_of block.now) (catch_of catch.now)
-        (maybe_stmts (option_map (λ v. v.items) last.now))))) }
+        (spec.stmt_uses (tree.try (stmts_of parts.now.block.items) (catch_of parts.now.catch)
+        (maybe_stmts (option_map (λ v. v.items) parts.now.last))))) }
     ensures found { IfOk result (λ found. found
-        ≡ nodes.stmt_any (scope_passes test) (tree.try (stmts_of block.now) (catch_of catch.now)
-        (maybe_stmts (option_map (λ v. v.items) last.now)))) }
+        ≡ nodes.stmt_any (scope_passes test) (tree.try (stmts_of parts.now.block.items)
+        (catch_of parts.now.catch) (maybe_stmts (option_map (λ v. v.items) parts.now.last)))) }
 {
-    let in_block = note_statements(test, block, out)?;
-    let in_catch = note_catch(test, catch, out)?;
-    let in_last = note_maybe_body(test, last, out)?;
+    let in_block = note_statements(test, parts.block.as_slice(), out)?;
+    let in_catch = note_catch(test, &parts.catch, out)?;
+    let in_last = note_maybe_body(test, &parts.last, out)?;
     Ok(in_block || in_catch || in_last)
 }
 

@@ -30,20 +30,30 @@ note_expressions-loop-rest-preserved t c = record {
 }
 
 pub note_statement-returns-in-If-clause-found : goal.note_statement-returns-in-If-clause-found
-note_statement-returns-in-If-clause-found t c = rw (← c.statement.view_is, c.in-If.is, ← c.as_slice-in-If.ensures.value) c.note_if.ensures.found
+note_statement-returns-in-If-clause-found t c = rw (← c.statement.view_is, c.in-If.is, ← c.deref-in-If.ensures) c.note_if.ensures.found
 
 pub note_statement-returns-else-in_body-clause-found : goal.note_statement-returns-else-in_body-clause-found
 note_statement-returns-else-in_body-clause-found t c =
-    rw (← c.statement.view_is, c.in-Do.is, ← c.as_slice-in-Do.ensures.value, ← c.in_ok-in_body-in-Do.ensures.found, c.if-in_body.false) c.in_ok-in_value-in-Do.ensures.found
+    rw (← c.statement.view_is, c.in-Do.is, ← c.as_slice-in-Do.ensures.value, ← c.deref-in-Do.ensures, ← c.in_ok-in_body-in-Do.ensures.found, c.if-in_body.false) c.in_ok-in_value-in-Do.ensures.found
+
+pub note_statement-returns-else-in_value-clause-found : goal.note_statement-returns-else-in_value-clause-found
+note_statement-returns-else-in_value-clause-found t c =
+    rw (← c.statement.view_is, c.in-While.is, ← c.deref-in-While.ensures, ← c.as_slice-in-While.ensures.value, ← c.in_ok-in_value-in-While.ensures.found, c.if-in_value.false)
+    c.in_ok-in_body-in-While.ensures.found
+
+pub note_statement-returns-else-in_subject-clause-found : goal.note_statement-returns-else-in_subject-clause-found
+note_statement-returns-else-in_subject-clause-found t c =
+    rw (← c.statement.view_is, c.in-Switch.is, ← c.deref-in-Switch.ensures, ← c.as_slice-in-Switch.ensures.value, ← c.in_ok-in_subject-in-Switch.ensures.found, c.if-in_subject.false)
+    c.in_ok-in_cases-in-Switch.ensures.found
 
 pub note_statement-returns-in-For-clause-found : goal.note_statement-returns-in-For-clause-found
-note_statement-returns-in-For-clause-found t c = rw (← c.statement.view_is, c.in-For.is, ← c.as_slice-in-For.ensures.value) c.note_for.ensures.found
+note_statement-returns-in-For-clause-found t c = rw (← c.statement.view_is, c.in-For.is, ← c.deref-in-For.ensures) c.note_for.ensures.found
 
 pub note_statement-returns-in-ForIn-clause-found : goal.note_statement-returns-in-ForIn-clause-found
-note_statement-returns-in-ForIn-clause-found t c = rw (← c.statement.view_is, c.in-ForIn.is, ← c.as_slice-in-ForIn.ensures.value) c.note_for_in.ensures.found
+note_statement-returns-in-ForIn-clause-found t c = rw (← c.statement.view_is, c.in-ForIn.is, ← c.deref-in-ForIn.ensures, ← c.deref-in-ForIn-2.ensures, ← c.as_slice-in-ForIn.ensures.value) c.note_for_in.ensures.found
 
 pub note_statement-returns-in-Try-clause-found : goal.note_statement-returns-in-Try-clause-found
-note_statement-returns-in-Try-clause-found t c = rw (← c.statement.view_is, c.in-Try.is, ← c.as_slice-in-Try.ensures.value) c.note_try.ensures.found
+note_statement-returns-in-Try-clause-found t c = rw (← c.statement.view_is, c.in-Try.is, ← c.deref-in-Try.ensures) c.note_try.ensures.found
 
 pub note_statements-loop-rest-preserved : goal.note_statements-loop-rest-preserved
 note_statements-loop-rest-preserved t c = record {

@@ -17,16 +17,16 @@ abbrev pub decreases-note_statement : goal.decreases-note_statement
 decreases-note_statement l = 3 * stmt_size l.statement.now
 
 abbrev pub decreases-note_if : goal.decreases-note_if
-decreases-note_if l = 3 * (expr_size l.value.now + stmts_size (stmts_of l.first.now) + maybe_stmts_size (maybe_stmts (option_map (λ v. v.items) l.second.now))) + 1
+decreases-note_if l = 3 * (expr_size l.parts.now.test + stmts_size (stmts_of l.parts.now.first.items) + maybe_stmts_size (maybe_stmts (option_map (λ v. v.items) l.parts.now.second))) + 1
 
 abbrev pub decreases-note_for : goal.decreases-note_for
-decreases-note_for l = 3 * (for_init_size (init_of l.init.now) + maybe_expr_size (maybe_expr l.condition.now) + maybe_expr_size (maybe_expr l.step.now) + stmts_size (stmts_of l.body.now)) + 1
+decreases-note_for l = 3 * (for_init_size (init_of l.parts.now.init) + maybe_expr_size (maybe_expr l.parts.now.test) + maybe_expr_size (maybe_expr l.parts.now.step) + stmts_size (stmts_of l.parts.now.body.items)) + 1
 
 abbrev pub decreases-note_for_in : goal.decreases-note_for_in
 decreases-note_for_in l = 3 * (expr_size l.target.now + expr_size l.object.now + stmts_size (stmts_of l.body.now)) + 2
 
 abbrev pub decreases-note_try : goal.decreases-note_try
-decreases-note_try l = 3 * (stmts_size (stmts_of l.block.now) + maybe_catch_size (catch_of l.catch.now) + maybe_stmts_size (maybe_stmts (option_map (λ v. v.items) l.last.now))) + 1
+decreases-note_try l = 3 * (stmts_size (stmts_of l.parts.now.block.items) + maybe_catch_size (catch_of l.parts.now.catch) + maybe_stmts_size (maybe_stmts (option_map (λ v. v.items) l.parts.now.last))) + 1
 
 abbrev pub decreases-note_maybe_body : goal.decreases-note_maybe_body
 decreases-note_maybe_body l = 3 * maybe_stmts_size (maybe_stmts (option_map (λ v. v.items) l.body.now))
