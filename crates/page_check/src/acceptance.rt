@@ -28,8 +28,11 @@ pub struct Accepted {
 
 impl Model for Accepted {
     ghost use Rattle.page_check.specs.Accept.{AcceptedPage};
+    ghost use Rattle.page_check.specs.CodedAccepted.{coded_accepted};
 
     ghost Value = { AcceptedPage };
+
+    ghost coded = { coded_accepted };
 
     ghost view = { λ a. record { page = a.page; start = a.start; places = a.places.items } };
 }
