@@ -78,9 +78,9 @@ line_feed_units (u ∷ us) h =
   where
     by : (a b : Bool) → is_unit u ≡ true → are_units (with_line_feeds us) ≡ true
         → are_units (cond a (with_line_feeds us) (cond b 10 u ∷ with_line_feeds us)) ≡ true
-    by true b here more = more
-    by false true here more = more
-    by false false here more = and_from (is_unit u) (are_units (with_line_feeds us)) here more
+    by true b here later = later
+    by false true here later = later
+    by false false here later = and_from (is_unit u) (are_units (with_line_feeds us)) here later
 
 unmarked_units : (us : Text) → are_units us ≡ true → are_units (without_mark us) ≡ true
 unmarked_units [] h = refl
