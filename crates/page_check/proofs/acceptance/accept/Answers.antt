@@ -6,12 +6,12 @@ pub returns-in_err-scripts-clause-refused : goal.returns-in_err-scripts-clause-r
 returns-in_err-scripts-clause-refused c =
     search (
       rules,
-      not_accepted c.args.bytes.now c.kind_of.result c.in_ok-found.found.dom c.in_ok-found.found.scripts.items c.in_err-scripts.field-0.0 c.kind_of.ensures
+      not_accepted c.args.bytes.now c.kind_of-kind.result c.in_ok-found.found.dom c.in_ok-found.found.scripts.items c.in_err-scripts.field-0.0 c.kind_of-kind.ensures
           c.in_ok-found.ensures.read c.in_err-scripts.ensures.refused,
     )
 
 pub returns-clause-ok : goal.returns-clause-ok
 returns-clause-ok c =
-    rw c.new.ensures (accepted_at c.args.bytes.now c.kind_of.result c.in_ok-found.found.dom c.in_ok-found.found.scripts.items c.in_ok-scripts.scripts.items
-    c.in_ok-found.found.start c.in_ok-places.places.items c.kind_of.ensures c.in_ok-found.ensures.read c.in_ok-found.ensures.start c.in_ok-places.ensures
+    rw c.new.ensures (accepted_at c.args.bytes.now c.kind_of-kind.result c.in_ok-found.found.dom c.in_ok-found.found.scripts.items c.in_ok-scripts.scripts.items
+    c.in_ok-found.found.start c.in_ok-places.places.items c.kind_of-kind.ensures c.in_ok-found.ensures.read c.in_ok-found.ensures.start c.in_ok-places.ensures
     c.in_ok-scripts.ensures.ok)
