@@ -10,8 +10,10 @@ mod nodes;
 mod path;
 mod reading;
 mod timing;
+mod writing;
 
 pub use host::PageHost;
 pub use host_name::HostName;
 pub use listener::Listener;
 pub use path::{Phase, Place};
+pub use writing::{folds_to_handler, is_handler};
