@@ -1,0 +1,4 @@
+mod Made
+mod Names
+mod Texts
+mod Times
