@@ -3,6 +3,7 @@
 
 mod host;
 mod host_name;
+mod laws;
 mod listener;
 mod listening;
 mod making;
@@ -14,6 +15,7 @@ mod writing;
 
 pub use host::PageHost;
 pub use host_name::HostName;
+pub use laws::law_hosts_stay_sound;
 pub use listener::Listener;
 pub use path::{Phase, Place};
 pub use writing::{folds_to_handler, is_handler};

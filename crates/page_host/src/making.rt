@@ -48,7 +48,8 @@ impl PageHost {
         object: ObjId,
     ) -> Result<NodeId, DomFault>
         ensures id { IfOk result (λ at. at.0 ≡ length self.old.nodes) }
-        ensures ok { OnOk result (self.new ≡ with_new_node self.old (kind.Text text.now) object) }
+        ensures ok { OnOk result (self.new ≡ with_new_node self.old
+            (kind.Text text.now) object) }
         ensures err { IfErr result (λ e. e ≡ fault.OutOfMemory) }
         ensures kept { OnErr result (self.new ≡ self.old) }
     {
@@ -66,7 +67,8 @@ impl PageHost {
         object: ObjId,
     ) -> Result<NodeId, DomFault>
         ensures id { IfOk result (λ at. at.0 ≡ length self.old.nodes) }
-        ensures ok { OnOk result (self.new ≡ with_new_node self.old (kind.Comment text.now) object) }
+        ensures ok { OnOk result (self.new ≡ with_new_node self.old
+            (kind.Comment text.now) object) }
         ensures err { IfErr result (λ e. e ≡ fault.OutOfMemory) }
         ensures kept { OnErr result (self.new ≡ self.old) }
     {
