@@ -1,6 +1,6 @@
 //! Timers of a page, and its clock.
 
-ghost use Rattle.std.specs.Prelude.{◌≡◌, ◌&&◌, ◌<◌, ◌≤◌, ◌^◌, is_none, length, nat_le, option_map, true, IfOk, OnOk, OnErr};
+ghost use Rattle.std.specs.Prelude.{◌≡◌, ◌&&◌, ◌<◌, ◌≤◌, ◌^◌, is_none, length, nat_le, not, option_map, true, IfOk, OnOk, OnErr};
 ghost use Rattle.std.specs.List.{list_any};
 ghost use Rattle.timer_queue.specs.Timers.{due_timers, first, is_due, least_free, timer_limit};
 ghost use Rattle.page_host.specs.Steps.{after_host, clears, clock_at, fires, is_period, next_timer, starts, time_limit};
@@ -41,6 +41,14 @@ impl PageHost {
         ensures { self.new ≡ after_host self.old (clears id) }
     {
         self.queue.clear(id);
+    }
+
+    /// Whether a timer is due at or before the moment.
+    #[tactic(auto, using(crate::proofs::Times::none_due_first))]
+    pub fn is_due(&self, moment: u64) -> bool
+        ensures { is_none (next_timer self.now moment) ≡ not result }
+    {
+        has_due(self.queue.live(), moment)
     }
 
     /// The first timer that is due at or before the moment comes due: a timeout is removed, an interval is put at the end,
