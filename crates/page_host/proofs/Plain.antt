@@ -1,11 +1,11 @@
 -- No attribute's name begins with `on`, whatever is done to nodes.
-use Rattle.std.proofs.Common.{◌≡◌, ℕ, zero, suc, Bool, true, false, ◌&&◌, cond, not, List, [], ◌∷◌, ◌++◌, Option, Some, None, nat_eq, bytes_eq, slice_set, if◌then◌else◌, refl, sym, ap, ◌∙◌}
+use Rattle.std.proofs.Common.{◌≡◌, ℕ, zero, suc, Bool, true, false, cond, not, List, [], ◌∷◌, Option, Some, None, nat_eq, bytes_eq, slice_set, if◌then◌else◌, refl}
 use Rattle.std.proofs.lemmas.Bool.{and_from, and_parts}
 use Rattle.std.specs.List.{list_all}
 use Rattle.js_core.specs.Text.{Text}
 use Rattle.js_values.specs.declared.ids.NodeId.{NodeId}
 use Rattle.dom_tree.specs.Attributes.{Pairs, with_value_of, without_value_of}
-use Rattle.dom_tree.specs.Change.{all_taken_out, inserted, put_before, put_for, put_under, replaced, taken_from, taken_out, without}
+use Rattle.dom_tree.specs.Change.{all_taken_out, put_before, put_for, put_under, taken_from, taken_out, without}
 use Rattle.dom_tree.specs.Content.{new_content}
 use Rattle.dom_tree.specs.declared.content.Kind.{Kind}
 use Rattle.dom_tree.specs.Name.{folded}

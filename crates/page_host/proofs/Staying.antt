@@ -1,5 +1,5 @@
 -- A host stays sound, whatever is done to it.
-use Rattle.std.proofs.Common.{◌≡◌, ℕ, suc, ◌+◌, ◌<◌, ◌≤◌, Bool, true, false, ◌&&◌, not, List, [], ◌∷◌, ◌++◌, Option, Some, None, length, length-append, max, nat_le, nat_lt, if◌then◌else◌, refl, sym, ap, subst, ◌∙◌, arith}
+use Rattle.std.proofs.Common.{◌≡◌, ℕ, ◌+◌, ◌<◌, ◌≤◌, Bool, true, false, ◌&&◌, not, List, [], ◌∷◌, ◌++◌, Option, Some, None, length, length-append, max, nat_le, nat_lt, if◌then◌else◌, refl, sym, subst, ◌∙◌, arith}
 use Rattle.std.proofs.lemmas.Bool.{and_parts, not-true}
 use Rattle.std.proofs.lemmas.Bool.Decides.{nat_tests}
 use Rattle.std.proofs.lemmas.List.Elements.{All-filter, All-nil, All-push}
@@ -10,16 +10,15 @@ use Rattle.dom_tree.proofs.Callers.{new_nodes_stay_sound, steps_stay_sound}
 use Rattle.dom_tree.specs.declared.content.Kind.{Kind}
 use Rattle.dom_tree.specs.Content.{new_content}
 use Rattle.dom_tree.specs.Node.{Nodes, is_document, with_new}
-use Rattle.dom_tree.specs.Sound as dom
 use Rattle.dom_tree.specs.Sound.{has_folded_name}
-use Rattle.dom_tree.specs.Steps.{NodeStep, after_node, is_there}
+use Rattle.dom_tree.specs.Steps.{NodeStep, after_node}
 use Rattle.timer_queue.proofs.Callers.{is_low, timers_stay_timely}
 use Rattle.timer_queue.specs.Laws.{HasDistinctIds, KeepsDistinctIds}
-use Rattle.timer_queue.specs.Timely.{AreTimely, IsPeriod, StayTimely}
-use Rattle.timer_queue.specs.Timers.{after_first, due_timers, first, timer_limit}
+use Rattle.timer_queue.specs.Timely.{AreTimely, IsPeriod}
+use Rattle.timer_queue.specs.Timers.{after_first, timer_limit}
 use Rattle.timer_queue.specs.declared.timer.Live.{Live}
 use Rattle.page_host.specs.declared.listener.Listener.{Listener}
-use Rattle.page_host.specs.Host.{Host, new_host, with_clock, with_listeners, with_node, with_nodes, with_timers}
+use Rattle.page_host.specs.Host.{Host, with_clock, with_listeners, with_node, with_nodes, with_timers}
 use Rattle.page_host.specs.Listeners.{is_registered, is_same_listener, with_listener, without_listener}
 use Rattle.page_host.specs.Sound.{AreDistinct, HostsStaySound, IsSound, NewHostsAreSound, NewNodesStaySound}
 use Rattle.page_host.specs.Steps.{HostStep, after_firing, after_fit, clears, clock_at, fires, forgets, in_nodes, is_fit, is_period, listens, may_be_made, may_be_set, next_timer, starts, time_limit}

@@ -1,11 +1,10 @@
 -- Moments stay in range, and the test of a clock that passes no timer.
-use Rattle.std.proofs.Common.{◌≡◌, ◌<◌, ◌≤◌, ◌^◌, ℕ, Bool, true, false, ◌&&◌, not, List, [], ◌∷◌, Option, Some, None, max, filter, nat_le, unwrap_or, if◌then◌else◌, refl, sym, ap, ◌∙◌, arith}
+use Rattle.std.proofs.Common.{◌≡◌, ◌<◌, ◌≤◌, ◌^◌, ℕ, Bool, true, false, not, List, [], ◌∷◌, Option, Some, None, nat_le, unwrap_or, if◌then◌else◌, refl, arith}
 use Rattle.std.proofs.lemmas.Bool.{and_parts}
-use Rattle.std.proofs.lemmas.Bool.Decides.{nat_tests}
 use Rattle.std.specs.List.{list_any}
 use Rattle.std.specs.Option.{is_none}
 use Rattle.timer_queue.proofs.Callers.{is_low, is_taken}
-use Rattle.timer_queue.specs.Timers.{before_later, clock_after, due_timers, first, in_order, is_due}
+use Rattle.timer_queue.specs.Timers.{before_later, clock_after, due_timers, first, is_due}
 use Rattle.timer_queue.specs.declared.timer.Live.{Live}
 use Rattle.page_host.specs.Steps.{is_period, time_limit}
 
