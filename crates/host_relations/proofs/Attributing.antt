@@ -36,7 +36,7 @@ last name v (a ∷ acc) h = by (bytes_eq a.0 name) refl h (last name v acc)
 -- ---- names that are not among those that were set
 
 -- each of the others is not among the first ones
-NoneAmong : Pairs → Pairs → Type 0
+abbrev NoneAmong : Pairs → Pairs → Type 0
 NoneAmong acc [] = Unit {0}
 NoneAmong acc (a ∷ as') = (value_of a.0 acc ≡ None) × NoneAmong acc as'
 
