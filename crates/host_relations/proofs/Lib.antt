@@ -14,6 +14,7 @@ pub mod NodePairs
 pub mod NodeReads
 pub mod NodeSteps
 pub mod Paths
+pub mod Registering
 pub mod Rehearing
 pub mod Restarts
 pub mod Steps

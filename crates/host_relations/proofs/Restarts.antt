@@ -4,10 +4,11 @@ use Rattle.std.proofs.lemmas.Bool.{or_parts}
 use Rattle.js_values.specs.declared.ids.ObjId.{ObjId}
 use Rattle.timer_queue.proofs.Callers.{cleared_frees, cleared_stays_free, is_least_free, is_other, is_same, other_id, same_id, swapped}
 use Rattle.timer_queue.specs.Laws.{HasDistinctIds, IsLeastFree}
+use Rattle.timer_queue.specs.Timely.{AreTimely}
 use Rattle.timer_queue.specs.Timers.{cleared, is_live, least_free, started}
 use Rattle.timer_queue.specs.declared.timer.Live.{Live}
 use Rattle.heap_relations.specs.Related.{each, no_more}
-use Rattle.host_relations.specs.Restart.{AreAhead, filled, greatest, moved_timer, moved_timers, restarted, unfilled}
+use Rattle.host_relations.specs.Restart.{filled, greatest, moved_timer, moved_timers, restarted, unfilled}
 use Rattle.host_relations.specs.TimerLaws.{RebuiltTimersAgree, TimersAreRebuilt}
 
 -- ---- ids
@@ -223,19 +224,19 @@ dropped_frees (t ∷ ts) us k live = by (t.id == k) refl live (dropped_frees ts 
     by true e h later = dropped_free ts (cleared us t.id) k (subst (λ i. is_live (cleared us t.id) i ≡ false) (same_id t.id k e) (cleared_frees us t.id))
     by false e h later = later h
 
-within : (clock n : ℕ) (ts : List Live) → AreAhead clock ts → greatest ts ≤ n → AreWithin n ts
-within clock n [] ahead small = tt
-within clock n (t ∷ ts) ahead small = (ahead.0, omega (arith, small), within clock n ts ahead.2 (omega (arith, small)))
+within : (limit clock n : ℕ) (ts : List Live) → AreTimely limit clock ts → greatest ts ≤ n → AreWithin n ts
+within limit clock n [] timely small = tt
+within limit clock n (t ∷ ts) timely small = ((timely t (inl refl)).id, omega (arith, small), within limit clock n ts (λ u i. timely u (inr i)) (omega (arith, small)))
 
 pub timers_are_rebuilt : TimersAreRebuilt
-timers_are_rebuilt clock moved filler ts distinct ahead =
+timers_are_rebuilt limit clock moved filler ts distinct timely =
     let n : ℕ = greatest ts in
     let begun : AreAll n (filled n filler []) = subst (λ i. AreAll i (filled n filler [])) (plain n) (all_filled n 0 filler [] none_yet) in
     let rest : List Live = dropped ts (filled n filler []) in
     let free : (k : ℕ) → is_live (unfilled n 1 ts rest) k ≡ false =
     λ k. by k n rest begun (order k (suc n)) (is_live ts k) refl
     in
-    ap (unfilled n 1 ts) (restarts clock moved n ts (filled n filler []) begun distinct (within clock n ts ahead (omega arith)))
+    ap (unfilled n 1 ts) (restarts clock moved n ts (filled n filler []) begun distinct (within limit clock n ts timely (omega arith)))
     ∙ unfilled_end n 1 ts rest (moved_timers clock moved ts) (live_moved clock moved ts)
     ∙ ap (λ l. l ++ moved_timers clock moved ts) (none_there (unfilled n 1 ts rest) free)
   where
@@ -251,8 +252,8 @@ timers_are_rebuilt clock moved filler ts distinct ahead =
     by k n rest begun (inr (inr f)) false e = old k n begun (begun.outside k (omega (arith, f)))
 
 pub rebuilt_timers_agree : RebuiltTimersAgree
-rebuilt_timers_agree W clock moved [] linked ahead = no_more
-rebuilt_timers_agree W clock moved (t ∷ ts) linked ahead =
-    let low = ahead.1 in
+rebuilt_timers_agree W limit clock moved [] linked timely = no_more
+rebuilt_timers_agree W limit clock moved (t ∷ ts) linked timely =
+    let low = (timely t (inl refl)).ahead in
     each (record { id = refl; due = record { apart = omega (arith, low) }; period = refl; call = linked t (inl refl) })
-    (rebuilt_timers_agree W clock moved ts (λ u i. linked u (inr i)) ahead.2)
+    (rebuilt_timers_agree W limit clock moved ts (λ u i. linked u (inr i)) (λ u i. timely u (inr i)))

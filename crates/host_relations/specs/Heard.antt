@@ -4,7 +4,7 @@ use Rattle.js_values.specs.declared.ids.NodeId.{NodeId}
 use Rattle.dom_tree.specs.Node.{has, is_distinct}
 use Rattle.host_relations.specs.Hosts.{heard_at}
 use Rattle.page_host.specs.declared.listener.Listener.{Listener}
-use Rattle.page_host.specs.Listeners.{is_registered, with_listener}
+use Rattle.page_host.specs.Listeners.{is_registered, with_listener, without_listener}
 
 abbrev pub added : List Listener → List Listener → List Listener
 added [] acc = acc
@@ -19,8 +19,14 @@ abbrev pub AreNew : List Listener → List Listener → Type 0
 AreNew before [] = Unit {0}
 AreNew before (l ∷ ls) = (is_registered before l ≡ false) × AreNew (before ++ l ∷ []) ls
 
+-- so it stays where a listener is added or taken away
+pub record StayNew (ls : List Listener) : Type 0 where
+  pub adds : (l : Listener) → AreNew [] (with_listener ls l)
+  pub drops : (l : Listener) → AreNew [] (without_listener ls l)
+
+abbrev pub ListenersStayNew : Type 0
+ListenersStayNew = (ls : List Listener) → AreNew [] ls → StayNew ls
+
 -- each node of the list has its listeners again, in order
 abbrev pub ListenersAreRebuilt : Type 0
-ListenersAreRebuilt =
-    (ls : List Listener) (ks : List NodeId) → is_distinct ks ≡ true → ((k : ℕ) → AreNew [] (heard_at k ls))
-    → (j : ℕ) → has j ks ≡ true → heard_at j (all_added ls ks []) ≡ heard_at j ls
+ListenersAreRebuilt = (ls : List Listener) (ks : List NodeId) → is_distinct ks ≡ true → AreNew [] ls → (j : ℕ) → has j ks ≡ true → heard_at j (all_added ls ks []) ≡ heard_at j ls

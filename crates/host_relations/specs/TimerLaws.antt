@@ -2,12 +2,13 @@
 use Rattle.std.specs.Prelude.{◌≡◌, ℕ, List, Option}
 use Rattle.js_values.specs.declared.ids.ObjId.{ObjId}
 use Rattle.timer_queue.specs.Laws.{HasDistinctIds}
+use Rattle.timer_queue.specs.Timely.{AreTimely}
 use Rattle.timer_queue.specs.Timers.{IsIn, after_taking, cleared, due_timers, first, is_live, least_free, started}
 use Rattle.timer_queue.specs.declared.timer.Live.{Live}
 use Rattle.heap_relations.specs.Naming.{Named, World}
 use Rattle.heap_relations.specs.Related.{Maybe}
 use Rattle.host_relations.specs.Timers.{Clocks, MomentRel, TimerRel, TimersRel}
-use Rattle.host_relations.specs.Restart.{AreAhead, moved_timers, rebuilt}
+use Rattle.host_relations.specs.Restart.{moved_timers, rebuilt}
 
 pub record TimersAgree (R : ℕ → ℕ → Type 0) (c : Clocks) (ts us : List Live) : Type 0 where
   pub live : (id : ℕ) → is_live ts id ≡ is_live us id
@@ -25,11 +26,11 @@ TimersKeepAgreement = (W : World) (c : Clocks) (ts us : List Live) → TimersRel
 -- the statements of a saved page give the same ids in the same order, each with what is left of its time
 abbrev pub TimersAreRebuilt : Type 0
 TimersAreRebuilt =
-    (clock : ℕ) (moved : ObjId → ObjId) (filler : ObjId) (ts : List Live) → HasDistinctIds ts → AreAhead clock ts
+    (limit clock : ℕ) (moved : ObjId → ObjId) (filler : ObjId) (ts : List Live) → HasDistinctIds ts → AreTimely limit clock ts
     → rebuilt clock moved filler ts ≡ moved_timers clock moved ts
 
 -- so the timers of the page that was saved and of the one that was rebuilt, whose clock is at 0, mean the same
 abbrev pub RebuiltTimersAgree : Type 0
 RebuiltTimersAgree =
-    (W : World) (clock : ℕ) (moved : ObjId → ObjId) (ts : List Live) → ((t : Live) → IsIn ts t → Named W t.call.0 (moved t.call).0) → AreAhead clock ts
+    (W : World) (limit clock : ℕ) (moved : ObjId → ObjId) (ts : List Live) → ((t : Live) → IsIn ts t → Named W t.call.0 (moved t.call).0) → AreTimely limit clock ts
     → TimersRel (Named W) (record { one = clock; two = 0 }) ts (moved_timers clock moved ts)
