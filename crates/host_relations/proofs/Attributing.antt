@@ -1,5 +1,5 @@
 -- Attributes that are set again.
-use Rattle.std.proofs.Common.{◌≡◌, refl, sym, ap, ◌∙◌, ℕ, Bool, true, false, ◌&&◌, not, cond, map, bytes_eq, is_none, List, [], ◌∷◌, ◌++◌, append_assoc, arith, Option, Some, None}
+use Rattle.std.proofs.Common.{◌≡◌, refl, sym, ap, ◌∙◌, ℕ, Bool, true, false, not, cond, map, bytes_eq, is_none, List, [], ◌∷◌, ◌++◌, append_assoc, arith, Option, Some, None}
 use Rattle.std.proofs.lemmas.Bool.{and_parts}
 use Rattle.std.proofs.lemmas.Bool.Decides.{nat_tests}
 use Rattle.std.proofs.lemmas.Slice.Eq.{bytes_eq-Decides}
@@ -66,11 +66,11 @@ none_last name (x ∷ acc) a h e = by (bytes_eq x.0 name) h (λ f. none_last nam
 -- one more is among the first ones, which is none of the others
 one_more : (acc : Pairs) (a : Text × Text) (as' : Pairs) → NoneAmong acc as' → value_of a.0 as' ≡ None → NoneAmong (acc ++ a ∷ []) as'
 one_more acc a [] n h = tt
-one_more acc a (b ∷ bs) n h = by (bytes_eq b.0 a.0) refl h
+one_more acc a (b ∷ bs) n h = by (bytes_eq b.0 a.0) refl h (λ f. one_more acc a bs n.1 f)
   where
-    by : (c : Bool) → bytes_eq b.0 a.0 ≡ c → cond c (Some b.1) (value_of a.0 bs) ≡ None → NoneAmong (acc ++ a ∷ []) (b ∷ bs)
-    by true e f = absurd (cc f)
-    by false e f = (none_last b.0 acc a n.0 (other b.0 a.0 e), one_more acc a bs n.1 f)
+    by : (c : Bool) → bytes_eq b.0 a.0 ≡ c → cond c (Some b.1) (value_of a.0 bs) ≡ None → (value_of a.0 bs ≡ None → NoneAmong (acc ++ a ∷ []) bs) → NoneAmong (acc ++ a ∷ []) (b ∷ bs)
+    by true e f later = absurd (cc f)
+    by false e f later = (none_last b.0 acc a n.0 (other b.0 a.0 e), later f)
 
 -- ---- all
 
