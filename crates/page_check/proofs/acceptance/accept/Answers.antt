@@ -1,4 +1,5 @@
-use Rattle.std.proofs.Common.{rules}
+use Rattle.std.proofs.Common.{ap, ◌∙◌, rules}
+use Rattle.page_reader.specs.Replacing.{places_of}
 use Rattle.page_check.proofs.Refusals.{accepted_at, not_accepted}
 use Rattle.page_check.proofs.acceptance.accept.Goals as goal
 
@@ -13,5 +14,5 @@ returns-in_err-scripts-clause-refused c =
 pub returns-clause-ok : goal.returns-clause-ok
 returns-clause-ok c =
     rw c.new.ensures (accepted_at c.args.bytes.now c.kind_of-kind.result c.in_ok-found.found.dom c.in_ok-found.found.scripts.items c.in_ok-scripts.scripts.items
-    c.in_ok-found.found.start c.in_ok-places.places.items c.kind_of-kind.ensures c.in_ok-found.ensures.read c.in_ok-found.ensures.start c.in_ok-places.ensures
+    c.in_ok-found.found.start c.in_ok-places.places.items c.kind_of-kind.ensures c.in_ok-found.ensures.read c.in_ok-found.ensures.start (c.in_ok-places.ensures ∙ ap places_of c.as_slice.ensures.value)
     c.in_ok-scripts.ensures.ok)
