@@ -71,8 +71,9 @@ fn open_plain(
     scripts: &[Script],
 ) -> Result<Vec<u8>, OutOfMemory>
     requires { AllKeepRules Plain scripts.now }
-    ensures text { IfOk result (λ text. text.items ≡ replacing.form_mark ++ replacing.replaced_from start
-        bytes.now places.now (map script_text (open_scripts scripts.now))) }
+    ensures text { IfOk result (λ text. text.items ≡ replacing.form_mark
+        ++ replacing.replaced_from start bytes.now places.now
+        (map script_text (open_scripts scripts.now))) }
     ensures numbered { OnOk result (HaveNumbers Plain scripts.now) }
 {
     let opened = open_scopes(alloc, scripts)?;
