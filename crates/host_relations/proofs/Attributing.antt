@@ -1,13 +1,13 @@
 -- Attributes that are set again.
-use Rattle.std.proofs.Common.{◌≡◌, refl, sym, ap, ◌∙◌, ℕ, Bool, true, false, not, cond, map, bytes_eq, is_none, List, [], ◌∷◌, ◌++◌, append_assoc, arith, Option, Some, None}
+use Rattle.std.proofs.Common.{◌≡◌, refl, ap, ◌∙◌, ℕ, Bool, true, false, not, cond, map, bytes_eq, is_none, List, [], ◌∷◌, ◌++◌, append_assoc, arith, Option, Some, None}
 use Rattle.std.proofs.lemmas.Bool.{and_parts}
 use Rattle.std.proofs.lemmas.Bool.Decides.{nat_tests}
-use Rattle.std.proofs.lemmas.Slice.Eq.{bytes_eq-Decides}
 use Rattle.std.specs.Char.{is_ascii_uppercase, to_ascii_lowercase}
 use Rattle.std.specs.List.{list_all}
 use Rattle.js_core.specs.Text.{Text}
 use Rattle.dom_tree.specs.Attributes.{Pairs, has_distinct_names, value_of, with_value_of}
 use Rattle.dom_tree.specs.Name.{folded, is_folded_name, is_name}
+use Rattle.host_relations.proofs.Texts.{text_sym}
 use Rattle.host_relations.specs.Attributed.{AttributesAreRebuilt, set_all}
 
 lower_stays : (u : ℕ) → not (is_ascii_uppercase u) ≡ true → to_ascii_lowercase u ≡ u
@@ -48,13 +48,6 @@ is_nothing : (o : Option Text) → is_none o ≡ true → o ≡ None
 is_nothing None h = refl
 is_nothing (Some x) h = absurd (cc h)
 
-other : (x y : Text) → bytes_eq x y ≡ false → bytes_eq y x ≡ false
-other x y h = by (bytes_eq y x) refl
-  where
-    by : (b : Bool) → bytes_eq y x ≡ b → b ≡ false
-    by true e = let same : bytes_eq x y ≡ true = (bytes_eq-Decides x y).1 (sym ((bytes_eq-Decides y x).0 e)) in absurd (cc)
-    by false e = refl
-
 none_last : (name : Text) (acc : Pairs) (a : Text × Text) → value_of name acc ≡ None → bytes_eq a.0 name ≡ false → value_of name (acc ++ a ∷ []) ≡ None
 none_last name [] a h e = rw e refl
 none_last name (x ∷ acc) a h e = by (bytes_eq x.0 name) h (λ f. none_last name acc a f e)
@@ -70,7 +63,7 @@ one_more acc a (b ∷ bs) n h = by (bytes_eq b.0 a.0) refl h (λ f. one_more acc
   where
     by : (c : Bool) → bytes_eq b.0 a.0 ≡ c → cond c (Some b.1) (value_of a.0 bs) ≡ None → (value_of a.0 bs ≡ None → NoneAmong (acc ++ a ∷ []) bs) → NoneAmong (acc ++ a ∷ []) (b ∷ bs)
     by true e f later = absurd (cc f)
-    by false e f later = (none_last b.0 acc a n.0 (other b.0 a.0 e), later f)
+    by false e f later = (none_last b.0 acc a n.0 (text_sym a.0 b.0 ∙ e), later f)
 
 -- ---- all
 

@@ -37,7 +37,6 @@ pub use Rattle.host_relations.proofs.Larger.{heard_up, hosts_stay, linked_up, li
 pub use Rattle.host_relations.proofs.NodePairs.{made_nodes_agree, new_nodes_agree, others_do_not_count}
 pub use Rattle.host_relations.proofs.NodeReads.{nodes_agree}
 pub use Rattle.host_relations.proofs.NodeSteps.{node_steps_keep}
-pub use Rattle.host_relations.proofs.Registering.{listeners_stay_new, passed_new}
 pub use Rattle.host_relations.proofs.Rehearing.{listeners_are_rebuilt}
 pub use Rattle.host_relations.proofs.Restarts.{rebuilt_timers_agree, timers_are_rebuilt}
 pub use Rattle.host_relations.proofs.Steps.{steps_keep}

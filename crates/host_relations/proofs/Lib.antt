@@ -4,6 +4,7 @@ pub mod Callers
 pub mod Carrying
 pub mod Changes
 pub mod Compacting
+pub mod Distinct
 pub mod Hearing
 pub mod HostNames
 pub mod Joining
@@ -14,9 +15,9 @@ pub mod NodePairs
 pub mod NodeReads
 pub mod NodeSteps
 pub mod Paths
-pub mod Registering
 pub mod Rehearing
 pub mod Restarts
 pub mod Steps
+pub mod Texts
 pub mod TimersKept
 pub mod Walks

@@ -4,12 +4,16 @@ use Rattle.std.proofs.lemmas.Bool.{and_parts, eqb-true}
 use Rattle.js_values.specs.declared.ids.NodeId.{NodeId}
 use Rattle.dom_tree.proofs.Callers.{eq_refl}
 use Rattle.dom_tree.specs.Node.{has, is_distinct}
+use Rattle.host_relations.proofs.Distinct.{AreNew, passed_new}
 use Rattle.host_relations.proofs.Hearing.{appends, same_here}
-use Rattle.host_relations.proofs.Registering.{end, passed_new}
-use Rattle.host_relations.specs.Heard.{AreNew, ListenersAreRebuilt, added, all_added}
+use Rattle.host_relations.specs.Heard.{ListenersAreRebuilt, added, all_added}
 use Rattle.host_relations.specs.Hosts.{heard_at}
 use Rattle.page_host.specs.Listeners.{is_registered, with_listener}
 use Rattle.page_host.specs.declared.listener.Listener.{Listener}
+
+end : (l : List Listener) → l ++ [] ≡ l
+end [] = refl
+end (x ∷ l) = ap (λ m. x ∷ m) (end l)
 
 -- what is added to those of a node
 abbrev with_more : (ℕ → List Listener) → ℕ → List Listener → ℕ → List Listener
@@ -91,4 +95,4 @@ all_nodes ls (k ∷ ks) acc f h distinct none new j =
     by false false e g fresh begun = end (f j)
 
 pub listeners_are_rebuilt : ListenersAreRebuilt
-listeners_are_rebuilt ls ks distinct new j there = all_nodes ls ks [] (λ i. []) (λ i. refl) distinct (λ i h. refl) (λ k. passed_new (λ l. nat_eq k l.node.0) [] ls new) j ∙ rw there refl
+listeners_are_rebuilt ls ks distinct new j there = all_nodes ls ks [] (λ i. []) (λ i. refl) distinct (λ i h. refl) (λ k. passed_new (λ l. nat_eq k l.node.0) ls new) j ∙ rw there refl

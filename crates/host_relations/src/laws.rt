@@ -4,7 +4,7 @@ ghost use Rattle.host_relations.specs.Appends.{AppendsRebuild};
 ghost use Rattle.host_relations.specs.Attributed.{AttributesAreRebuilt};
 ghost use Rattle.host_relations.specs.Carrying.{AppendsCarry};
 ghost use Rattle.host_relations.specs.Compacts.{EqualNodesAgree};
-ghost use Rattle.host_relations.specs.Heard.{ListenersAreRebuilt, ListenersStayNew};
+ghost use Rattle.host_relations.specs.Heard.{ListenersAreRebuilt};
 ghost use Rattle.host_relations.specs.HostLaws.{HostsStay, StepsKeep};
 ghost use Rattle.host_relations.specs.HostNames.{HostNamesAgree};
 ghost use Rattle.host_relations.specs.Joining.{NewNodesJoin, NodeObjectsJoin};
@@ -77,12 +77,9 @@ pub fn law_attributes()
     ensures { AttributesAreRebuilt }
 {}
 
-/// Listeners are added again.
+/// Listeners that are added again, node by node, are those of each node.
 pub fn law_listeners_again()
-    // None is registered twice, whatever is done.
-    ensures stay_new { ListenersStayNew }
-    // Those that are added again, node by node, are those of each node.
-    ensures rebuilt { ListenersAreRebuilt }
+    ensures { ListenersAreRebuilt }
 {}
 
 /// Timers are started again.
