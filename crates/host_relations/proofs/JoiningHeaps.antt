@@ -6,7 +6,7 @@ use Rattle.object_heap.specs.declared.object.Class.TheVariants as class
 use Rattle.object_heap.specs.Heap.{new_object}
 use Rattle.object_heap.specs.Object.{Object}
 use Rattle.heap_relations.proofs.Callers as heap
-use Rattle.heap_relations.specs.Naming.{Larger, World, here}
+use Rattle.heap_relations.specs.Naming.{Larger, here}
 use Rattle.heap_relations.specs.Related.{no_entries, node, none, some}
 use Rattle.host_relations.proofs.Larger.{pair_more}
 use Rattle.host_relations.specs.Joining.{NodeObjectsJoin}
