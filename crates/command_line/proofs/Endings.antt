@@ -278,7 +278,8 @@ neither f g (inr b) = g b.1
 -- no command ends as words that are none
 pub no_usage : (command : Command) (seen : Seen) → ¬ EndsAt (work_of command) Usage seen
 no_usage (check p) seen = neither (λ x. x) (neither (λ x. x) (neither (λ x. x) (λ x. x)))
-no_usage (instrument p) seen = neither (λ x. x) (neither (λ x. x) (neither (λ x. x) (λ x. x)))
-no_usage (session Replay p e) seen = neither (λ x. x) (neither (λ x. x) (neither (λ x. x) (neither (λ x. x) (λ x. x))))
-no_usage (session Save p e) seen =
+no_usage (instrument p) seen = neither (λ x. x) (neither (λ x. x) (neither (λ x. x) (neither (λ x. x) (λ x. x))))
+no_usage (session Replay p e) seen =
     neither (λ x. x) (neither (λ x. x) (neither (λ x. x) (neither (λ x. x) (neither (λ x. x) (λ x. x)))))
+no_usage (session Save p e) seen =
+    neither (λ x. x) (neither (λ x. x) (neither (λ x. x) (neither (λ x. x) (neither (λ x. x) (neither (λ x. x) (λ x. x))))))
