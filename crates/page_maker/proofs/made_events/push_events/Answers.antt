@@ -1,4 +1,4 @@
-use Rattle.std.proofs.Common.{◌≡◌, ◌∙◌, ap, ℕ, suc, ◌+◌, List, ◌++◌, arith}
+use Rattle.std.proofs.Common.{◌≡◌, ◌∙◌, ap, ℕ, suc, ◌+◌, ◌++◌, arith}
 use Rattle.page_maker.specs.Generator.{state, next_state, high_bits, drawn}
 use Rattle.page_maker.specs.Events.{events}
 use Rattle.page_maker.proofs.EventLemmas.{one_more}
