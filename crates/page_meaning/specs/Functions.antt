@@ -57,7 +57,7 @@ function_steps c env k =
 
 -- a function, and then its `prototype`, which is younger (13.2)
 abbrev pub make_function : tree.Code → Option EnvId → ActOf ObjId
-make_function c env = does next_place (λ h. function_steps c env (length h.objects))
+make_function c env = does next_place (λ h. function_steps c env (length h.objects)) (λ h. (refl, (refl, tt)))
 
 abbrev pub object_of : ObjId → Act
 object_of k = give (Object k)

@@ -12,7 +12,7 @@ use Rattle.page_meaning.specs.Elements.{define_element, delete_element, element,
 use Rattle.page_meaning.specs.Errors.{settle}
 use Rattle.page_meaning.specs.Expressions.{new_list}
 use Rattle.page_meaning.specs.ObjectRows.{argument}
-use Rattle.page_meaning.specs.Operators.{text_or_long}
+use Rattle.page_meaning.specs.HostNames.{text_or_long}
 use Rattle.page_meaning.specs.Primitives.{take_step}
 use Rattle.page_meaning.specs.Store.{Store}
 

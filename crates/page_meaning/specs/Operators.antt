@@ -25,16 +25,9 @@ use Rattle.whole_ops.specs.Order.{text_less, whole_less}
 use Rattle.page_meaning.specs.Act.{Act, Calls, give, also, asking, choose, ◌>>=◌}
 use Rattle.page_meaning.specs.Convert.{a_number, text_of, text_in, number_in, as_number, number_of, to_primitive, to_number, to_text}
 use Rattle.page_meaning.specs.Errors.{raise, settle}
-use Rattle.page_meaning.specs.Properties.{has_property, class_of, is_function, get_at}
+use Rattle.page_meaning.specs.HostNames.{text_limit, text_or_long}
+use Rattle.page_meaning.specs.Properties.{has_member, class_of, is_function, get_at}
 use Rattle.page_meaning.specs.Store.{Store}
-
--- how many units a text may have. It does not unfold.
-unfoldable pub text_limit : ℕ
-text_limit = 2 ^ 20
-
--- a text that was joined, which may be too long
-abbrev pub text_or_long : List ℕ → Result Value Throw
-text_or_long t = if nat_le (length t) text_limit then Ok (Text t) else Err TextTooLong
 
 -- both as numbers, the left whole before the right, and then the operator on them (11.5)
 abbrev pub on_numbers : Calls → (Option ℤ → Option ℤ → Result Value Throw) → Value → Value → Act
@@ -127,7 +120,7 @@ instance_of v f = raise NotFunction
 
 -- `in` (11.8.7): the right side is judged before the left is converted
 abbrev pub is_within : Calls → Value → Value → Act
-is_within calls v (Object at) = also (to_text calls v) (λ x. asking (λ s. has_property s at (text_in x)) (λ b. give (Truth b)))
+is_within calls v (Object at) = also (to_text calls v) (λ x. asking (λ s. has_member s at (text_in x)) (λ b. give (Truth b)))
 is_within calls v w = raise NotObject
 
 -- a binary operator on the values of its sides

@@ -1,6 +1,6 @@
 -- Meaning: a page before its scripts (section 15). The built-in objects by age: `window`, `Object.prototype`, `Function.prototype`, and
 -- then those that a walk from `window` meets: it goes through own properties in order, and into an object at once.
-use Rattle.std.specs.Prelude.{ℕ, List, [], ◌∷◌, ◌++◌, Some, None, codes, map}
+use Rattle.std.specs.Prelude.{ℕ, suc, List, [], ◌∷◌, ◌++◌, Some, None, codes, map}
 use Rattle.js_values.specs.declared.built_in.BuiltIn.{BuiltIn}
 use Rattle.js_values.specs.declared.built_in.BuiltIn.TheVariants as built_in
 use Rattle.js_values.specs.declared.ids.ObjId.{ObjId}
@@ -10,12 +10,14 @@ use Rattle.js_values.specs.declared.value.Value.TheVariants as value
 use Rattle.js_values.specs.Throw.{kind_name}
 use Rattle.js_core.specs.Whole.{nan}
 use Rattle.object_heap.specs.declared.object.Class.{Class}
-use Rattle.object_heap.specs.declared.object.Class.TheVariants.{Plain, List as Array, Native, Fault, Math, Window}
+use Rattle.object_heap.specs.declared.object.Class.TheVariants.{Plain, List as Array, Native, Fault, Math, Node, Window}
 use Rattle.object_heap.specs.declared.property.Prop.{Prop}
 use Rattle.object_heap.specs.Define.{length_name, number}
+use Rattle.object_heap.specs.Heap.{new_object}
+use Rattle.dom_tree.specs.Node.{Nodes}
 use Rattle.object_heap.specs.Object.{Object, whole_object, with_closed}
 use Rattle.object_heap.specs.Property.{Props, fixed, hidden, lasting}
-use Rattle.page_meaning.specs.Places.{at_place, window, array_prototype, boolean_prototype_place, console_place, error_prototype, function_at, function_prototype, math_place, number_prototype_place, object_prototype, string_prototype_place}
+use Rattle.page_meaning.specs.Places.{at_place, window, array_prototype, boolean_prototype_place, console_place, document, document_place, error_prototype, event_prototype, node_prototype, function_at, function_prototype, math_place, number_prototype_place, object_prototype, string_prototype_place}
 use Rattle.page_meaning.specs.Store.{Store}
 
 -- a property that holds a built-in function
@@ -166,10 +168,47 @@ console_functions = (codes "log", built_in.ConsoleLog, 0) ∷ []
 abbrev pub global_functions : List Method
 global_functions = (codes "isNaN", built_in.IsNaN, 1) ∷ (codes "isFinite", built_in.IsFinite, 1) ∷ (codes "parseInt", built_in.ParseInt, 2) ∷ []
 
+-- HTML, timers
+abbrev pub timer_functions : List Method
+timer_functions =
+    (codes "setTimeout", built_in.SetTimeout, 2)
+    ∷ (codes "setInterval", built_in.SetInterval, 2)
+    ∷ (codes "setIntervalFrom", built_in.SetIntervalFrom, 3)
+    ∷ (codes "clearTimeout", built_in.ClearTimeout, 1)
+    ∷ (codes "clearInterval", built_in.ClearInterval, 1) ∷ []
+
+-- DOM Level 2 Core and Events
+abbrev pub node_prototype_functions : List Method
+node_prototype_functions =
+    (codes "insertBefore", built_in.NodePrototypeInsertBefore, 2)
+    ∷ (codes "replaceChild", built_in.NodePrototypeReplaceChild, 2)
+    ∷ (codes "removeChild", built_in.NodePrototypeRemoveChild, 1)
+    ∷ (codes "appendChild", built_in.NodePrototypeAppendChild, 1)
+    ∷ (codes "hasChildNodes", built_in.NodePrototypeHasChildNodes, 0)
+    ∷ (codes "getAttribute", built_in.NodePrototypeGetAttribute, 1)
+    ∷ (codes "setAttribute", built_in.NodePrototypeSetAttribute, 2)
+    ∷ (codes "removeAttribute", built_in.NodePrototypeRemoveAttribute, 1)
+    ∷ (codes "hasAttribute", built_in.NodePrototypeHasAttribute, 1)
+    ∷ (codes "addEventListener", built_in.NodePrototypeAddEventListener, 3)
+    ∷ (codes "removeEventListener", built_in.NodePrototypeRemoveEventListener, 3)
+    ∷ (codes "dispatchEvent", built_in.NodePrototypeDispatchEvent, 1)
+    ∷ (codes "getElementById", built_in.NodePrototypeGetElementById, 1)
+    ∷ (codes "createElement", built_in.NodePrototypeCreateElement, 1)
+    ∷ (codes "createTextNode", built_in.NodePrototypeCreateTextNode, 1)
+    ∷ (codes "createComment", built_in.NodePrototypeCreateComment, 1)
+    ∷ (codes "createEvent", built_in.NodePrototypeCreateEvent, 1) ∷ []
+
+abbrev pub event_prototype_functions : List Method
+event_prototype_functions =
+    (codes "initEvent", built_in.EventPrototypeInitEvent, 3)
+    ∷ (codes "stopPropagation", built_in.EventPrototypeStopPropagation, 0)
+    ∷ (codes "preventDefault", built_in.EventPrototypePreventDefault, 0) ∷ []
+
 -- the properties of the global object (15.1): the host's, the constructors and Math, the errors, and the rest
 abbrev pub global_host : Props
 global_host =
-    (codes "window", fixed (value.Object window)) ∷ (codes "console", hidden (value.Object (at_place console_place))) ∷ method (codes "alert") built_in.Alert ∷ []
+    (codes "window", fixed (value.Object window)) ∷ (codes "document", fixed (value.Object document)) ∷ (codes "console", hidden (value.Object (at_place console_place)))
+    ∷ method (codes "alert") built_in.Alert ∷ methods timer_functions
 
 abbrev pub global_constructors : Props
 global_constructors =
@@ -188,11 +227,14 @@ global_errors =
     ∷ method (codes "RangeError") built_in.RangeError
     ∷ method (codes "ReferenceError") built_in.ReferenceError ∷ []
 
+abbrev pub global_nodes : Props
+global_nodes = method (codes "Node") built_in.Node ∷ method (codes "Event") built_in.Event ∷ []
+
 abbrev pub global_values : Props
 global_values = (codes "undefined", fixed value.Undefined) ∷ (codes "NaN", fixed (value.Num nan)) ∷ []
 
 abbrev pub global_props : Props
-global_props = global_host ++ (global_constructors ++ (global_errors ++ (methods global_functions ++ global_values)))
+global_props = global_host ++ (global_constructors ++ (global_errors ++ (global_nodes ++ (methods global_functions ++ global_values))))
 
 abbrev pub object_prototype_props : Props
 object_prototype_props = constructor_is built_in.Object ∷ methods object_prototype_functions
@@ -216,6 +258,10 @@ constructor which p own = native_with which 1 (prototype_is p ∷ methods own)
 abbrev pub constructor_built_ins : BuiltIn → ObjId → Object → List Method → List Method → List Object
 constructor_built_ins which p prototype inherited own = constructor which p own ∷ prototype ∷ (natives inherited ++ natives own)
 
+-- one with so many formals, which has no functions of its own
+abbrev pub constructor_built_ins_of : ℕ → BuiltIn → ObjId → Object → List Method → List Object
+constructor_built_ins_of formals which p prototype inherited = native_with which formals (prototype_is p ∷ []) ∷ prototype ∷ natives inherited
+
 -- a constructor whose prototype is an ordinary object
 abbrev pub value_prototype : BuiltIn → List Method → Object
 value_prototype which inherited = built Plain object_prototype (constructor_is which ∷ methods inherited)
@@ -235,7 +281,7 @@ root_objects =
     ∷ built (Native built_in.FunctionPrototype) object_prototype function_prototype_props ∷ []
 
 abbrev pub host_built_ins : List Object
-host_built_ins = built Plain object_prototype (methods console_functions) ∷ (natives console_functions ++ native built_in.Alert 1 ∷ [])
+host_built_ins = built Plain object_prototype (methods console_functions) ∷ (natives console_functions ++ native built_in.Alert 1 ∷ natives timer_functions)
 
 -- `Object`, `Function` and what their prototypes and they hold; the prototypes stand before
 abbrev pub object_built_ins : List Object
@@ -267,6 +313,15 @@ error_built_ins =
     ++ (error_pair built_in.RangeError kind.Range (error_prototype kind.Plain)
     ++ error_pair built_in.ReferenceError kind.Reference (error_prototype kind.Plain)))
 
+-- the prototypes of nodes and events have no `constructor`
+abbrev pub host_prototype : List Method → Object
+host_prototype inherited = built Plain object_prototype (methods inherited)
+
+abbrev pub node_built_ins : List Object
+node_built_ins =
+    constructor_built_ins_of 0 built_in.Node node_prototype (host_prototype node_prototype_functions) node_prototype_functions
+    ++ constructor_built_ins_of 0 built_in.Event event_prototype (host_prototype event_prototype_functions) event_prototype_functions
+
 -- what the walk meets, in its order
 abbrev pub first_built_ins : List Object
 first_built_ins = root_objects ++ (host_built_ins ++ (object_built_ins ++ function_built_ins))
@@ -275,7 +330,20 @@ abbrev pub value_kinds : List Object
 value_kinds = array_built_ins ++ (string_built_ins ++ (number_built_ins ++ (boolean_built_ins ++ math_built_ins)))
 
 abbrev pub built_ins : List Object
-built_ins = first_built_ins ++ (value_kinds ++ (error_built_ins ++ natives global_functions))
+built_ins = first_built_ins ++ (value_kinds ++ (error_built_ins ++ (node_built_ins ++ natives global_functions)))
 
-abbrev pub pristine : Store
-pristine = record { heap = record { objects = built_ins; environments = [] }; lines = [] }
+-- an object for each node, in document order, which is that of their ages; that of the document is the first behind the built-in ones
+abbrev pub node_objects : ℕ → Nodes → List Object
+node_objects k [] = []
+node_objects k (n ∷ ns) = new_object (Node (record { 0 = k })) (Some node_prototype) ∷ node_objects (suc k) ns
+
+abbrev pub places_of : ℕ → Nodes → List ObjId
+places_of k [] = []
+places_of k (n ∷ ns) = at_place k ∷ places_of (suc k) ns
+
+abbrev pub pristine : Nodes → Store
+pristine t = record {
+  heap = record { objects = built_ins ++ node_objects 0 t; environments = [] };
+  lines = [];
+  host = record { nodes = t; objects = places_of document_place t; listeners = []; timers = []; clock = 0 };
+}

@@ -13,6 +13,9 @@ use Rattle.page_meaning.specs.Act.{Act, Calls, bind, done, also, asking}
 use Rattle.page_meaning.specs.Convert.{text_in, to_text}
 use Rattle.page_meaning.specs.Elements.{length_of, on_list}
 use Rattle.page_meaning.specs.Errors.{raise}
+use Rattle.page_meaning.specs.Dispatch.{dispatch_row}
+use Rattle.page_meaning.specs.NodeRows.{node_row}
+use Rattle.page_meaning.specs.TimerRows.{timer_row}
 use Rattle.page_meaning.specs.FunctionRows.{apply_function, bind_function, call_function, list_text}
 use Rattle.page_meaning.specs.Lines.{log_text, log_texts}
 use Rattle.page_meaning.specs.ListRows as list
@@ -135,6 +138,31 @@ row_family built_in.MathMax = family.Text
 row_family built_in.MathMin = family.Text
 row_family built_in.MathPow = family.Text
 row_family built_in.MathRound = family.Text
+row_family built_in.NodePrototypeInsertBefore = family.Node
+row_family built_in.NodePrototypeReplaceChild = family.Node
+row_family built_in.NodePrototypeRemoveChild = family.Node
+row_family built_in.NodePrototypeAppendChild = family.Node
+row_family built_in.NodePrototypeHasChildNodes = family.Node
+row_family built_in.NodePrototypeGetAttribute = family.Node
+row_family built_in.NodePrototypeSetAttribute = family.Node
+row_family built_in.NodePrototypeRemoveAttribute = family.Node
+row_family built_in.NodePrototypeHasAttribute = family.Node
+row_family built_in.NodePrototypeAddEventListener = family.Node
+row_family built_in.NodePrototypeRemoveEventListener = family.Node
+row_family built_in.NodePrototypeDispatchEvent = family.Dispatch
+row_family built_in.NodePrototypeGetElementById = family.Node
+row_family built_in.NodePrototypeCreateElement = family.Node
+row_family built_in.NodePrototypeCreateTextNode = family.Node
+row_family built_in.NodePrototypeCreateComment = family.Node
+row_family built_in.NodePrototypeCreateEvent = family.Node
+row_family built_in.EventPrototypeInitEvent = family.Node
+row_family built_in.EventPrototypeStopPropagation = family.Node
+row_family built_in.EventPrototypePreventDefault = family.Node
+row_family built_in.SetTimeout = family.Timer
+row_family built_in.SetInterval = family.Timer
+row_family built_in.SetIntervalFrom = family.Timer
+row_family built_in.ClearTimeout = family.Timer
+row_family built_in.ClearInterval = family.Timer
 row_family which = family.Object
 
 abbrev pub row_in : RowFamily → Calls → Bool → BuiltIn → Value → List Value → Act
@@ -143,6 +171,9 @@ row_in family.Function calls construct which this vs = function_row calls which 
 row_in family.List calls construct which this vs = list_row calls which this vs
 row_in family.Visit calls construct which this vs = visit_row calls which this vs
 row_in family.Text calls construct which this vs = text_row calls construct which this vs
+row_in family.Node calls construct which this vs = node_row calls which this vs
+row_in family.Timer calls construct which this vs = timer_row calls which vs
+row_in family.Dispatch calls construct which this vs = dispatch_row calls this vs
 
 -- what a built-in function does when it is called or constructed
 abbrev pub row_of : Calls → Bool → BuiltIn → Value → List Value → Act

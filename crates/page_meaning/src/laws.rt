@@ -1,9 +1,15 @@
 //! What holds of the meaning.
 
+ghost use Rattle.page_meaning.specs.Delivering.{DeliverFrame, RunsInTurn};
+ghost use Rattle.page_meaning.specs.Act.{Calls};
+ghost use Rattle.page_meaning.specs.Store.{Store};
+ghost use Rattle.page_meaning.specs.declared.listener.Listener.{Listener};
+ghost use Rattle.std.specs.Prelude.{List, ℕ};
 ghost use Rattle.page_meaning.specs.Laws.{KeepsKinds, LinesGrow, LoadsSound, StaysSound, TasksKeep};
 ghost use Rattle.page_meaning.specs.Worked.{PutOut};
 ghost use Rattle.page_meaning.specs.WorkedExpressions as expressions;
 ghost use Rattle.page_meaning.specs.WorkedObjects as made;
+ghost use Rattle.page_meaning.specs.WorkedPages as pages;
 ghost use Rattle.page_meaning.specs.WorkedStatements as statements;
 
 /// Whatever a task does, steps fall, lines stay, and the heap changes by its own calls alone.
@@ -49,4 +55,37 @@ pub fn law_worked_statements()
 pub fn law_worked_objects()
     ensures objects { PutOut made.objects }
     ensures constructors { PutOut made.constructors }
+{}
+
+/// The worked pages on nodes, events and timers put out the lines that the rules give them.
+#[tactic(auto, using(crate::proofs::WorkedPages::row_2_puts_out, crate::proofs::WorkedPages::row_10_puts_out, crate::proofs::WorkedPages::row_11_puts_out, crate::proofs::WorkedPages::row_12_puts_out, crate::proofs::WorkedPages::row_13_puts_out, crate::proofs::WorkedPages::row_20_puts_out, crate::proofs::WorkedPages::row_23_puts_out, crate::proofs::WorkedPages::row_24_puts_out, crate::proofs::WorkedPages::row_25_puts_out, crate::proofs::WorkedPages::row_r81_puts_out, crate::proofs::WorkedPages::row_r82_puts_out, crate::proofs::WorkedPages::row_r91_puts_out, crate::proofs::WorkedPages::row_r92_puts_out, crate::proofs::WorkedPages::stopped_event_puts_out, crate::proofs::WorkedPages::again_puts_out, crate::proofs::WorkedPages::nested_puts_out, crate::proofs::WorkedPages::hosts_puts_out, crate::proofs::WorkedPages::texts_puts_out, crate::proofs::WorkedPages::replacing_puts_out, crate::proofs::WorkedPages::timers_puts_out, crate::proofs::WorkedPages::two_scripts_puts_out, crate::proofs::WorkedPages::early_stop_puts_out))]
+pub fn law_worked_pages()
+    ensures row_2 { pages.PutsOut pages.row_2 }
+    ensures row_10 { pages.PutsOut pages.row_10 }
+    ensures row_11 { pages.PutsOut pages.row_11 }
+    ensures row_12 { pages.PutsOut pages.row_12 }
+    ensures row_13 { pages.PutsOut pages.row_13 }
+    ensures row_20 { pages.PutsOut pages.row_20 }
+    ensures row_23 { pages.PutsOut pages.row_23 }
+    ensures row_24 { pages.PutsOut pages.row_24 }
+    ensures row_25 { pages.PutsOut pages.row_25 }
+    ensures row_r81 { pages.PutsOut pages.row_r81 }
+    ensures row_r82 { pages.PutsOut pages.row_r82 }
+    ensures row_r91 { pages.PutsOut pages.row_r91 }
+    ensures row_r92 { pages.PutsOut pages.row_r92 }
+    ensures stopped_event { pages.PutsOut pages.stopped_event }
+    ensures again { pages.PutsOut pages.again }
+    ensures nested { pages.PutsOut pages.nested }
+    ensures hosts { pages.PutsOut pages.hosts }
+    ensures texts { pages.PutsOut pages.texts }
+    ensures replacing { pages.PutsOut pages.replacing }
+    ensures timers { pages.PutsOut pages.timers }
+    ensures two_scripts { pages.PutsOut pages.two_scripts }
+    ensures early_stop { pages.PutsOutAfterFew 2 pages.early_stop }
+{}
+
+/// A dispatch that waits goes on with the listeners that are left.
+#[tactic(auto, using(crate::proofs::Delivering::runs_in_turn))]
+pub fn law_dispatch_goes_on()
+    ensures { (calls : Calls) (f : DeliverFrame) (l : Listener) (ls : List Listener) (s : Store) (n : ℕ) → RunsInTurn calls f l ls s n }
 {}
