@@ -21,7 +21,8 @@ use Rattle.object_heap.specs.Object.{Object, is_list, whole_object, with_closed}
 use Rattle.object_heap.specs.Property.{Props, fixed, lasting}
 use Rattle.object_heap.proofs.Callers.{new_fit, ordinary_fit, sound_empty, sound_steps}
 use Rattle.page_meaning.specs.Places.{document_place, event_prototype, event_prototype_place, node_prototype, node_prototype_place, array_prototype, array_prototype_place, at_place, boolean_prototype_place, console_place, error_prototype, error_prototype_place, function_place, function_prototype, math_place, number_prototype_place, object_prototype, range_error_prototype_place, reference_error_prototype_place, string_prototype_place, type_error_prototype_place}
-use Rattle.page_meaning.specs.Pristine.{built_ins, event_prototype_functions, node_objects, node_prototype_functions, timer_functions, Method, array_functions, array_prototype_functions, array_prototype_props, boolean_prototype_functions, built, console_functions, constructor_is, error_prototype_props, function_prototype_functions, function_prototype_props, global_functions, global_props, math_functions, methods, number_prototype_functions, object_functions, object_prototype_functions, object_prototype_props, pristine, prototype_is, string_functions, string_prototype_functions}
+use Rattle.page_meaning.specs.Pristine.{built_ins, node_objects, array_prototype_props, built, constructor_is, error_prototype_props, function_prototype_props, global_props, methods, object_prototype_props, pristine, prototype_is}
+use Rattle.page_meaning.specs.Tables.{event_prototype_functions, node_prototype_functions, timer_functions, Method, array_functions, array_prototype_functions, boolean_prototype_functions, console_functions, function_prototype_functions, global_functions, math_functions, number_prototype_functions, object_functions, object_prototype_functions, string_functions, string_prototype_functions}
 
 -- names that differ, by a test
 abbrev is_apart : List ℕ → List (List ℕ) → Bool

@@ -9,8 +9,6 @@ use Rattle.js_values.specs.declared.ids.NodeId.{NodeId}
 use Rattle.js_values.specs.declared.line.Line.{Line}
 use Rattle.js_values.specs.declared.line.LineKind.TheVariants.{Uncaught, Stopped as StoppedLine, Dom, NoElement}
 use Rattle.dom_tree.specs.DomText.{dom_text}
-use Rattle.dom_tree.specs.Node.{Nodes, kind_at}
-use Rattle.dom_tree.specs.Sound.{takes_value}
 use Rattle.dom_tree.specs.Trees.{find_id}
 use Rattle.object_heap.specs.Heap.{Contents, IsSound}
 use Rattle.object_heap.specs.Laws as heap
@@ -21,10 +19,11 @@ use Rattle.page_meaning.specs.Act.{LeadsTo, Outcome, Ended, Stopped}
 use Rattle.page_meaning.specs.Calls.{calls_at}
 use Rattle.page_meaning.specs.Kept.{Keeps, keeps_all, keeps_on, one_step}
 use Rattle.page_meaning.specs.Laws.{KeepsKinds, LinesGrow, LoadsSound, StaysSound, TasksKeep}
-use Rattle.page_meaning.specs.Nodes.{sets_value}
-use Rattle.page_meaning.specs.Pages.{Page, after_scripts, at_element, do_event, on_element, with_input}
+use Rattle.page_host.specs.Nodes.{sets_value}
+use Rattle.page_host.specs.Steps.{in_nodes}
+use Rattle.page_meaning.specs.Pages.{Page, after_scripts, at_element, do_event, document_node, with_input}
 use Rattle.page_meaning.specs.Pristine.{pristine}
-use Rattle.page_meaning.specs.Steps.{Step, in_heap, puts_out, in_nodes, makes_node, listens, forgets, starts, clears, fires, clock_at, after_step, after_steps, node_object}
+use Rattle.page_meaning.specs.Steps.{Step, in_host, puts_out, after_step, after_steps}
 use Rattle.page_meaning.specs.Store.{Store}
 use Rattle.page_meaning.proofs.Beginning.{pristine_sound}
 use Rattle.page_meaning.proofs.Stepping.{heap_of_steps, lines_of_steps}
@@ -35,14 +34,16 @@ tasks_keep depth task s n = (task_of (calls_at depth) task).leads s n
 
 -- ---- what an end leaves
 
+settled_keeps : (s t : Store) → Keeps s t → Keeps s (settled t)
+settled_keeps s t k = keeps_on s t (settled t) k (record { steps = settlings (length t.heap.objects); is = refl })
+
 finished_keeps : (s : Store) (n : ℕ) (o : Outcome Signal) → LeadsTo s n o → Keeps s (finished o)
-finished_keeps s n (Ended (Val v) t m) l = l.1
-finished_keeps s n (Ended (Return v) t m) l = l.1
-finished_keeps s n (Ended Break t m) l = l.1
-finished_keeps s n (Ended Continue t m) l = l.1
-finished_keeps s n (Ended (Thrown v) t m) l = keeps_on s t _ l.1 (one_step t (puts_out (uncaught_line t v)))
-finished_keeps s n (Stopped t) l =
-    keeps_on s t _ l (keeps_on t (settled t) _ (record { steps = settlings (length t.heap.objects); is = refl }) (one_step (settled t) (puts_out (record { kind = StoppedLine; text = [] }))))
+finished_keeps s n (Ended (Val v) t m) l = settled_keeps s t l.1
+finished_keeps s n (Ended (Return v) t m) l = settled_keeps s t l.1
+finished_keeps s n (Ended Break t m) l = settled_keeps s t l.1
+finished_keeps s n (Ended Continue t m) l = settled_keeps s t l.1
+finished_keeps s n (Ended (Thrown v) t m) l = keeps_on s (settled t) _ (settled_keeps s t l.1) (one_step (settled t) (puts_out (uncaught_line t v)))
+finished_keeps s n (Stopped t) l = keeps_on s (settled t) _ (settled_keeps s t l) (one_step (settled t) (puts_out (record { kind = StoppedLine; text = [] })))
 
 pub task_keeps : (s : Store) (task : Task) → Keeps s (after_task task s)
 task_keeps s task = finished_keeps s step_limit ((task_of (calls_at depth_limit) task).run s step_limit) ((task_of (calls_at depth_limit) task).leads s step_limit)
@@ -54,11 +55,7 @@ element_keeps None f s g = one_step s (puts_out (record { kind = NoElement; text
 element_keeps (Some k) f s g = g k
 
 input_keeps : (x : Text) (k : NodeId) (s : Store) → Keeps s (with_input x k s)
-input_keeps x k s = by_kind (takes_value (kind_at s.host.nodes k.0)) refl
-  where
-    by_kind : (b : _) → takes_value (kind_at s.host.nodes k.0) ≡ b → Keeps s (with_input x k s)
-    by_kind true e = rw e (one_step s (in_nodes (sets_value k x)))
-    by_kind false e = rw e (keeps_all s)
+input_keeps x k s = one_step s (in_host (in_nodes (sets_value k x)))
 
 pub event_keeps : (s : Store) (e : Event) → Keeps s (do_event e s)
 event_keeps s (event.Call f) = task_keeps s (Name f)
@@ -67,7 +64,7 @@ event_keeps s (event.Fire x id bubbles cancelable) =
 event_keeps s (event.Input x id) =
     element_keeps (find_id s.host.nodes id) _ s (λ k. keeps_on s (with_input x k s) _ (input_keeps x k s) (task_keeps (with_input x k s) (Fires _ true false k)))
 event_keeps s (event.Tick n) = task_keeps s (Passes n)
-event_keeps s event.Dom = one_step s (puts_out (record { kind = Dom; text = dom_text s.host.nodes (record { 0 = 0 }) }))
+event_keeps s event.Dom = one_step s (puts_out (record { kind = Dom; text = dom_text s.host.nodes document_node }))
 
 -- ---- the laws
 

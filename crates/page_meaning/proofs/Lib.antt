@@ -1,5 +1,5 @@
+pub mod Ages
 pub mod Beginning
-pub mod Delivering
 pub mod Keeping
 pub mod Stepping
 pub mod Worked

@@ -2,18 +2,19 @@
 use Rattle.std.specs.Prelude.{Bool, true, false, if◌then◌else◌, ◌≡◌, refl, List, [], ◌∷◌, ◌++◌, Some, length}
 use Rattle.std.proofs.Common.{sym, ap, ◌∙◌}
 use Rattle.js_values.specs.declared.line.Line.{Line}
-use Rattle.object_heap.specs.declared.object.Class.TheVariants.{Event, Node}
-use Rattle.object_heap.specs.Attempt.{Attempt, throws}
-use Rattle.object_heap.specs.Chain.{object_at}
-use Rattle.object_heap.specs.Heap.{Contents, define_own, put}
 use Rattle.js_values.specs.declared.throw.Throw.{Throw}
 use Rattle.js_values.specs.declared.throw.Throw.TheVariants.{CannotDefine, CannotSet}
-use Rattle.page_meaning.specs.Events.{after_event, new_parts}
-use Rattle.page_meaning.specs.HostNames.{is_kept}
+use Rattle.object_heap.specs.declared.object.Class.TheVariants.{Event, Node}
+use Rattle.object_heap.specs.Attempt.{Attempt, throws}
+use Rattle.object_heap.specs.Heap.{Contents, define_own, put}
 use Rattle.object_heap.specs.Laws as heap
 use Rattle.object_heap.proofs.Callers.{new_fit}
+use Rattle.page_host.specs.Steps.{may_be_made}
+use Rattle.page_meaning.specs.Classes.{class_at}
+use Rattle.page_meaning.specs.Events.{after_event, new_parts}
+use Rattle.page_meaning.specs.HostNames.{is_kept}
 use Rattle.page_meaning.specs.Places.{event_prototype, node_prototype}
-use Rattle.page_meaning.specs.Steps.{Step, in_event, in_heap, puts, defines, puts_out, in_nodes, makes_node, makes_event, listens, forgets, starts, clears, fires, clock_at, after_step, after_steps, event_object, node_object}
+use Rattle.page_meaning.specs.Steps.{Step, in_event, in_heap, puts, defines, puts_out, in_host, makes_node, makes_event, after_step, after_steps, event_object, fits_event, node_object}
 use Rattle.page_meaning.specs.Store.{Store}
 
 none_more : (xs : List Line) → xs ≡ xs ++ []
@@ -35,15 +36,9 @@ line_step s (puts at x v) = none_more s.lines
 line_step s (defines at x change) = none_more s.lines
 line_step s (in_event at g) = none_more s.lines
 line_step s (puts_out l) = refl
-line_step s (in_nodes g) = none_more s.lines
+line_step s (in_host g) = none_more s.lines
 line_step s (makes_node k) = none_more s.lines
 line_step s makes_event = none_more s.lines
-line_step s (listens l) = none_more s.lines
-line_step s (forgets l) = none_more s.lines
-line_step s (starts delay period f) = none_more s.lines
-line_step s (clears id) = none_more s.lines
-line_step s (fires t) = none_more s.lines
-line_step s (clock_at n) = none_more s.lines
 
 pub lines_of_steps : (s : Store) (gs : List Step) → (more : List Line) × ((after_steps s gs).lines ≡ s.lines ++ more)
 lines_of_steps s [] = ([], none_more s.lines)
@@ -53,11 +48,11 @@ lines_of_steps s (g ∷ gs) =
 
 heap_of : Store → Step → List heap.Step
 heap_of s (in_heap g h) = g ∷ []
-heap_of s (puts at x v) = if is_kept s.host.nodes (object_at s.heap.objects at.0).class x then [] else heap.puts at.0 x v ∷ []
-heap_of s (defines at x change) = if is_kept s.host.nodes (object_at s.heap.objects at.0).class x then [] else heap.defines at.0 x change ∷ []
-heap_of s (in_event at g) = heap.gives_parts at.0 (after_event g) ∷ []
+heap_of s (puts at x v) = if is_kept s.host.nodes (class_at s at) x then [] else heap.puts at.0 x v ∷ []
+heap_of s (defines at x change) = if is_kept s.host.nodes (class_at s at) x then [] else heap.defines at.0 x change ∷ []
+heap_of s (in_event at g) = if fits_event s g then heap.gives_parts at.0 (after_event g) ∷ [] else []
 heap_of s (makes_node k) =
-    heap.makes (node_object s) (new_fit (Node (record { 0 = length s.host.nodes })) (Some node_prototype)) ∷ []
+    if may_be_made k then heap.makes (node_object s) (new_fit (Node (record { 0 = length s.host.nodes })) (Some node_prototype)) ∷ [] else []
 heap_of s makes_event = heap.makes event_object (new_fit (Event new_parts) (Some event_prototype)) ∷ []
 heap_of s g = []
 
@@ -66,22 +61,22 @@ tried_heap : (h : Contents) (t : Throw) (a : Attempt Contents) (g : heap.Step) �
 tried_heap h t a g same true = refl
 tried_heap h t a g same false = same
 
+fit_heap : (h : Contents) (g : heap.Step) (fits : Bool) → (if fits then heap.after_step h g else h) ≡ heap.after_steps h (if fits then g ∷ [] else [])
+fit_heap h g true = refl
+fit_heap h g false = refl
+
 heap_step : (s : Store) (g : Step) → (after_step s g).heap ≡ heap.after_steps s.heap (heap_of s g)
 unfolding heap_of
 heap_step s (in_heap g h) = refl
-heap_step s (puts at x v) = tried_heap s.heap CannotSet (put s.heap at.0 x v) (heap.puts at.0 x v) refl (is_kept s.host.nodes (object_at s.heap.objects at.0).class x)
-heap_step s (defines at x change) = tried_heap s.heap CannotDefine (define_own s.heap at.0 x change) (heap.defines at.0 x change) refl (is_kept s.host.nodes (object_at s.heap.objects at.0).class x)
-heap_step s (in_event at g) = refl
+heap_step s (puts at x v) = tried_heap s.heap CannotSet (put s.heap at.0 x v) (heap.puts at.0 x v) refl (is_kept s.host.nodes (class_at s at) x)
+heap_step s (defines at x change) =
+    tried_heap s.heap CannotDefine (define_own s.heap at.0 x change) (heap.defines at.0 x change) refl (is_kept s.host.nodes (class_at s at) x)
+heap_step s (in_event at g) = fit_heap s.heap (heap.gives_parts at.0 (after_event g)) (fits_event s g)
 heap_step s (puts_out l) = refl
-heap_step s (in_nodes g) = refl
-heap_step s (makes_node k) = refl
+heap_step s (in_host g) = refl
+heap_step s (makes_node k) =
+    fit_heap s.heap (heap.makes (node_object s) (new_fit (Node (record { 0 = length s.host.nodes })) (Some node_prototype))) (may_be_made k)
 heap_step s makes_event = refl
-heap_step s (listens l) = refl
-heap_step s (forgets l) = refl
-heap_step s (starts delay period f) = refl
-heap_step s (clears id) = refl
-heap_step s (fires t) = refl
-heap_step s (clock_at n) = refl
 
 both : (h : Contents) (cs ds : List heap.Step) → heap.after_steps h (cs ++ ds) ≡ heap.after_steps (heap.after_steps h cs) ds
 both h [] ds = refl

@@ -7,7 +7,7 @@ use Rattle.object_heap.specs.Chain.{can_put, get_property}
 use Rattle.object_heap.specs.Heap.{add_property, define_own, delete, lookup, prevent_extensions, put, set}
 use Rattle.whole_ops.specs.Numeral.{decimal_of, goes_on_as_decimal, hexadecimal_of, is_decimal, is_exponent, literal_of, to_whole}
 use Rattle.whole_ops.specs.WhiteSpace.{trimmed}
-use Rattle.page_meaning.specs.HostNames.{host_name, text_limit}
+use Rattle.page_host.specs.HostNames.{host_name, text_limit}
 use Rattle.page_meaning.specs.Places.{array_prototype_place, string_prototype_place, number_prototype_place, boolean_prototype_place, math_place, console_place, function_place, error_prototype_place, type_error_prototype_place, range_error_prototype_place, reference_error_prototype_place, node_prototype_place, event_prototype_place, document_place}
 use Rattle.page_meaning.specs.Tasks.{depth_limit, step_limit}
 use Rattle.page_meaning.specs.Worked.{PutOut}

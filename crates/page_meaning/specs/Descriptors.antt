@@ -23,8 +23,8 @@ use Rattle.page_meaning.specs.Functions.{object_of}
 use Rattle.page_meaning.specs.Places.{object_prototype}
 use Rattle.page_meaning.specs.Primitives.{define_at, make}
 use Rattle.page_meaning.specs.Properties.{has_property, is_length_of, seen_at}
-use Rattle.page_meaning.specs.declared.host_name.HostName.{HostName}
-use Rattle.page_meaning.specs.declared.host_name.HostName.TheVariants.{Value as HasValue}
+use Rattle.page_host.specs.declared.host_name.HostName.{HostName}
+use Rattle.page_host.specs.declared.host_name.HostName.TheVariants.{Value as HasValue}
 use Rattle.page_meaning.specs.HostNames.{Seen, held, hosted, host_reads}
 use Rattle.page_meaning.specs.Store.{Store}
 

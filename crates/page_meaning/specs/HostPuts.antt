@@ -1,5 +1,5 @@
--- Meaning: puts to references (section 8.7.2), and to host names.
-use Rattle.std.specs.Prelude.{ℕ, Bool, true, false, ◌&&◌, cond, List, [], ◌∷◌, Option, Some, None, Result, Ok, Err, codes, if◌then◌else◌}
+-- Meaning: puts to references (section 8.7.2), and to host names (DOM Level 2 Core).
+use Rattle.std.specs.Prelude.{ℕ, Bool, List, [], ◌∷◌, Option, Some, None, length}
 use Rattle.js_core.specs.Text.{Text}
 use Rattle.js_values.specs.declared.ids.NodeId.{NodeId}
 use Rattle.js_values.specs.declared.ids.ObjId.{ObjId}
@@ -8,58 +8,60 @@ use Rattle.js_values.specs.declared.value.Value.{Value}
 use Rattle.js_values.specs.declared.value.Value.TheVariants as value
 use Rattle.dom_tree.specs.declared.content.Kind.{Kind}
 use Rattle.dom_tree.specs.declared.content.Kind.TheVariants as kind
+use Rattle.dom_tree.specs.Content.{has_text}
 use Rattle.dom_tree.specs.Node.{kind_at}
 use Rattle.object_heap.specs.declared.object.Class.{Class}
 use Rattle.object_heap.specs.declared.object.Class.TheVariants as class
-use Rattle.page_meaning.specs.declared.host_name.HostName.{HostName}
-use Rattle.page_meaning.specs.declared.host_name.HostName.TheVariants.{NodeValue, TextContent, Id, ClassName, Value as HasValue, Data}
+use Rattle.page_host.specs.declared.host_name.HostName.{HostName}
+use Rattle.page_host.specs.declared.host_name.HostName.TheVariants.{NodeValue, TextContent, Id, ClassName, Value as HasValue, Data}
+use Rattle.page_host.specs.HostNames.{host_name, text_step}
+use Rattle.page_host.specs.Nodes.{NodeStep, empties, inserts}
 use Rattle.page_meaning.specs.Act.{Act, Calls, bind, give, done, also, asking, choose}
+use Rattle.page_meaning.specs.Classes.{class_at}
 use Rattle.page_meaning.specs.Convert.{text_in, to_text}
 use Rattle.page_meaning.specs.Errors.{raise}
-use Rattle.page_meaning.specs.HostNames.{Seen, held, hosted, has_host_name, host_name}
-use Rattle.page_meaning.specs.Nodes.{empties, inserts, sets_attribute, sets_text, sets_value}
-use Rattle.page_meaning.specs.Primitives.{changes, make_node}
-use Rattle.page_meaning.specs.Properties.{class_at, put_in, seen_at}
-use Rattle.page_meaning.specs.Steps.{in_nodes}
+use Rattle.page_meaning.specs.HostNames.{Seen, hosted, has_host_name}
+use Rattle.page_meaning.specs.Primitives.{changes_nodes, make_node}
+use Rattle.page_meaning.specs.Properties.{put_in}
+use Rattle.page_meaning.specs.Reading.{seen_at}
 use Rattle.page_meaning.specs.Store.{Store}
-use Rattle.dom_tree.specs.Content.{has_text}
-use Rattle.std.specs.Prelude.{length}
-
--- the text of what is written; null is the empty one
-abbrev pub written : Calls → Value → Act
-written calls value.Null = give (value.Text [])
-written calls v = to_text calls v
 
 -- the nodes change so, which gives nothing
-abbrev pub on_text : Calls → Value → (Text → Act) → Act
-on_text calls v f = also (written calls v) (λ x. f (text_in x))
+abbrev pub stepped : NodeStep → Act
+stepped g = bind (changes_nodes g) (λ _. done)
 
-abbrev pub set_text : NodeId → Text → Act
-set_text k x = bind (changes (in_nodes (sets_text k x))) (λ _. done)
+-- the text of what is put; null is the empty one
+abbrev pub text_or_empty : Calls → Value → Act
+text_or_empty calls value.Null = give (value.Text [])
+text_or_empty calls v = to_text calls v
 
--- a text node for the text, the only child; none for the empty one
+abbrev pub put_text : Calls → NodeId → HostName → Value → Act
+put_text calls k n v = also (text_or_empty calls v) (λ x. stepped (text_step k n (text_in x)))
+
+abbrev pub put_attribute : Calls → NodeId → HostName → Value → Act
+put_attribute calls k n v = also (to_text calls v) (λ x. stepped (text_step k n (text_in x)))
+
+-- a text node for the text, as the last child; none for the empty one
 abbrev pub fill : NodeId → Text → Act
 fill k [] = done
 fill k (u ∷ us) =
-    asking (λ s. record { 0 = length s.host.nodes })
-    (λ c. bind (make_node (kind.Text (u ∷ us))) (λ _. bind (changes (in_nodes (inserts k c None))) (λ _. done)))
+    asking (λ s. record { 0 = length s.host.nodes }) (λ c. bind (make_node (kind.Text (u ∷ us))) (λ _. stepped (inserts k c None)))
 
-abbrev pub set_content : Calls → NodeId → Value → Kind → Act
-set_content calls k v kind.Document = done
-set_content calls k v (kind.Element name) = on_text calls v (λ x. bind (changes (in_nodes (empties k))) (λ _. fill k x))
-set_content calls k v (kind.Text old) = on_text calls v (set_text k)
-set_content calls k v (kind.Comment old) = on_text calls v (set_text k)
+-- the text of an element takes the place of its children; a put on the document does nothing, and converts nothing
+abbrev pub put_content : Calls → NodeId → Value → Kind → Act
+put_content calls k v kind.Document = done
+put_content calls k v (kind.Element name) = also (text_or_empty calls v) (λ x. bind (changes_nodes (empties k)) (λ _. fill k (text_in x)))
+put_content calls k v (kind.Text old) = put_text calls k TextContent v
+put_content calls k v (kind.Comment old) = put_text calls k TextContent v
 
-abbrev pub set_attribute : NodeId → Text → Text → Act
-set_attribute k n x = bind (changes (in_nodes (sets_attribute k n x))) (λ _. done)
-
+-- what a put to a host name of a node does. A put to the `nodeValue` of others than texts and comments does nothing, and converts nothing
 abbrev pub node_puts : Calls → NodeId → HostName → Value → Kind → Act
-node_puts calls k NodeValue v e = choose (has_text e) (on_text calls v (set_text k)) done
-node_puts calls k TextContent v e = set_content calls k v e
-node_puts calls k Id v e = also (to_text calls v) (λ x. set_attribute k (codes "id") (text_in x))
-node_puts calls k ClassName v e = also (to_text calls v) (λ x. set_attribute k (codes "class") (text_in x))
-node_puts calls k HasValue v e = on_text calls v (λ x. bind (changes (in_nodes (sets_value k x))) (λ _. done))
-node_puts calls k Data v e = on_text calls v (set_text k)
+node_puts calls k NodeValue v e = choose (has_text e) (put_text calls k NodeValue v) done
+node_puts calls k TextContent v e = put_content calls k v e
+node_puts calls k Id v e = put_attribute calls k Id v
+node_puts calls k ClassName v e = put_attribute calls k ClassName v
+node_puts calls k HasValue v e = put_text calls k HasValue v
+node_puts calls k Data v e = put_text calls k Data v
 node_puts calls k n v e = raise CannotSet
 
 abbrev pub host_puts : Calls → HostName → Value → Class → Act

@@ -1,8 +1,9 @@
 pub mod Act
+pub mod Ages
 pub mod Calls
+pub mod Classes
 pub mod Convert
 pub mod Descriptors
-pub mod Delivering
 pub mod Dispatch
 pub mod Elements
 pub mod Errors
@@ -20,7 +21,6 @@ pub mod Loops
 pub mod MathRows
 pub mod Names
 pub mod NodeRows
-pub mod Nodes
 pub mod NumberRows
 pub mod ObjectRows
 pub mod Operators
@@ -35,6 +35,7 @@ pub mod Statements
 pub mod Steps
 pub mod Store
 pub mod StringRows
+pub mod Tables
 pub mod Tasks
 pub mod TextRows
 pub mod TimerRows

@@ -1,5 +1,5 @@
 -- Meaning: a page that is loaded, and what host events make of it.
-use Rattle.std.specs.Prelude.{Bool, true, false, List, [], ◌∷◌, Option, Some, None, codes, length, drop, if◌then◌else◌}
+use Rattle.std.specs.Prelude.{true, false, List, [], ◌∷◌, Option, Some, None, codes, length, drop}
 use Rattle.js_core.specs.Text.{Text}
 use Rattle.js_core.specs.Tree as tree
 use Rattle.js_values.specs.declared.event.Event.{Event}
@@ -8,12 +8,12 @@ use Rattle.js_values.specs.declared.ids.NodeId.{NodeId}
 use Rattle.js_values.specs.declared.line.Line.{Line}
 use Rattle.js_values.specs.declared.line.LineKind.TheVariants.{Dom, NoElement}
 use Rattle.dom_tree.specs.DomText.{dom_text}
-use Rattle.dom_tree.specs.Node.{Nodes, kind_at}
-use Rattle.dom_tree.specs.Sound.{takes_value}
+use Rattle.dom_tree.specs.Node.{Nodes}
 use Rattle.dom_tree.specs.Trees.{find_id}
-use Rattle.page_meaning.specs.Nodes.{sets_value}
+use Rattle.page_host.specs.Nodes.{sets_value}
+use Rattle.page_host.specs.Steps.{in_nodes}
 use Rattle.page_meaning.specs.Pristine.{pristine}
-use Rattle.page_meaning.specs.Steps.{after_step, in_nodes}
+use Rattle.page_meaning.specs.Steps.{after_step, in_host}
 use Rattle.page_meaning.specs.Store.{Store, with_line}
 use Rattle.page_meaning.specs.Tasks.{Script, Name, Fires, Passes, after_task}
 
@@ -38,9 +38,12 @@ at_element (Some k) f s = f k s
 abbrev pub on_element : Text → (NodeId → Store → Store) → Store → Store
 on_element id f s = at_element (find_id s.host.nodes id) f s
 
--- the value of an input or a textarea
+-- the value of the node becomes the text, where it is an input or a textarea
 abbrev pub with_input : Text → NodeId → Store → Store
-with_input x k s = if takes_value (kind_at s.host.nodes k.0) then after_step s (in_nodes (sets_value k x)) else s
+with_input x k s = after_step s (in_host (in_nodes (sets_value k x)))
+
+abbrev pub document_node : NodeId
+document_node = record { 0 = 0 }
 
 -- the page after a host event
 abbrev pub do_event : Event → Store → Store
@@ -48,7 +51,7 @@ do_event (event.Call f) s = after_task (Name f) s
 do_event (event.Fire x id bubbles cancelable) s = on_element id (λ k. after_task (Fires x bubbles cancelable k)) s
 do_event (event.Input x id) s = on_element id (λ k t. after_task (Fires (codes "input") true false k) (with_input x k t)) s
 do_event (event.Tick n) s = after_task (Passes n) s
-do_event event.Dom s = with_line Dom (dom_text s.host.nodes (record { 0 = 0 })) s
+do_event event.Dom s = with_line Dom (dom_text s.host.nodes document_node) s
 
 abbrev pub run_all : Store → List Event → Store
 run_all s [] = s

@@ -15,6 +15,11 @@ use Rattle.object_heap.specs.Object.{Object}
 use Rattle.dom_tree.specs.declared.content.Kind.{Kind}
 use Rattle.page_meaning.specs.Act.{ActOf, Outcome, Ended, Stopped, LeadsTo}
 use Rattle.page_meaning.specs.Kept.{AddNone, heap_changed, keeps_all, one_step}
+use Rattle.page_host.specs.Nodes.{NodeStep}
+use Rattle.page_host.specs.Steps.{HostStep, in_nodes}
+use Rattle.page_meaning.specs.Classes.{is_made}
+use Rattle.page_meaning.specs.Events.{EventStep}
+use Rattle.page_meaning.specs.Places.{at_place}
 use Rattle.page_meaning.specs.Steps as page
 use Rattle.page_meaning.specs.Store.{Store, with_heap, with_line}
 
@@ -73,10 +78,10 @@ prevent_at at = does (λ h. (prevent_extensions h at.0).thrown) (λ h. prevents 
 
 -- the place of the object that is made next
 abbrev pub next_place : Contents → ObjId
-next_place h = record { 0 = length h.objects }
+next_place h = at_place (length h.objects)
 
 -- a new object
-abbrev pub make : (o : Object) → IsFit o → page.is_made o.class ≡ true → ActOf ObjId
+abbrev pub make : (o : Object) → IsFit o → is_made o.class ≡ true → ActOf ObjId
 make o fit made = does next_place (λ h. makes o fit ∷ []) (λ h. (made, tt))
 
 -- a new environment in which these names are bound
@@ -94,6 +99,16 @@ bind_name e x v = does (λ h. tt) (λ h. binds e.0 x v ∷ []) (λ h. (refl, tt)
 -- one thing is done to the page
 abbrev pub changes : page.Step → ActOf (Unit {0})
 changes g = record { run = λ s n. Ended tt (page.after_step s g) n; leads = λ s n. (le_refl n, one_step s g) }
+
+-- to an event, to what the host keeps, to the nodes
+abbrev pub changes_event : ObjId → EventStep → ActOf (Unit {0})
+changes_event at g = changes (page.in_event at g)
+
+abbrev pub changes_host : HostStep → ActOf (Unit {0})
+changes_host g = changes (page.in_host g)
+
+abbrev pub changes_nodes : NodeStep → ActOf (Unit {0})
+changes_nodes g = changes_host (in_nodes g)
 
 -- a new node, alone, and its object, which is given
 abbrev pub make_node : Kind → ActOf ObjId

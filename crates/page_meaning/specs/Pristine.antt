@@ -17,8 +17,10 @@ use Rattle.object_heap.specs.Heap.{new_object}
 use Rattle.dom_tree.specs.Node.{Nodes}
 use Rattle.object_heap.specs.Object.{Object, whole_object, with_closed}
 use Rattle.object_heap.specs.Property.{Props, fixed, hidden, lasting}
+use Rattle.page_host.specs.Host.{new_host}
 use Rattle.page_meaning.specs.Places.{at_place, window, array_prototype, boolean_prototype_place, console_place, document, document_place, error_prototype, event_prototype, node_prototype, function_at, function_prototype, math_place, number_prototype_place, object_prototype, string_prototype_place}
-use Rattle.page_meaning.specs.Store.{Store}
+use Rattle.page_meaning.specs.Store.{Store, silent}
+use Rattle.page_meaning.specs.Tables.{Method, array_functions, array_prototype_functions, boolean_prototype_functions, console_functions, event_prototype_functions, function_prototype_functions, global_functions, math_functions, node_prototype_functions, number_prototype_functions, object_functions, object_prototype_functions, string_functions, string_prototype_functions, timer_functions}
 
 -- a property that holds a built-in function
 abbrev pub method : List ℕ → BuiltIn → List ℕ × Prop
@@ -41,10 +43,6 @@ native_with which formals props = built (Native which) function_prototype ((leng
 abbrev pub native : BuiltIn → ℕ → Object
 native which formals = native_with which formals []
 
--- a function that an object holds: its name there, which it is, and its number of formals
-abbrev pub Method : Type 0
-Method = List ℕ × BuiltIn × ℕ
-
 abbrev pub method_of : Method → List ℕ × Prop
 method_of m = method m.0 m.1
 
@@ -57,152 +55,6 @@ methods ms = map method_of ms
 
 abbrev pub natives : List Method → List Object
 natives ms = map native_of ms
-
--- 15.2.4
-abbrev pub object_prototype_functions : List Method
-object_prototype_functions =
-    (codes "toString", built_in.ObjectPrototypeToString, 0)
-    ∷ (codes "valueOf", built_in.ObjectPrototypeValueOf, 0)
-    ∷ (codes "hasOwnProperty", built_in.ObjectPrototypeHasOwnProperty, 1)
-    ∷ (codes "isPrototypeOf", built_in.ObjectPrototypeIsPrototypeOf, 1)
-    ∷ (codes "propertyIsEnumerable", built_in.ObjectPrototypePropertyIsEnumerable, 1) ∷ []
-
--- 15.2.3
-abbrev pub object_functions : List Method
-object_functions =
-    (codes "getPrototypeOf", built_in.ObjectGetPrototypeOf, 1)
-    ∷ (codes "getOwnPropertyDescriptor", built_in.ObjectGetOwnPropertyDescriptor, 2)
-    ∷ (codes "getOwnPropertyNames", built_in.ObjectGetOwnPropertyNames, 1)
-    ∷ (codes "create", built_in.ObjectCreate, 2)
-    ∷ (codes "defineProperty", built_in.ObjectDefineProperty, 3)
-    ∷ (codes "defineProperties", built_in.ObjectDefineProperties, 2)
-    ∷ (codes "seal", built_in.ObjectSeal, 1)
-    ∷ (codes "freeze", built_in.ObjectFreeze, 1)
-    ∷ (codes "preventExtensions", built_in.ObjectPreventExtensions, 1)
-    ∷ (codes "isSealed", built_in.ObjectIsSealed, 1)
-    ∷ (codes "isFrozen", built_in.ObjectIsFrozen, 1)
-    ∷ (codes "isExtensible", built_in.ObjectIsExtensible, 1)
-    ∷ (codes "keys", built_in.ObjectKeys, 1) ∷ []
-
--- 15.3.4
-abbrev pub function_prototype_functions : List Method
-function_prototype_functions =
-    (codes "call", built_in.FunctionPrototypeCall, 1)
-    ∷ (codes "apply", built_in.FunctionPrototypeApply, 2)
-    ∷ (codes "bind", built_in.FunctionPrototypeBind, 1) ∷ []
-
--- 15.4.4
-abbrev pub array_prototype_functions : List Method
-array_prototype_functions =
-    (codes "toString", built_in.ArrayPrototypeToString, 0)
-    ∷ (codes "concat", built_in.ArrayPrototypeConcat, 1)
-    ∷ (codes "join", built_in.ArrayPrototypeJoin, 1)
-    ∷ (codes "pop", built_in.ArrayPrototypePop, 0)
-    ∷ (codes "push", built_in.ArrayPrototypePush, 1)
-    ∷ (codes "reverse", built_in.ArrayPrototypeReverse, 0)
-    ∷ (codes "shift", built_in.ArrayPrototypeShift, 0)
-    ∷ (codes "slice", built_in.ArrayPrototypeSlice, 2)
-    ∷ (codes "splice", built_in.ArrayPrototypeSplice, 2)
-    ∷ (codes "unshift", built_in.ArrayPrototypeUnshift, 1)
-    ∷ (codes "indexOf", built_in.ArrayPrototypeIndexOf, 1)
-    ∷ (codes "lastIndexOf", built_in.ArrayPrototypeLastIndexOf, 1)
-    ∷ (codes "every", built_in.ArrayPrototypeEvery, 1)
-    ∷ (codes "some", built_in.ArrayPrototypeSome, 1)
-    ∷ (codes "forEach", built_in.ArrayPrototypeForEach, 1)
-    ∷ (codes "map", built_in.ArrayPrototypeMap, 1)
-    ∷ (codes "filter", built_in.ArrayPrototypeFilter, 1)
-    ∷ (codes "reduce", built_in.ArrayPrototypeReduce, 1) ∷ []
-
--- 15.4.3
-abbrev pub array_functions : List Method
-array_functions = (codes "isArray", built_in.ArrayIsArray, 1) ∷ []
-
--- 15.5.4
-abbrev pub string_prototype_functions : List Method
-string_prototype_functions =
-    (codes "toString", built_in.StringPrototypeToString, 0)
-    ∷ (codes "valueOf", built_in.StringPrototypeValueOf, 0)
-    ∷ (codes "charAt", built_in.StringPrototypeCharAt, 1)
-    ∷ (codes "charCodeAt", built_in.StringPrototypeCharCodeAt, 1)
-    ∷ (codes "concat", built_in.StringPrototypeConcat, 1)
-    ∷ (codes "indexOf", built_in.StringPrototypeIndexOf, 1)
-    ∷ (codes "lastIndexOf", built_in.StringPrototypeLastIndexOf, 1)
-    ∷ (codes "slice", built_in.StringPrototypeSlice, 2)
-    ∷ (codes "split", built_in.StringPrototypeSplit, 2)
-    ∷ (codes "substring", built_in.StringPrototypeSubstring, 2)
-    ∷ (codes "toLowerCase", built_in.StringPrototypeToLowerCase, 0)
-    ∷ (codes "toUpperCase", built_in.StringPrototypeToUpperCase, 0)
-    ∷ (codes "trim", built_in.StringPrototypeTrim, 0) ∷ []
-
--- 15.5.3
-abbrev pub string_functions : List Method
-string_functions = (codes "fromCharCode", built_in.StringFromCharCode, 1) ∷ []
-
--- 15.7.4
-abbrev pub number_prototype_functions : List Method
-number_prototype_functions =
-    (codes "toString", built_in.NumberPrototypeToString, 1)
-    ∷ (codes "valueOf", built_in.NumberPrototypeValueOf, 0) ∷ []
-
--- 15.6.4
-abbrev pub boolean_prototype_functions : List Method
-boolean_prototype_functions =
-    (codes "toString", built_in.BooleanPrototypeToString, 0)
-    ∷ (codes "valueOf", built_in.BooleanPrototypeValueOf, 0) ∷ []
-
--- 15.8.2
-abbrev pub math_functions : List Method
-math_functions =
-    (codes "abs", built_in.MathAbs, 1)
-    ∷ (codes "ceil", built_in.MathCeil, 1)
-    ∷ (codes "floor", built_in.MathFloor, 1)
-    ∷ (codes "max", built_in.MathMax, 2)
-    ∷ (codes "min", built_in.MathMin, 2)
-    ∷ (codes "pow", built_in.MathPow, 2)
-    ∷ (codes "round", built_in.MathRound, 1) ∷ []
-
-abbrev pub console_functions : List Method
-console_functions = (codes "log", built_in.ConsoleLog, 0) ∷ []
-
--- 15.1.2
-abbrev pub global_functions : List Method
-global_functions = (codes "isNaN", built_in.IsNaN, 1) ∷ (codes "isFinite", built_in.IsFinite, 1) ∷ (codes "parseInt", built_in.ParseInt, 2) ∷ []
-
--- HTML, timers
-abbrev pub timer_functions : List Method
-timer_functions =
-    (codes "setTimeout", built_in.SetTimeout, 2)
-    ∷ (codes "setInterval", built_in.SetInterval, 2)
-    ∷ (codes "setIntervalFrom", built_in.SetIntervalFrom, 3)
-    ∷ (codes "clearTimeout", built_in.ClearTimeout, 1)
-    ∷ (codes "clearInterval", built_in.ClearInterval, 1) ∷ []
-
--- DOM Level 2 Core and Events
-abbrev pub node_prototype_functions : List Method
-node_prototype_functions =
-    (codes "insertBefore", built_in.NodePrototypeInsertBefore, 2)
-    ∷ (codes "replaceChild", built_in.NodePrototypeReplaceChild, 2)
-    ∷ (codes "removeChild", built_in.NodePrototypeRemoveChild, 1)
-    ∷ (codes "appendChild", built_in.NodePrototypeAppendChild, 1)
-    ∷ (codes "hasChildNodes", built_in.NodePrototypeHasChildNodes, 0)
-    ∷ (codes "getAttribute", built_in.NodePrototypeGetAttribute, 1)
-    ∷ (codes "setAttribute", built_in.NodePrototypeSetAttribute, 2)
-    ∷ (codes "removeAttribute", built_in.NodePrototypeRemoveAttribute, 1)
-    ∷ (codes "hasAttribute", built_in.NodePrototypeHasAttribute, 1)
-    ∷ (codes "addEventListener", built_in.NodePrototypeAddEventListener, 3)
-    ∷ (codes "removeEventListener", built_in.NodePrototypeRemoveEventListener, 3)
-    ∷ (codes "dispatchEvent", built_in.NodePrototypeDispatchEvent, 1)
-    ∷ (codes "getElementById", built_in.NodePrototypeGetElementById, 1)
-    ∷ (codes "createElement", built_in.NodePrototypeCreateElement, 1)
-    ∷ (codes "createTextNode", built_in.NodePrototypeCreateTextNode, 1)
-    ∷ (codes "createComment", built_in.NodePrototypeCreateComment, 1)
-    ∷ (codes "createEvent", built_in.NodePrototypeCreateEvent, 1) ∷ []
-
-abbrev pub event_prototype_functions : List Method
-event_prototype_functions =
-    (codes "initEvent", built_in.EventPrototypeInitEvent, 3)
-    ∷ (codes "stopPropagation", built_in.EventPrototypeStopPropagation, 0)
-    ∷ (codes "preventDefault", built_in.EventPrototypePreventDefault, 0) ∷ []
 
 -- the properties of the global object (15.1): the host's, the constructors and Math, the errors, and the rest
 abbrev pub global_host : Props
@@ -332,18 +184,15 @@ value_kinds = array_built_ins ++ (string_built_ins ++ (number_built_ins ++ (bool
 abbrev pub built_ins : List Object
 built_ins = first_built_ins ++ (value_kinds ++ (error_built_ins ++ (node_built_ins ++ natives global_functions)))
 
--- an object for each node, in document order, which is that of their ages; that of the document is the first behind the built-in ones
+-- an object for each node, in the order of the nodes; that of the document is the first after the built-in ones
 abbrev pub node_objects : ℕ → Nodes → List Object
 node_objects k [] = []
 node_objects k (n ∷ ns) = new_object (Node (record { 0 = k })) (Some node_prototype) ∷ node_objects (suc k) ns
 
-abbrev pub places_of : ℕ → Nodes → List ObjId
-places_of k [] = []
-places_of k (n ∷ ns) = at_place k ∷ places_of (suc k) ns
+abbrev pub places_from : ℕ → Nodes → List ObjId
+places_from k [] = []
+places_from k (n ∷ ns) = at_place k ∷ places_from (suc k) ns
 
+-- a page before its scripts, with these nodes
 abbrev pub pristine : Nodes → Store
-pristine t = record {
-  heap = record { objects = built_ins ++ node_objects 0 t; environments = [] };
-  lines = [];
-  host = record { nodes = t; objects = places_of document_place t; listeners = []; timers = []; clock = 0 };
-}
+pristine t = silent (record { objects = built_ins ++ node_objects 0 t; environments = [] }) (new_host t (places_from document_place t))

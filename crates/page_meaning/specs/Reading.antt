@@ -5,21 +5,16 @@ use Rattle.js_values.specs.declared.ids.ObjId.{ObjId}
 use Rattle.js_values.specs.declared.throw.Throw.{Throw}
 use Rattle.js_values.specs.declared.value.Value.{Value}
 use Rattle.js_values.specs.declared.value.Value.TheVariants.{Undefined, Null, Bool as Truth, Num, Text, Object}
-use Rattle.object_heap.specs.declared.object.Class.{Class}
-use Rattle.object_heap.specs.declared.object.Class.TheVariants.{Page, Native, Bound}
 use Rattle.object_heap.specs.Chain.{get, object_at}
 use Rattle.object_heap.specs.Define.{length_name, number}
 use Rattle.object_heap.specs.Index.{index_of}
-use Rattle.page_meaning.specs.declared.host_name.HostName.{HostName}
+use Rattle.page_host.specs.declared.host_name.HostName.{HostName}
+use Rattle.page_host.specs.HostNames.{host_name}
 use Rattle.page_meaning.specs.Act.{Act, asking}
 use Rattle.page_meaning.specs.Errors.{settle}
-use Rattle.page_meaning.specs.HostNames.{Seen, held, hosted, host_name, host_reads, seen_from}
+use Rattle.page_meaning.specs.HostNames.{Seen, held, hosted, host_reads, seen_from}
 use Rattle.page_meaning.specs.Places.{string_prototype, number_prototype, boolean_prototype}
 use Rattle.page_meaning.specs.Store.{Store}
-
--- the class of an object
-abbrev pub class_at : Store → ObjId → Class
-class_at s at = (object_at s.heap.objects at.0).class
 
 -- what a text has at an index
 abbrev pub unit_at : List ℕ → Option ℕ → Option Value
@@ -64,17 +59,6 @@ property_of s v x = Ok Undefined
 -- reads it; a host name's text may be too long
 abbrev pub read_property : Value → List ℕ → Act
 read_property base x = asking (λ s. property_of s base x) settle
-
--- the class of a value that is an object
-abbrev pub class_of : Store → Value → Option Class
-class_of s (Object at) = Some (class_at s at)
-class_of s v = None
-
-abbrev pub is_function : Option Class → Bool
-is_function (Some (Page c env)) = true
-is_function (Some (Native which)) = true
-is_function (Some (Bound target this args)) = true
-is_function c = false
 
 abbrev pub is_object : Value → Bool
 is_object (Object at) = true

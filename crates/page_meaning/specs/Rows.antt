@@ -26,7 +26,7 @@ use Rattle.page_meaning.specs.TextRows.{text_row}
 use Rattle.page_meaning.specs.ValueRows.{error_from, is_array, list_from, truth_from, truth_itself, truth_text}
 use Rattle.page_meaning.specs.VisitRows.{visit_row}
 
--- at once, on objects and values: whether it is constructed, which it is, `this` and the arguments. What is not built yet is not there to be called
+-- at once, on objects and values: whether it is constructed, which it is, `this` and the arguments
 abbrev pub object_row : Calls → Bool → BuiltIn → Value → List Value → Act
 object_row calls construct built_in.Alert this vs = bind (put_line Alert (λ s. log_text s (argument vs 0))) (λ _. done)
 object_row calls construct built_in.ConsoleLog this vs = bind (put_line Log (log_texts vs)) (λ _. done)
@@ -59,6 +59,9 @@ object_row calls construct built_in.Error this vs = error_from calls kind.Plain 
 object_row calls construct built_in.TypeError this vs = error_from calls kind.Type (argument vs 0)
 object_row calls construct built_in.RangeError this vs = error_from calls kind.Range (argument vs 0)
 object_row calls construct built_in.ReferenceError this vs = error_from calls kind.Reference (argument vs 0)
+object_row calls construct built_in.Function this vs = raise WrongArgument
+object_row calls construct built_in.Node this vs = raise WrongArgument
+object_row calls construct built_in.Event this vs = raise WrongArgument
 object_row calls construct which this vs = raise WrongArgument
 
 -- by a call of another function, or it makes one
@@ -87,7 +90,7 @@ list_row_on calls which vs at n = raise WrongArgument
 abbrev pub list_row : Calls → BuiltIn → Value → List Value → Act
 list_row calls which this vs = on_list this (λ at. asking (length_of at) (list_row_on calls which vs at))
 
--- the family of a built-in function
+-- the family of a built-in function, told here alone
 abbrev pub row_family : BuiltIn → RowFamily
 row_family built_in.FunctionPrototypeCall = family.Function
 row_family built_in.FunctionPrototypeApply = family.Function
@@ -163,7 +166,40 @@ row_family built_in.SetInterval = family.Timer
 row_family built_in.SetIntervalFrom = family.Timer
 row_family built_in.ClearTimeout = family.Timer
 row_family built_in.ClearInterval = family.Timer
-row_family which = family.Object
+row_family built_in.Alert = family.Object
+row_family built_in.ConsoleLog = family.Object
+row_family built_in.Object = family.Object
+row_family built_in.ObjectGetPrototypeOf = family.Object
+row_family built_in.ObjectGetOwnPropertyDescriptor = family.Object
+row_family built_in.ObjectGetOwnPropertyNames = family.Object
+row_family built_in.ObjectCreate = family.Object
+row_family built_in.ObjectDefineProperty = family.Object
+row_family built_in.ObjectDefineProperties = family.Object
+row_family built_in.ObjectSeal = family.Object
+row_family built_in.ObjectFreeze = family.Object
+row_family built_in.ObjectPreventExtensions = family.Object
+row_family built_in.ObjectIsSealed = family.Object
+row_family built_in.ObjectIsFrozen = family.Object
+row_family built_in.ObjectIsExtensible = family.Object
+row_family built_in.ObjectKeys = family.Object
+row_family built_in.ObjectPrototypeToString = family.Object
+row_family built_in.ObjectPrototypeValueOf = family.Object
+row_family built_in.ObjectPrototypeHasOwnProperty = family.Object
+row_family built_in.ObjectPrototypeIsPrototypeOf = family.Object
+row_family built_in.ObjectPrototypePropertyIsEnumerable = family.Object
+row_family built_in.FunctionPrototype = family.Object
+row_family built_in.Array = family.Object
+row_family built_in.ArrayIsArray = family.Object
+row_family built_in.Boolean = family.Object
+row_family built_in.BooleanPrototypeToString = family.Object
+row_family built_in.BooleanPrototypeValueOf = family.Object
+row_family built_in.Error = family.Object
+row_family built_in.TypeError = family.Object
+row_family built_in.RangeError = family.Object
+row_family built_in.ReferenceError = family.Object
+row_family built_in.Function = family.Object
+row_family built_in.Node = family.Object
+row_family built_in.Event = family.Object
 
 abbrev pub row_in : RowFamily → Calls → Bool → BuiltIn → Value → List Value → Act
 row_in family.Object calls construct which this vs = object_row calls construct which this vs

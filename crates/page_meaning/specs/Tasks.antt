@@ -7,7 +7,6 @@ use Rattle.js_values.specs.declared.line.LineKind.TheVariants.{Uncaught, Stopped
 use Rattle.js_values.specs.declared.value.Value.{Value}
 use Rattle.js_values.specs.declared.value.Value.TheVariants.{Undefined, Object}
 use Rattle.js_values.specs.declared.ids.NodeId.{NodeId}
-use Rattle.object_heap.specs.declared.object.EventParts.{EventParts}
 use Rattle.page_meaning.specs.Events.{initialises, rests}
 use Rattle.page_meaning.specs.Steps.{Step, after_steps, in_event}
 use Rattle.page_meaning.specs.declared.signal.Signal.{Signal}
@@ -16,10 +15,10 @@ use Rattle.page_meaning.specs.Act.{Act, Calls, Outcome, Ended, Stopped, bind, re
 use Rattle.page_meaning.specs.Calls.{calls_at}
 use Rattle.page_meaning.specs.Functions.{call_end, declare_globals, global_variables}
 use Rattle.page_meaning.specs.Names.{Here, read_name}
-use Rattle.page_meaning.specs.Places.{window}
+use Rattle.page_meaning.specs.Places.{at_place, window}
 use Rattle.page_meaning.specs.Dispatch.{deliver}
 use Rattle.page_meaning.specs.Lines.{uncaught_text}
-use Rattle.page_meaning.specs.Primitives.{changes, make_event}
+use Rattle.page_meaning.specs.Primitives.{changes_event, make_event}
 use Rattle.page_meaning.specs.TimerRows.{pass}
 use Rattle.page_meaning.specs.Statements.{exec_all}
 use Rattle.page_meaning.specs.Store.{Store, with_line}
@@ -39,7 +38,6 @@ pub data Task : Type 0 where
   Fires : List ℕ → Bool → Bool → NodeId → Task
   Passes : ℕ → Task
 
-
 -- at the top: no environment, and `this` is the global object (10.4.1.1)
 abbrev pub top : Here
 top = record { env = None; this = Object window }
@@ -51,13 +49,13 @@ run_script calls body =
 abbrev pub task_of : Calls → Task → Act
 task_of calls (Script body) = run_script calls body
 task_of calls (Name x) = also (read_name top x) (λ f. calls.call f Undefined [])
-task_of calls (Fires x bubbles cancelable k) = bind make_event (λ e. bind (changes (in_event e (initialises x bubbles cancelable))) (λ _. deliver calls e k))
+task_of calls (Fires x bubbles cancelable k) = bind make_event (λ e. bind (changes_event e (initialises x bubbles cancelable)) (λ _. deliver calls e k))
 task_of calls (Passes n) = pass calls n
 
 -- events under dispatch become as after a dispatch, and others are so
 abbrev pub settlings : ℕ → List Step
 settlings zero = []
-settlings (suc k) = in_event (record { 0 = k }) rests ∷ settlings k
+settlings (suc k) = in_event (at_place k) rests ∷ settlings k
 
 abbrev pub settled : Store → Store
 settled s = after_steps s (settlings (length s.heap.objects))
@@ -65,10 +63,10 @@ settled s = after_steps s (settlings (length s.heap.objects))
 abbrev pub uncaught_line : Store → Value → Line
 uncaught_line s v = record { kind = Uncaught; text = uncaught_text s v }
 
--- what an end leaves: an exception and want of steps are told by a line
+-- what an end leaves, at which no event is under dispatch: an exception and want of steps are told by a line
 abbrev pub finished : Outcome Signal → Store
-finished (Ended (Thrown v) s n) = with_line Uncaught (uncaught_text s v) s
-finished (Ended given s n) = s
+finished (Ended (Thrown v) s n) = with_line Uncaught (uncaught_text s v) (settled s)
+finished (Ended given s n) = settled s
 finished (Stopped s) = with_line StoppedLine [] (settled s)
 
 -- the page after a task of its own, with all steps and all depth

@@ -1,10 +1,7 @@
 //! What holds of the meaning.
 
-ghost use Rattle.page_meaning.specs.Delivering.{DeliverFrame, RunsInTurn};
-ghost use Rattle.page_meaning.specs.Act.{Calls};
-ghost use Rattle.page_meaning.specs.Store.{Store};
-ghost use Rattle.page_meaning.specs.declared.listener.Listener.{Listener};
-ghost use Rattle.std.specs.Prelude.{List, ℕ};
+ghost use Rattle.js_values.specs.declared.built_in.BuiltIn.{BuiltIn};
+ghost use Rattle.page_meaning.specs.Ages.{AreByAge, AreCounted, IsPlaced};
 ghost use Rattle.page_meaning.specs.Laws.{KeepsKinds, LinesGrow, LoadsSound, StaysSound, TasksKeep};
 ghost use Rattle.page_meaning.specs.Worked.{PutOut};
 ghost use Rattle.page_meaning.specs.WorkedExpressions as expressions;
@@ -84,8 +81,10 @@ pub fn law_worked_pages()
     ensures early_stop { pages.PutsOutAfterFew 2 pages.early_stop }
 {}
 
-/// A dispatch that waits goes on with the listeners that are left.
-#[tactic(auto, using(crate::proofs::Delivering::runs_in_turn))]
-pub fn law_dispatch_goes_on()
-    ensures { (calls : Calls) (f : DeliverFrame) (l : Listener) (ls : List Listener) (s : Store) (n : ℕ) → RunsInTurn calls f l ls s n }
+/// Each built-in function is at its place, the built-in objects are by age, and the document's object is the first after them.
+#[tactic(auto, using(crate::proofs::Ages::functions_placed, crate::proofs::Ages::ages_walked, crate::proofs::Ages::built_ins_counted))]
+pub fn law_built_ins_by_age()
+    ensures placed { (which : BuiltIn) → IsPlaced which }
+    ensures walked { AreByAge }
+    ensures counted { AreCounted }
 {}

@@ -3,20 +3,16 @@
 #![tactic(auto)]
 
 mod family;
-mod host_name;
 mod laws;
-mod listener;
 mod reference;
 mod signal;
 mod visit;
 
 pub use family::RowFamily;
-pub use host_name::HostName;
 pub use laws::{
-    law_dispatch_goes_on, law_heaps_stay_sound, law_lines_grow, law_tasks_keep, law_worked_expressions,
+    law_built_ins_by_age, law_heaps_stay_sound, law_lines_grow, law_tasks_keep, law_worked_expressions,
     law_worked_objects, law_worked_pages, law_worked_statements,
 };
-pub use listener::Listener;
 pub use reference::Reference;
 pub use signal::Signal;
 pub use visit::Visit;
