@@ -1,5 +1,5 @@
 -- Host names, which nodes and events answer themselves (DOM Level 2 Core and Events), and what nodes do at them.
-use Rattle.std.specs.Prelude.{ℕ, pos, ◌^◌, Bool, true, false, List, [], ◌∷◌, Option, Some, None, Result, Ok, Err, codes, bytes_eq, take, length, map, nat_le, nat_lt, ◌&&◌, unwrap_or, if◌then◌else◌}
+use Rattle.std.specs.Prelude.{ℕ, pos, ◌^◌, Bool, true, false, List, [], ◌∷◌, Option, Some, None, Result, Ok, Err, codes, bytes_eq, take, length, map, nat_eq, nat_le, ◌&&◌, unwrap_or, if◌then◌else◌}
 use Rattle.std.specs.Char.{to_ascii_uppercase}
 use Rattle.js_core.specs.Text.{Text}
 use Rattle.js_values.specs.declared.ids.NodeId.{NodeId}
@@ -34,7 +34,12 @@ host_names =
 
 abbrev pub name_among : Named → Text → Option HostName
 name_among [] x = None
-name_among (n ∷ ns) x = if bytes_eq n.0 x then Some n.1 else name_among ns x
+name_among (n ∷ ns) x = if bytes_eq x n.0 then Some n.1 else name_among ns x
+
+-- those of so many units
+abbrev pub of_length : ℕ → Named → Named
+of_length n [] = []
+of_length n (m ∷ ns) = if nat_eq n (length m.0) then m ∷ of_length n ns else of_length n ns
 
 -- the host name that a text is, whatever has it
 unfoldable pub host_name : Text → Option HostName
@@ -131,25 +136,28 @@ abbrev pub owner : List ObjId → Kind → Value
 owner objects kind.Document = value.Null
 owner objects k = value.Object (document_of objects)
 
+abbrev pub reads_at : Nodes → List ObjId → NodeId → HostName → Result Value Throw
+reads_at t objects k NodeType = Ok (value.Num (Some (pos (type_of (kind_at t k.0)))))
+reads_at t objects k NodeName = Ok (value.Text (node_name (kind_at t k.0)))
+reads_at t objects k NodeValue = Ok (text_or_null (text_of (kind_at t k.0)))
+reads_at t objects k ParentNode = Ok (node_value objects (parent_at t k.0))
+reads_at t objects k FirstChild = Ok (node_value objects (first_of (children_at t k.0)))
+reads_at t objects k LastChild = Ok (node_value objects (last_of (children_at t k.0)))
+reads_at t objects k PreviousSibling = Ok (node_value objects (previous_of t k.0))
+reads_at t objects k NextSibling = Ok (node_value objects (next_of t k.0))
+reads_at t objects k OwnerDocument = Ok (owner objects (kind_at t k.0))
+reads_at t objects k TextContent = content_text t k (kind_at t k.0)
+reads_at t objects k TagName = Ok (value.Text (node_name (kind_at t k.0)))
+reads_at t objects k Id = Ok (value.Text (unwrap_or (attribute_at t k (codes "id")) []))
+reads_at t objects k ClassName = Ok (value.Text (unwrap_or (attribute_at t k (codes "class")) []))
+reads_at t objects k HasValue = value_at t k (node_at t k.0).content.value (kind_at t k.0)
+reads_at t objects k Data = Ok (text_or_null (text_of (kind_at t k.0)))
+reads_at t objects k DocumentElement = Ok (node_value objects (document_element t))
+reads_at t objects k Body = Ok (node_value objects (body_in t (document_element t)))
+reads_at t objects k n = Ok value.Undefined
+
 abbrev pub node_reads : Host → NodeId → HostName → Result Value Throw
-node_reads h k NodeType = Ok (value.Num (Some (pos (type_of (kind_at h.nodes k.0)))))
-node_reads h k NodeName = Ok (value.Text (node_name (kind_at h.nodes k.0)))
-node_reads h k NodeValue = Ok (text_or_null (text_of (kind_at h.nodes k.0)))
-node_reads h k ParentNode = Ok (node_value h.objects (parent_at h.nodes k.0))
-node_reads h k FirstChild = Ok (node_value h.objects (first_of (children_at h.nodes k.0)))
-node_reads h k LastChild = Ok (node_value h.objects (last_of (children_at h.nodes k.0)))
-node_reads h k PreviousSibling = Ok (node_value h.objects (previous_of h.nodes k.0))
-node_reads h k NextSibling = Ok (node_value h.objects (next_of h.nodes k.0))
-node_reads h k OwnerDocument = Ok (owner h.objects (kind_at h.nodes k.0))
-node_reads h k TextContent = content_text h.nodes k (kind_at h.nodes k.0)
-node_reads h k TagName = Ok (value.Text (node_name (kind_at h.nodes k.0)))
-node_reads h k Id = Ok (value.Text (unwrap_or (attribute_at h.nodes k (codes "id")) []))
-node_reads h k ClassName = Ok (value.Text (unwrap_or (attribute_at h.nodes k (codes "class")) []))
-node_reads h k HasValue = value_at h.nodes k (node_at h.nodes k.0).content.value (kind_at h.nodes k.0)
-node_reads h k Data = Ok (text_or_null (text_of (kind_at h.nodes k.0)))
-node_reads h k DocumentElement = Ok (node_value h.objects (document_element h.nodes))
-node_reads h k Body = Ok (node_value h.objects (body_in h.nodes (document_element h.nodes)))
-node_reads h k n = Ok value.Undefined
+node_reads h k n = reads_at h.nodes h.objects k n
 
 -- ---- what nodes take
 

@@ -1,5 +1,7 @@
+pub mod Answers
 pub mod Host
 pub mod HostNames
+pub mod Kept
 pub mod Listeners
 pub mod Nodes
 pub mod Paths
