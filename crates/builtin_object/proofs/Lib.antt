@@ -1,4 +1,3 @@
-pub mod Lengths
 pub mod Owned
 pub mod Told
 pub mod Unbuilt

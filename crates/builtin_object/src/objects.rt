@@ -10,15 +10,15 @@ ghost use Rattle.page_meaning.specs.Descriptors.{new_descriptor as new_descripto
 ghost use Rattle.page_meaning.specs.ObjectRows as spec;
 ghost use Rattle.page_meaning.specs.ObjectRows.{on_object};
 ghost use Rattle.page_state.specs.Does.{Gives, itself, no_value};
-ghost use Rattle.builtin_object.specs.Lists.{for_object};
+ghost use Rattle.new_lists.specs.Lists.{for_object};
 ghost use Rattle.builtin_object.specs.Own.{is_fast};
 
 use crate::definitions::{define_by, define_in};
 use crate::descriptors::new_descriptor;
-use crate::lists::new_texts;
 use crate::own::{all_changes, are_fast, enumerable_names};
 use js_core::{OutOfMemory, Units};
 use js_values::{ObjId, Throw, Value};
+use new_lists::new_texts;
 use object_heap::{Change, Prop};
 use page_state::{Fault, State};
 

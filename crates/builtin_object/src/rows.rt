@@ -10,11 +10,11 @@ ghost use Rattle.page_state.specs.Does.{Gives, itself};
 
 use crate::errors::error_from;
 use crate::lines::{alert, log};
-use crate::lists::list_from;
 use crate::values::{is_array, truth_from, truth_itself, truth_text};
 use crate::{objects, prototype};
 use js_core::Units;
 use js_values::{BuiltIn, ErrorKind, ObjId, Throw, Value};
+use new_lists::list_from;
 use page_state::{Fault, State, argument};
 
 /// What a built-in function does when it is called or constructed with `this` and the arguments: its value, or what it throws.

@@ -12,9 +12,9 @@ ghost use Rattle.page_state.specs.Does.{Gives, itself};
 
 use crate::splitting::parts_of;
 use crate::strings::is_short;
-use builtin_object::new_texts;
 use js_core::{OutOfMemory, Units, Whole};
 use js_values::{ObjId, Throw, Value};
+use new_lists::new_texts;
 use page_state::{Fault, State};
 use std::alloc::Global;
 use whole_ops::to_uint32;

@@ -1,4 +1,2 @@
-pub mod Finished
 pub mod Forms
-pub mod Joins
 pub mod Told

@@ -2,7 +2,7 @@
 use Rattle.std.proofs.Common.{◌≡◌, ℕ, zero, suc, ◌<◌, ◌≤◌, List, [], ◌∷◌, ◌++◌, length, Option, Some, None, refl, ap, sym, ◌∙◌, append_assoc, append-nil, arith, subst, length-append}
 use Rattle.std.specs.Prelude.{map, slice_get, is_some, true, false}
 use Rattle.js_core.specs.Tree as tree
-use Rattle.code_table.specs.declared.rows.Entry.{Entry}
+use Rattle.code_table.specs.declared.entry.Entry.{Entry}
 use Rattle.code_table.specs.Kind.{node_kind, kind_of}
 use Rattle.code_table.specs.Node.{Node, block_node, Parts, no_parts, then_part, then_none, part, parts_in, parts_of, pick, and_child, part_count, nodes_in, nodes_of, node_at, body_of, stmts_parts}
 use Rattle.code_table.specs.Rows.{Row, no_number, with_parts, with_numbers, rows_of}

@@ -16,7 +16,7 @@ use Rattle.code_table.specs.Table.{IsTable, code_of, row_of, declared_as}
 use Rattle.code_table.specs.declared.code.Declared.{Declared}
 use Rattle.code_table.specs.declared.code.FunctionCode.TheDeep.{deep-Kind, deep-Entry, deep-Declared, deep-FunctionCode}
 use Rattle.code_table.specs.declared.code.FunctionCode.TheInside.{Inside}
-use Rattle.code_table.specs.declared.rows.Entry.{Entry}
+use Rattle.code_table.specs.declared.entry.Entry.{Entry}
 
 -- no function in these parts is larger
 abbrev Within : ℕ → Parts → Type 0

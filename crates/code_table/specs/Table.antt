@@ -5,7 +5,7 @@ use Rattle.code_table.specs.declared.code.Declared.{Declared as Held}
 use Rattle.code_table.specs.declared.code.Table.{Table}
 use Rattle.code_table.specs.declared.kind.Kind.{Kind}
 use Rattle.code_table.specs.declared.kind.Kind.TheVariants.{Nothing}
-use Rattle.code_table.specs.declared.rows.Entry.{Entry}
+use Rattle.code_table.specs.declared.entry.Entry.{Entry}
 use Rattle.code_table.specs.Declarations.{held, functions_of, variables_of}
 use Rattle.code_table.specs.Kind.{kind_of}
 use Rattle.code_table.specs.Node.{node_at, and_child, part_count, body_of, stmts_parts}

@@ -1,19 +1,15 @@
 //! What a function object holds.
 
 ghost use Rattle.std.specs.Prelude.{◌≡◌, ◌≤◌, [], IfOk, length, map, is_some, option_copied, true};
-ghost use Rattle.js_core.specs.Tree as tree;
 ghost use Rattle.code_table.specs.Declarations.{name_of, formals_of, functions_of, variables_of, held, unnamed};
 ghost use Rattle.code_table.specs.Kind.{kind_of};
 ghost use Rattle.code_table.specs.Table.{Tells, declared_as, row_of};
 ghost use Rattle.code_table.specs.Node.{node_at, and_child, part_count, block_node, body_of, nodes_of, stmts_parts};
 ghost use Rattle.code_table.specs.Rows.{no_number, rows_of, with_parts};
 
-use crate::functions::{finish_nodes, push_functions};
+use crate::entry::{Entry, entry_at, number_at};
 use crate::kind::Kind;
-use crate::rows::{Entry, Rows, entry_at, number_at};
-use crate::statements::push_body;
-use crate::variables::push_variables;
-use js_core::{Code, OutOfMemory, Script, Units};
+use js_core::{Code, OutOfMemory, Units};
 use std::alloc::Global;
 use std::marker::Model;
 use std::rc::Rc;
@@ -24,19 +20,6 @@ use std::rc::Rc;
 pub struct Declared {
     pub name: Option<Units>,
     pub code: FunctionCode,
-}
-
-impl Declared {
-    // What this code declares, once its table is made.
-    pub(crate) fn of(code: &Code, made: FunctionCode) -> Result<Declared, OutOfMemory>
-        ensures { IfOk result (λ declared. declared_as declared ≡ (name_of code.now, made)) }
-    {
-        let name = match &code.name {
-            None => None,
-            Some(name) => Some(name.clone()?),
-        };
-        Ok(Declared { name, code: made })
-    }
 }
 
 // The table of a function. The number of its body is the last one.
@@ -92,38 +75,25 @@ impl Drop for FunctionCode {
 }
 
 impl FunctionCode {
-    /// The function's code, with its name or without. The work and the memory are in proportion to the tree.
-    #[cycle(making)]
-    #[tactic(auto, using(crate::proofs::Finished::smaller_rows))]
-    pub fn of(alloc: Global, code: &Rc<Code>, named: bool) -> Result<FunctionCode, OutOfMemory>
-        ensures { IfOk result (λ f. f ≡ held named code.now.value) }
-    {
-        let mut rows = Rows::new(alloc);
-        let body = push_body(alloc, &mut rows, code.body.as_slice())?;
-        let entries = finish_nodes(alloc, rows.into_nodes())?;
-        let mut functions = Vec::new(alloc);
-        push_functions(alloc, code.body.as_slice(), &mut functions)?;
-        FunctionCode::with_table(alloc, code, named, entries, body, functions)
-    }
-
-    // The function, of which these are the entries of its nodes, the number of its body and the functions that it declares.
-    fn with_table(
+    /// The function, held with its name or without, of which these are the entries of its nodes, the number of its body, and the names and
+    /// functions that it declares.
+    pub fn new(
         alloc: Global,
         code: &Rc<Code>,
         named: bool,
         entries: Vec<Entry>,
         body: u32,
+        variables: Vec<Units>,
         functions: Vec<Declared>,
     ) -> Result<FunctionCode, OutOfMemory>
         requires rows { map row_of entries.items ≡ rows_of code.now.value }
         requires few { length entries.items ≤ no_number }
         requires body { body ≡ length (with_parts [] (stmts_parts (body_of code.now.value))) }
+        requires variables { variables.items ≡ variables_of (body_of code.now.value) }
         requires functions { map declared_as functions.items
             ≡ functions_of (body_of code.now.value) }
         ensures { IfOk result (λ f. f ≡ held named code.now.value) }
     {
-        let mut variables = Vec::new(alloc);
-        push_variables(code.body.as_slice(), &mut variables)?;
         let table = Table {
             code: code.clone()?,
             named,
@@ -145,14 +115,6 @@ impl FunctionCode {
         Ok(FunctionCode {
             table: self.table.clone()?,
         })
-    }
-
-    /// A script, as a function without a name and formals.
-    pub fn of_script(alloc: Global, script: Script) -> Result<FunctionCode, OutOfMemory>
-        ensures { IfOk result (λ f. f ≡ tree.code None [] script) }
-    {
-        let code = Code::new(None, Vec::new(alloc), script.into_body());
-        FunctionCode::of(alloc, &Rc::new(alloc, code)?, true)
     }
 
     // What is held of a number.

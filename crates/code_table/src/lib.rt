@@ -3,13 +3,9 @@
 #![tactic(auto)]
 
 mod code;
-mod expressions;
-mod functions;
+mod entry;
 mod kind;
-mod rows;
-mod shallow;
-mod statements;
-mod variables;
 
 pub use code::{Declared, FunctionCode};
+pub use entry::Entry;
 pub use kind::{Kind, Names};

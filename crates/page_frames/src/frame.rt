@@ -144,7 +144,6 @@ pub enum Frame {
 }
 
 /// A frame where it lies in memory, so that it is small to hand on. Contracts see it as the frame.
-#[derive(Drop)]
 pub struct BoxedFrame {
     frame: Box<Frame>,
 }
@@ -158,6 +157,13 @@ impl Model for BoxedFrame {
     ghost coded = { one.the_row.coded };
 
     ghost view = { λ b. b.frame.value };
+}
+
+// A function of its own, so that the crates above cite it and do not prove it again.
+impl Drop for BoxedFrame {
+    fn drop(self) {
+        let BoxedFrame { frame: _frame } = self;
+    }
 }
 
 impl BoxedFrame {
@@ -174,12 +180,12 @@ impl BoxedFrame {
     pub fn into_frame(self) -> Frame
         ensures { result ≡ self }
     {
-        Box::into_inner(self.frame)
+        let BoxedFrame { frame } = self;
+        Box::into_inner(frame)
     }
 }
 
 /// A call where it lies in memory. Contracts see it as the call.
-#[derive(Drop)]
 pub struct BoxedCall {
     call: Box<CallFrame>,
 }
@@ -190,6 +196,13 @@ impl Model for BoxedCall {
     ghost Value = { OneCall };
 
     ghost view = { λ b. b.call.value };
+}
+
+// A function of its own, so that the crates above cite it and do not prove it again.
+impl Drop for BoxedCall {
+    fn drop(self) {
+        let BoxedCall { call: _call } = self;
+    }
 }
 
 impl BoxedCall {
@@ -206,7 +219,8 @@ impl BoxedCall {
     pub fn into_call(self) -> CallFrame
         ensures { result ≡ self }
     {
-        Box::into_inner(self.call)
+        let BoxedCall { call } = self;
+        Box::into_inner(call)
     }
 }
 

@@ -3,7 +3,7 @@
 ghost use Rattle.std.specs.Prelude.{◌≡◌, [], IfOk, OnErr, OnOk, false, true};
 ghost use Rattle.page_meaning.specs.Pages.{after_scripts, do_event, load_of};
 
-use code_table::FunctionCode;
+use code_numbering::script_code;
 use js_core::{OutOfMemory, Script};
 use js_values::{Event, Line};
 use page_check::CheckedPage;
@@ -57,7 +57,7 @@ fn run_scripts(alloc: Global, state: &mut State, scripts: Vec<Script>) -> Result
     ensures { OnOk result (state.new ≡ after_scripts scripts.items state.old) }
 {
     for script in scripts {
-        let code = FunctionCode::of_script(alloc, script)?;
+        let code = script_code(alloc, script)?;
         run_task(state, Task::Script(code))?;
     }
     Ok(())

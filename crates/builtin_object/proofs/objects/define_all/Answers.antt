@@ -1,6 +1,6 @@
 use Rattle.page_meaning.specs.ObjectRows as object
 use Rattle.page_state.proofs.Callers.{asked_gives, asked_raises}
-use Rattle.builtin_object.specs.Lists.{for_object}
+use Rattle.new_lists.specs.Lists.{for_object}
 use Rattle.builtin_object.proofs.objects.define_all.Goals as goal
 
 pub returns-in-Some : goal.returns-in-Some

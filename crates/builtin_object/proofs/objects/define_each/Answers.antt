@@ -3,7 +3,7 @@ use Rattle.js_values.specs.declared.value.Value.TheVariants.{Undefined, Object}
 use Rattle.page_meaning.specs.Descriptors as descriptor
 use Rattle.page_meaning.specs.ObjectRows as object
 use Rattle.page_state.proofs.Callers.{given, one_fails, one_on}
-use Rattle.builtin_object.specs.Lists.{for_object}
+use Rattle.new_lists.specs.Lists.{for_object}
 use Rattle.std.proofs.Math.ListN.{drop_of_length-le}
 use Rattle.builtin_object.proofs.objects.define_each.Goals as goal
 

@@ -1,7 +1,7 @@
 use Rattle.std.proofs.Common.{drop, Result}
 use Rattle.page_meaning.specs.ObjectRows as spec
 use Rattle.page_state.specs.Does.{Gives}
-use Rattle.builtin_object.specs.Lists.{for_object}
+use Rattle.new_lists.specs.Lists.{for_object}
 use Rattle.page_meaning.specs.Store.{Store}
 use Rattle.js_core.specs.declared.memory.Failure.{Failure}
 use Rattle.js_values.specs.declared.value.Value.{Value}

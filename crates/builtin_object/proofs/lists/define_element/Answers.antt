@@ -1,4 +1,0 @@
-use Rattle.builtin_object.proofs.lists.define_element.Goals as goal
-
-pub returns : goal.returns
-returns c = rw (c.in_ok-name.ensures, c.in_ok-clone.ensures) at c.define_whole.ensures

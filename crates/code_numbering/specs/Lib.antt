@@ -1,0 +1,2 @@
+pub mod CodedRows
+pub mod Numbered
