@@ -11,14 +11,15 @@ use Rattle.js_values.specs.declared.value.Value.TheVariants as value
 use Rattle.dom_tree.specs.declared.content.Kind.{Kind}
 use Rattle.dom_tree.specs.declared.content.Kind.TheVariants as kind
 use Rattle.dom_tree.specs.Attributes.{value_of}
-use Rattle.dom_tree.specs.Content.{has_text, text_of, type_of}
+use Rattle.dom_tree.specs.Content.{has_text, is_named, text_of, type_of}
 use Rattle.dom_tree.specs.DomText.{text_content}
 use Rattle.dom_tree.specs.Node.{Nodes, children_at, first_of, is_document, is_element, kind_at, last_of, next_of, node_at, parent_at, previous_of}
-use Rattle.dom_tree.specs.Sound.{takes_value}
+use Rattle.dom_tree.specs.Sound.{document_element, takes_value}
+use Rattle.dom_tree.specs.Steps.{NodeStep, is_there, sets_attribute, sets_text, sets_value}
+use Rattle.dom_tree.specs.Trees.{first_named}
 use Rattle.page_host.specs.declared.host_name.HostName.{HostName}
 use Rattle.page_host.specs.declared.host_name.HostName.TheVariants.{NodeType, NodeName, NodeValue, ParentNode, FirstChild, LastChild, PreviousSibling, NextSibling, OwnerDocument, TextContent, TagName, Id, ClassName, Value as HasValue, Data, DocumentElement, Body, EventType, Target, CurrentTarget, EventPhase, Bubbles, Cancelable, TimeStamp}
 use Rattle.page_host.specs.Host.{Host, document_of, object_of_node}
-use Rattle.page_host.specs.Nodes.{NodeStep, document_element, first_named, is_named, is_there, sets_attribute, sets_text, sets_value}
 
 abbrev pub Named : Type 0
 Named = List (Text × HostName)

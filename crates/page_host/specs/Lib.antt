@@ -3,6 +3,5 @@ pub mod Host
 pub mod HostNames
 pub mod Kept
 pub mod Listeners
-pub mod Nodes
 pub mod Paths
 pub mod Steps

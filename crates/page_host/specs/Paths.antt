@@ -1,8 +1,7 @@
 -- The way of an event through the nodes (DOM Level 2 Events, section 1.2).
 use Rattle.std.specs.Prelude.{ℕ, Bool, List, [], ◌∷◌, ◌++◌, map, reverse, if◌then◌else◌}
 use Rattle.js_values.specs.declared.ids.NodeId.{NodeId}
-use Rattle.dom_tree.specs.Node.{Nodes}
-use Rattle.page_host.specs.Nodes.{nodes_above}
+use Rattle.dom_tree.specs.Node.{Nodes, nodes_above}
 use Rattle.page_host.specs.declared.path.Phase.{Phase}
 use Rattle.page_host.specs.declared.path.Phase.TheVariants.{Capturing, AtTarget, Bubbling}
 use Rattle.page_host.specs.declared.path.Place.{Place}

@@ -1,17 +1,18 @@
 -- What is done to a host, one thing after another. What does not fit changes nothing, so that whatever is done keeps a host sound.
-use Rattle.std.specs.Prelude.{ℕ, ◌^◌, Bool, true, ◌&&◌, not, Option, Some, None, length, is_none, nat_le, nat_lt, if◌then◌else◌}
+use Rattle.std.specs.Prelude.{ℕ, Bool, true, ◌&&◌, not, Option, Some, None, length, is_none, nat_le, nat_lt, if◌then◌else◌}
 use Rattle.js_values.specs.declared.ids.NodeId.{NodeId}
 use Rattle.js_values.specs.declared.ids.ObjId.{ObjId}
 use Rattle.dom_tree.specs.declared.content.Kind.{Kind}
 use Rattle.dom_tree.specs.Content.{new_content}
 use Rattle.dom_tree.specs.Name.{folded}
 use Rattle.dom_tree.specs.Node.{is_document, with_new}
-use Rattle.timer_queue.specs.Timers.{after_first, cleared, due_timers, first, started}
+use Rattle.dom_tree.specs.Sound.{has_folded_name}
+use Rattle.dom_tree.specs.Steps.{NodeStep, after_node, is_there, sets_attribute}
+use Rattle.timer_queue.specs.Timers.{after_first, cleared, clock_after, due_timers, first, started, timer_limit}
 use Rattle.timer_queue.specs.declared.timer.Live.{Live}
 use Rattle.page_host.specs.declared.listener.Listener.{Listener}
 use Rattle.page_host.specs.Host.{Host, with_clock, with_listeners, with_node, with_nodes, with_timers}
 use Rattle.page_host.specs.HostNames.{is_handler}
-use Rattle.page_host.specs.Nodes.{NodeStep, after_node, clock_after, has_folded_name, is_there, sets_attribute, timer_limit}
 use Rattle.page_host.specs.Listeners.{with_listener, without_listener}
 
 pub data HostStep : Type 0 where
@@ -28,7 +29,7 @@ pub data HostStep : Type 0 where
 
 -- no number of the language is greater, and so no delay and no period. It does not unfold.
 unfoldable pub time_limit : ℕ
-time_limit = 2 ^ 53
+time_limit = 9007199254740991
 
 -- no attribute's name begins with `on`
 abbrev pub may_be_set : NodeStep → Bool

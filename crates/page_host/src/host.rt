@@ -1,7 +1,7 @@
 //! What the host keeps for a page.
 
-ghost use Rattle.std.specs.Prelude.{◌≡◌, ◌<◌, ◌^◌, length, IfOk, OnOk, OnErr};
-ghost use Rattle.page_host.specs.Host.{document_of, new_host, object_of_node};
+ghost use Rattle.std.specs.Prelude.{◌≡◌, ◌<◌, ◌^◌, length};
+ghost use Rattle.page_host.specs.Host.{new_host, object_of_node};
 
 use crate::listener::Listener;
 use dom_tree::Dom;
@@ -69,12 +69,11 @@ impl PageHost {
         &self.dom
     }
 
-    /// The object of the node.
+    /// The object of the node; where the node is not there it is what stands for none.
     pub fn object_of(&self, node: NodeId) -> ObjId
-        requires { node.0 < length self.now.nodes }
         ensures { result ≡ object_of_node self.now.objects node }
     {
-        self.objects[node.0 as usize]
+        object_at(self.objects.as_slice(), node)
     }
 
     /// The objects of the nodes, each at the place of its node's id.
@@ -105,5 +104,15 @@ impl PageHost {
         ensures early { result < 2 ^ 60 }
     {
         self.clock
+    }
+}
+
+/// The object of the node, of these, or what stands for none.
+pub(crate) fn object_at(objects: &[ObjId], node: NodeId) -> ObjId
+    ensures { result ≡ object_of_node objects.now node }
+{
+    match objects.get(node.0 as usize) {
+        Some(at) => *at,
+        None => ObjId(0),
     }
 }

@@ -4,7 +4,12 @@
 mod host;
 mod host_name;
 mod listener;
+mod listening;
+mod making;
+mod nodes;
 mod path;
+mod reading;
+mod timing;
 
 pub use host::PageHost;
 pub use host_name::HostName;

@@ -1,12 +1,14 @@
 //! What nodes answer at host names.
 
-ghost use Rattle.std.specs.Prelude.{◌≡◌, ◌<◌, [], length, unwrap_or, IfOk};
+ghost use Rattle.std.specs.Char.{to_ascii_uppercase};
+ghost use Rattle.std.specs.Prelude.{◌≡◌, ◌<◌, [], codes, length, option_copied, pos, unwrap_or, IfOk, Some};
 ghost use Rattle.dom_tree.specs.Node.{kind_at, node_at};
-ghost use Rattle.page_host.specs.HostNames.{attribute_at, content_text, has_at_node, node_name, node_reads, node_value, owner, reads_at, text_or_null, upper, value_at};
-ghost use Rattle.dom_tree.specs.Content.{is_named, text_of};
+ghost use Rattle.dom_tree.specs.Sound.{document_element};
+ghost use Rattle.page_host.specs.HostNames.{attribute_at, body_in, content_text, has_at_node, node_name, node_reads, node_value, owner, reads_at, text_or_long, text_or_null, upper, value_at};
+ghost use Rattle.dom_tree.specs.Content.{is_named, type_of};
 ghost use Rattle.dom_tree.specs.DomText.{text_content};
 
-use crate::host::PageHost;
+use crate::host::{PageHost, object_at};
 use crate::host_name::HostName;
 use dom_tree::{Dom, Kind};
 use js_core::{OutOfMemory, Units, Whole, ascii_text};
@@ -154,12 +156,7 @@ fn upper_unit(unit: u16) -> u16
 }
 
 // The attribute, or the empty text where there is none.
-fn attribute_text(
-    dom: &Dom,
-    alloc: Global,
-    node: NodeId,
-    name: &[u8],
-) -> Result<Units, OutOfMemory>
+fn attribute_text(dom: &Dom, alloc: Global, node: NodeId, name: &[u8]) -> Result<Units, OutOfMemory>
     requires { node.0 < length dom.now }
     ensures { IfOk result (λ text. text ≡ unwrap_or (attribute_at dom.now node name.now) []) }
 {
@@ -170,11 +167,7 @@ fn attribute_text(
 }
 
 // The text of a node, which is joined for an element.
-fn content_text(
-    dom: &Dom,
-    alloc: Global,
-    node: NodeId,
-) -> Result<Result<Value, Throw>, OutOfMemory>
+fn content_text(dom: &Dom, alloc: Global, node: NodeId) -> Result<Result<Value, Throw>, OutOfMemory>
     requires { node.0 < length dom.now }
     ensures { IfOk result (λ read. read ≡ content_text dom.now node (kind_at dom.now node.0)) }
 {
@@ -187,11 +180,7 @@ fn content_text(
 }
 
 // The joined text of the text nodes under a node.
-fn joined_text(
-    dom: &Dom,
-    alloc: Global,
-    node: NodeId,
-) -> Result<Result<Value, Throw>, OutOfMemory>
+fn joined_text(dom: &Dom, alloc: Global, node: NodeId) -> Result<Result<Value, Throw>, OutOfMemory>
     requires { node.0 < length dom.now }
     ensures { IfOk result (λ read. read ≡ text_or_long (text_content dom.now node)) }
 {
@@ -202,11 +191,7 @@ fn joined_text(
 }
 
 // What was set last of an `input` or `textarea`, or else the attribute of an input, or the text of a textarea.
-fn value_text(
-    dom: &Dom,
-    alloc: Global,
-    node: NodeId,
-) -> Result<Result<Value, Throw>, OutOfMemory>
+fn value_text(dom: &Dom, alloc: Global, node: NodeId) -> Result<Result<Value, Throw>, OutOfMemory>
     requires { node.0 < length dom.now }
     ensures { IfOk result (λ read. read ≡ value_at dom.now node
         (node_at dom.now node.0).content.value (kind_at dom.now node.0)) }

@@ -1,8 +1,9 @@
 //! Timers of a page, and its clock.
 
-ghost use Rattle.std.specs.Prelude.{◌≡◌, ◌<◌, ◌≤◌, ◌^◌, length, option_map, unwrap_or, IfOk, OnOk, OnErr};
+ghost use Rattle.std.specs.Prelude.{◌≡◌, ◌<◌, ◌≤◌, ◌^◌, length, nat_le, option_map, true, IfOk, OnOk, OnErr};
 ghost use Rattle.timer_queue.specs.Timers.{least_free, timer_limit};
-ghost use Rattle.page_host.specs.Steps.{after_host, clears, clock_at, fires, next_timer, starts, time_limit};
+ghost use Rattle.page_host.specs.Answers.{falls_due};
+ghost use Rattle.page_host.specs.Steps.{after_host, clears, clock_at, fires, is_period, next_timer, starts, time_limit};
 
 use crate::host::PageHost;
 use js_core::{OutOfMemory, TIMER_LIMIT};
@@ -60,5 +61,15 @@ impl PageHost {
         if self.clock <= moment && !is_due(self.queue.next_due(), moment) {
             self.clock = moment;
         }
+    }
+}
+
+// Whether the timer that is due next is due by the moment.
+fn is_due(next: Option<(u32, u64)>, moment: u64) -> bool
+    ensures { result ≡ falls_due next moment }
+{
+    match next {
+        Some((_, due)) => due <= moment,
+        None => false,
     }
 }
