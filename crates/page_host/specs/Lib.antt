@@ -1,0 +1,7 @@
+pub mod Answers
+pub mod Host
+pub mod HostNames
+pub mod Kept
+pub mod Listeners
+pub mod Paths
+pub mod Steps

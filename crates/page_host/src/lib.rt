@@ -1,0 +1,17 @@
+//! What the host keeps for a page: its nodes, each with its object, the listeners, the timers and the clock.
+#![tactic(auto)]
+
+mod host;
+mod host_name;
+mod listener;
+mod listening;
+mod making;
+mod nodes;
+mod path;
+mod reading;
+mod timing;
+
+pub use host::PageHost;
+pub use host_name::HostName;
+pub use listener::Listener;
+pub use path::{Phase, Place};
