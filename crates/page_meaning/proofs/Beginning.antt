@@ -20,7 +20,7 @@ use Rattle.object_heap.specs.Laws.{Step, after_step, after_steps, makes}
 use Rattle.object_heap.specs.Object.{Object, is_list, whole_object, with_closed}
 use Rattle.object_heap.specs.Property.{Props, fixed, lasting}
 use Rattle.object_heap.proofs.Callers.{new_fit, ordinary_fit, sound_empty, sound_steps}
-use Rattle.page_meaning.specs.Places.{document_place, event_prototype, event_prototype_place, node_prototype, node_prototype_place, array_prototype, array_prototype_place, at_place, boolean_prototype_place, console_place, error_prototype, error_prototype_place, function_place, function_prototype, math_place, number_prototype_place, object_prototype, range_error_prototype_place, reference_error_prototype_place, string_prototype_place, type_error_prototype_place}
+use Rattle.page_meaning.specs.Places.{built_in_count, event_prototype, event_prototype_place, node_prototype, node_prototype_place, array_prototype, array_prototype_place, at_place, boolean_prototype_place, console_place, error_prototype, error_prototype_place, function_place, function_prototype, math_place, number_prototype_place, object_prototype, range_error_prototype_place, reference_error_prototype_place, string_prototype_place, type_error_prototype_place}
 use Rattle.page_meaning.specs.Pristine.{built_ins, node_objects, array_prototype_props, built, constructor_is, error_prototype_props, function_prototype_props, global_props, methods, object_prototype_props, pristine, prototype_is}
 use Rattle.page_meaning.specs.Tables.{event_prototype_functions, node_prototype_functions, timer_functions, Method, array_functions, array_prototype_functions, boolean_prototype_functions, console_functions, function_prototype_functions, global_functions, math_functions, number_prototype_functions, object_functions, object_prototype_functions, string_functions, string_prototype_functions}
 
@@ -132,7 +132,7 @@ steps =
     ++ all_functions global_functions
 
 all_made : after_steps empty steps ≡ record { objects = built_ins; environments = [] }
-unfolding node_prototype_place event_prototype_place document_place node_steps host_steps array_prototype_place string_prototype_place number_prototype_place boolean_prototype_place math_place console_place error_prototype_place type_error_prototype_place range_error_prototype_place reference_error_prototype_place function_place steps first_steps constructor_steps value_steps error_steps all_functions method_made native_made made function_made
+unfolding node_prototype_place event_prototype_place built_in_count node_steps host_steps array_prototype_place string_prototype_place number_prototype_place boolean_prototype_place math_place console_place error_prototype_place type_error_prototype_place range_error_prototype_place reference_error_prototype_place function_place steps first_steps constructor_steps value_steps error_steps all_functions method_made native_made made function_made
 all_made = refl
 
 -- ---- the objects of nodes
@@ -163,7 +163,7 @@ grows k (n ∷ ns) os there =
     ∙ ap with_all (append_assoc os (o ∷ []) (node_objects (suc k) ns))
 
 enough : node_prototype_place < length built_ins
-unfolding node_prototype_place event_prototype_place document_place array_prototype_place string_prototype_place number_prototype_place boolean_prototype_place math_place console_place error_prototype_place type_error_prototype_place range_error_prototype_place reference_error_prototype_place function_place
+unfolding node_prototype_place event_prototype_place built_in_count array_prototype_place string_prototype_place number_prototype_place boolean_prototype_place math_place console_place error_prototype_place type_error_prototype_place range_error_prototype_place reference_error_prototype_place function_place
 enough = omega arith
 
 pub pristine_sound : (t : Nodes) → IsSound (pristine t).heap

@@ -19,7 +19,7 @@ use Rattle.page_meaning.specs.Act.{LeadsTo, Outcome, Ended, Stopped}
 use Rattle.page_meaning.specs.Calls.{calls_at}
 use Rattle.page_meaning.specs.Kept.{Keeps, keeps_all, keeps_on, one_step}
 use Rattle.page_meaning.specs.Laws.{KeepsKinds, LinesGrow, LoadsSound, StaysSound, TasksKeep}
-use Rattle.page_host.specs.Nodes.{sets_value}
+use Rattle.dom_tree.specs.Steps.{sets_value}
 use Rattle.page_host.specs.Steps.{in_nodes}
 use Rattle.page_meaning.specs.Pages.{Page, after_scripts, at_element, do_event, document_node, with_input}
 use Rattle.page_meaning.specs.Pristine.{pristine}

@@ -2,5 +2,3 @@ pub mod Ages
 pub mod Beginning
 pub mod Keeping
 pub mod Stepping
-pub mod Worked
-pub mod WorkedPages

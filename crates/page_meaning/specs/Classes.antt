@@ -7,7 +7,7 @@ use Rattle.object_heap.specs.declared.object.Class.{Class}
 use Rattle.object_heap.specs.declared.object.Class.TheVariants.{Page, Native, Bound, Node, Event}
 use Rattle.object_heap.specs.Chain.{object_at}
 use Rattle.dom_tree.specs.Node.{Nodes}
-use Rattle.page_host.specs.Nodes.{is_there}
+use Rattle.dom_tree.specs.Steps.{is_there}
 use Rattle.page_meaning.specs.Store.{Store}
 
 -- the classes of objects that the language makes by itself

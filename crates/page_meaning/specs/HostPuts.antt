@@ -15,7 +15,7 @@ use Rattle.object_heap.specs.declared.object.Class.TheVariants as class
 use Rattle.page_host.specs.declared.host_name.HostName.{HostName}
 use Rattle.page_host.specs.declared.host_name.HostName.TheVariants.{NodeValue, TextContent, Id, ClassName, Value as HasValue, Data}
 use Rattle.page_host.specs.HostNames.{host_name, text_step}
-use Rattle.page_host.specs.Nodes.{NodeStep, empties, inserts}
+use Rattle.dom_tree.specs.Steps.{NodeStep, empties, inserts}
 use Rattle.page_meaning.specs.Act.{Act, Calls, bind, give, done, also, asking, choose}
 use Rattle.page_meaning.specs.Classes.{class_at}
 use Rattle.page_meaning.specs.Convert.{text_in, to_text}

@@ -41,8 +41,3 @@ pub mod TextRows
 pub mod TimerRows
 pub mod ValueRows
 pub mod VisitRows
-pub mod Worked
-pub mod WorkedExpressions
-pub mod WorkedObjects
-pub mod WorkedPages
-pub mod WorkedStatements

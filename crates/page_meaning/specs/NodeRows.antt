@@ -15,7 +15,7 @@ use Rattle.dom_tree.specs.declared.content.Kind.{Kind}
 use Rattle.dom_tree.specs.declared.content.Kind.TheVariants as kind
 use Rattle.dom_tree.specs.declared.fault.DomError.{DomError}
 use Rattle.dom_tree.specs.declared.fault.DomError.TheVariants.{Hierarchy, NotFound, BadName}
-use Rattle.dom_tree.specs.Change.{insertion_error, removal_error}
+use Rattle.dom_tree.specs.Change.{insertion_error, removal_error, replacement_error}
 use Rattle.dom_tree.specs.DomText.{is_empty}
 use Rattle.dom_tree.specs.Name.{folded, is_name}
 use Rattle.dom_tree.specs.Node.{Nodes, children_at, is_document, is_element, kind_at}
@@ -25,7 +25,7 @@ use Rattle.object_heap.specs.declared.object.Class.TheVariants as class
 use Rattle.object_heap.specs.declared.object.EventParts.{EventParts}
 use Rattle.page_host.specs.declared.listener.Listener.{Listener}
 use Rattle.page_host.specs.HostNames.{attribute_at, is_handler, node_value, text_or_null}
-use Rattle.page_host.specs.Nodes.{NodeStep, drops_attribute, inserts, is_there, replacement_error, replaces, sets_attribute, takes_out}
+use Rattle.dom_tree.specs.Steps.{NodeStep, drops_attribute, inserts, is_there, replaces, sets_attribute, takes_out}
 use Rattle.page_host.specs.Steps.{HostStep, forgets, listens}
 use Rattle.whole_ops.specs.Conversions.{is_true}
 use Rattle.page_meaning.specs.Act.{Act, Calls, bind, give, done, also, asking, choose}

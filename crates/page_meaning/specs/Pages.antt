@@ -10,7 +10,7 @@ use Rattle.js_values.specs.declared.line.LineKind.TheVariants.{Dom, NoElement}
 use Rattle.dom_tree.specs.DomText.{dom_text}
 use Rattle.dom_tree.specs.Node.{Nodes}
 use Rattle.dom_tree.specs.Trees.{find_id}
-use Rattle.page_host.specs.Nodes.{sets_value}
+use Rattle.dom_tree.specs.Steps.{sets_value}
 use Rattle.page_host.specs.Steps.{in_nodes}
 use Rattle.page_meaning.specs.Pristine.{pristine}
 use Rattle.page_meaning.specs.Steps.{after_step, in_host}

@@ -62,18 +62,15 @@ event_base = node_base + (2 + length node_prototype_functions)
 abbrev pub global_base : ℕ
 global_base = event_base + (2 + length event_prototype_functions)
 
-abbrev pub built_in_count : ℕ
-built_in_count = global_base + length global_functions
-
 unfoldable pub console_place : ℕ
 console_place = console_base
 
 unfoldable pub math_place : ℕ
 math_place = math_base
 
--- the object of the document is the first after the built-in ones
-unfoldable pub document_place : ℕ
-document_place = built_in_count
+-- how many objects are built in, the global object among them
+unfoldable pub built_in_count : ℕ
+built_in_count = global_base + length global_functions
 
 -- ---- prototypes
 
@@ -248,6 +245,6 @@ node_prototype = at_place node_prototype_place
 abbrev pub event_prototype : ObjId
 event_prototype = at_place event_prototype_place
 
--- it is no built-in object, but an ordinary one that the host names
+-- the object of the document is the first after the built-in ones: an ordinary one that the global object names
 abbrev pub document : ObjId
-document = at_place document_place
+document = at_place built_in_count

@@ -15,7 +15,7 @@ use Rattle.object_heap.specs.Object.{Object}
 use Rattle.dom_tree.specs.declared.content.Kind.{Kind}
 use Rattle.page_meaning.specs.Act.{ActOf, Outcome, Ended, Stopped, LeadsTo}
 use Rattle.page_meaning.specs.Kept.{AddNone, heap_changed, keeps_all, one_step}
-use Rattle.page_host.specs.Nodes.{NodeStep}
+use Rattle.dom_tree.specs.Steps.{NodeStep}
 use Rattle.page_host.specs.Steps.{HostStep, in_nodes}
 use Rattle.page_meaning.specs.Classes.{is_made}
 use Rattle.page_meaning.specs.Events.{EventStep}

@@ -1,6 +1,6 @@
 -- Meaning: a page before its scripts (section 15). The built-in objects by age: `window`, `Object.prototype`, `Function.prototype`, and
 -- then those that a walk from `window` meets: it goes through own properties in order, and into an object at once.
-use Rattle.std.specs.Prelude.{ℕ, suc, List, [], ◌∷◌, ◌++◌, Some, None, codes, map}
+use Rattle.std.specs.Prelude.{ℕ, suc, List, [], ◌∷◌, ◌++◌, Some, None, codes, length, map}
 use Rattle.js_values.specs.declared.built_in.BuiltIn.{BuiltIn}
 use Rattle.js_values.specs.declared.built_in.BuiltIn.TheVariants as built_in
 use Rattle.js_values.specs.declared.ids.ObjId.{ObjId}
@@ -18,7 +18,7 @@ use Rattle.dom_tree.specs.Node.{Nodes}
 use Rattle.object_heap.specs.Object.{Object, whole_object, with_closed}
 use Rattle.object_heap.specs.Property.{Props, fixed, hidden, lasting}
 use Rattle.page_host.specs.Host.{new_host}
-use Rattle.page_meaning.specs.Places.{at_place, window, array_prototype, boolean_prototype_place, console_place, document, document_place, error_prototype, event_prototype, node_prototype, function_at, function_prototype, math_place, number_prototype_place, object_prototype, string_prototype_place}
+use Rattle.page_meaning.specs.Places.{at_place, window, array_prototype, boolean_prototype_place, console_place, document, built_in_count, error_prototype, event_prototype, node_prototype, function_at, function_prototype, math_place, number_prototype_place, object_prototype, string_prototype_place}
 use Rattle.page_meaning.specs.Store.{Store, silent}
 use Rattle.page_meaning.specs.Tables.{Method, array_functions, array_prototype_functions, boolean_prototype_functions, console_functions, event_prototype_functions, function_prototype_functions, global_functions, math_functions, node_prototype_functions, number_prototype_functions, object_functions, object_prototype_functions, string_functions, string_prototype_functions, timer_functions}
 
@@ -87,6 +87,10 @@ global_values = (codes "undefined", fixed value.Undefined) ∷ (codes "NaN", fix
 
 abbrev pub global_props : Props
 global_props = global_host ++ (global_constructors ++ (global_errors ++ (global_nodes ++ (methods global_functions ++ global_values))))
+
+-- how many properties the global object begins with. It does not unfold.
+unfoldable pub built_in_globals : ℕ
+built_in_globals = length global_props
 
 abbrev pub object_prototype_props : Props
 object_prototype_props = constructor_is built_in.Object ∷ methods object_prototype_functions
@@ -195,4 +199,4 @@ places_from k (n ∷ ns) = at_place k ∷ places_from (suc k) ns
 
 -- a page before its scripts, with these nodes
 abbrev pub pristine : Nodes → Store
-pristine t = silent (record { objects = built_ins ++ node_objects 0 t; environments = [] }) (new_host t (places_from document_place t))
+pristine t = silent (record { objects = built_ins ++ node_objects 0 t; environments = [] }) (new_host t (places_from built_in_count t))

@@ -7,8 +7,7 @@ use Rattle.js_values.specs.declared.throw.Throw.TheVariants.{OutOfRange, WrongAr
 use Rattle.js_values.specs.declared.value.Value.{Value}
 use Rattle.js_values.specs.declared.value.Value.TheVariants as value
 use Rattle.timer_queue.specs.declared.timer.Live.{Live}
-use Rattle.timer_queue.specs.Timers.{least_free}
-use Rattle.page_host.specs.Nodes.{timer_limit}
+use Rattle.timer_queue.specs.Timers.{least_free, timer_limit}
 use Rattle.page_host.specs.Steps.{clears, clock_at, fires, next_timer, starts}
 use Rattle.page_meaning.specs.Act.{Act, Calls, bind, give, done, also, asking, choose}
 use Rattle.page_meaning.specs.Convert.{number_in, to_number}

@@ -3,7 +3,7 @@ use Rattle.std.specs.Prelude.{pos, true, false, List, [], ◌∷◌, Some, None,
 use Rattle.js_core.specs.declared.operators.BinaryOp.TheVariants as op
 use Rattle.js_core.specs.declared.operators.UnaryOp.TheVariants as un
 use Rattle.js_core.specs.Tree.{assign, binary, bool, break, call, code, construct, continue, do_while, expr, exprs_of, for, for_in, func, function, holes_of, if_else, index, init_var, list, literal, member, name, no_body, no_cases, no_catch, no_declarators, no_expr, no_fields, no_init, no_stmts, null, num, one_body, one_catch, one_expr, return, stmts_of, switch, text, then_case, then_declarator, then_field, this, throw, try, unary, update, var, while}
-use Rattle.page_meaning.specs.Worked.{Worked, logged, not_caught}
+use Rattle.worked_pages.specs.Worked.{Worked, logged, not_caught}
 
 -- loops, their steps and what ends them (section 12.6)
 abbrev pub loops : List Worked

@@ -3,7 +3,7 @@ use Rattle.std.specs.Prelude.{true, pos, List, [], ◌∷◌, Some, None, codes}
 use Rattle.js_core.specs.declared.operators.BinaryOp.TheVariants as op
 use Rattle.js_core.specs.declared.operators.UnaryOp.TheVariants as un
 use Rattle.js_core.specs.Tree.{assign, binary, bool, call, code, construct, expr, exprs_of, for_in, func, holes_of, index, list, literal, member, name, no_body, no_declarators, no_fields, no_stmts, null, num, one_catch, one_expr, stmts_of, text, then_declarator, then_field, throw, try, unary, var}
-use Rattle.page_meaning.specs.Worked.{Worked, logged, not_caught}
+use Rattle.worked_pages.specs.Worked.{Worked, logged, not_caught}
 
 -- properties, descriptors and prototypes (section 15.2)
 abbrev pub objects : List Worked

@@ -3,7 +3,7 @@ use Rattle.std.specs.Prelude.{pos, true, false, List, [], ◌∷◌, Some, None,
 use Rattle.js_core.specs.declared.operators.BinaryOp.TheVariants as op
 use Rattle.js_core.specs.declared.operators.UnaryOp.TheVariants as un
 use Rattle.js_core.specs.Tree.{assign, binary, bool, call, code, comma, construct, expr, exprs_of, func, function, holes_of, index, list, literal, member, name, no_body, no_declarators, no_expr, no_fields, no_stmts, null, num, one_catch, one_expr, return, stmts_of, text, then_declarator, then_field, this, throw, try, unary, update, var}
-use Rattle.page_meaning.specs.Worked.{Worked, logged, not_caught}
+use Rattle.worked_pages.specs.Worked.{Worked, logged, not_caught}
 
 -- how names and properties are resolved, in which order (sections 8.7, 10.2 and 11.2)
 abbrev pub references : List Worked
