@@ -4,7 +4,6 @@ pub mod Callers
 pub mod Chains
 pub mod Does
 pub mod Entering
-pub mod FunctionTables
 pub mod InTurn
 pub mod Joined
 pub mod LineTexts
@@ -16,4 +15,3 @@ pub mod Taking
 pub mod TopNames
 pub mod Values
 pub mod Visits
-pub mod Youngest

@@ -84,7 +84,12 @@ impl State {
         ensures { IfOk result (λ at. Does (λ _. fresh_for function.now) self.old at self.new) }
     {
         let name = ascii_text(self.alloc(), b"prototype")?;
-        let found = self.read_property(function, &name)?;
+        let found = match function {
+            Value::Object(at) => self.get_at(*at, &name)?,
+            Value::Undefined | Value::Null | Value::Bool(_) | Value::Num(_) | Value::Text(_) => {
+                Value::Undefined
+            }
+        };
         self.new_object(Some(object_or(OBJECT_PROTOTYPE, &found)))
     }
 }

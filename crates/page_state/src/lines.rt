@@ -4,7 +4,6 @@ ghost use Rattle.std.specs.Prelude.{◌≡◌, ◌++◌, ◌∷◌, IfOk, OnOk, 
 ghost use Rattle.std.specs.List.{flat_map};
 ghost use Rattle.page_meaning.specs.Lines as spec;
 ghost use Rattle.page_meaning.specs.Properties.{class_at, get_at};
-ghost use Rattle.page_meaning.specs.Tasks as tasks;
 ghost use Rattle.page_state.specs.LineTexts.{spaced};
 
 use crate::convert::text_of;
@@ -71,7 +70,7 @@ impl State {
 
     /// The text of the line of an exception that nothing caught: of an error its name and its message.
     pub fn uncaught_text(&self, value: &Value) -> Result<Units, OutOfMemory>
-        ensures { IfOk result (λ t. t ≡ tasks.uncaught_text self.now value.now) }
+        ensures { IfOk result (λ t. t ≡ spec.uncaught_text self.now value.now) }
     {
         match value {
             Value::Object(at) => self.object_text(*at, value),
@@ -81,7 +80,7 @@ impl State {
     }
 
     fn object_text(&self, at: ObjId, value: &Value) -> Result<Units, OutOfMemory>
-        ensures { IfOk result (λ t. t ≡ tasks.text_by_class
+        ensures { IfOk result (λ t. t ≡ spec.text_by_class
             (class_at self.now at) self.now value.now) }
     {
         match self.class(at) {
@@ -99,7 +98,7 @@ impl State {
     }
 
     fn error_text(&self, value: &Value) -> Result<Units, OutOfMemory>
-        ensures { IfOk result (λ t. t ≡ tasks.error_text self.now value.now) }
+        ensures { IfOk result (λ t. t ≡ spec.error_text self.now value.now) }
     {
         match value {
             Value::Object(at) => {

@@ -1,0 +1,99 @@
+//! Listeners, timers and the clock of a page.
+
+ghost use Rattle.std.specs.Prelude.{◌≡◌, ◌<◌, ◌^◌, IfOk, OnOk, option_map};
+ghost use Rattle.page_host.specs.Steps.{clears, clock_at, fires, forgets, listens, next_timer, starts};
+ghost use Rattle.page_meaning.specs.Dispatch as dispatch;
+ghost use Rattle.page_meaning.specs.Primitives.{changes_host};
+ghost use Rattle.page_state.specs.Does.{Does};
+
+use crate::state::State;
+use js_core::OutOfMemory;
+use js_values::{NodeId, ObjId, Value};
+use page_host::{Listener, Place};
+
+// No number of the language is greater.
+const TIME_LIMIT: u64 = 9_007_199_254_740_991;
+
+impl State {
+    /// A listener is added, where it is not there yet. What cannot be called is not.
+    pub fn listen(&mut self, listener: Listener) -> Result<(), OutOfMemory>
+        ensures { OnOk result (Does (λ _. changes_host (listens listener)) self.old tt self.new) }
+    {
+        if !self.is_function(&Value::Object(listener.call)) {
+            return Ok(());
+        }
+        if listener.node.0 >= self.host.dom().count() {
+            return Ok(());
+        }
+        self.host.listen(listener)
+    }
+
+    /// A listener is removed.
+    pub fn forget(&mut self, listener: &Listener)
+        ensures { Does (λ _. changes_host (forgets listener.now)) self.old tt self.new }
+    {
+        self.host.forget(listener);
+    }
+
+    /// Whether the listener is there.
+    pub fn is_registered(&self, listener: &Listener) -> bool
+        ensures { result ≡ dispatch.is_registered listener.now self.now }
+    {
+        self.host.is_registered(listener)
+    }
+
+    /// The way of an event at the node.
+    pub fn path(&self, node: NodeId, bubbles: bool) -> Result<Vec<Place>, OutOfMemory> {
+        if node.0 >= self.host.dom().count() {
+            return Ok(Vec::new(self.alloc()));
+        }
+        self.host.path(self.alloc(), node, bubbles)
+    }
+
+    /// Starts a timer and gives its id, or `None` exactly where as many are live as may be.
+    pub fn start_timer(
+        &mut self,
+        delay: u64,
+        period: Option<u64>,
+        call: ObjId,
+    ) -> Result<Option<u32>, OutOfMemory> {
+        if self.host.is_full() {
+            return Ok(None);
+        }
+        if delay > TIME_LIMIT || !is_period(period) || !self.is_function(&Value::Object(call)) {
+            return Err(OutOfMemory);
+        }
+        Ok(Some(self.host.start(delay, period, call)?))
+    }
+
+    /// Removes the timer with this id; where none is live nothing changes.
+    pub fn clear_timer(&mut self, id: u64)
+        ensures { Does (λ _. changes_host (clears id)) self.old tt self.new }
+    {
+        self.host.clear(id);
+    }
+
+    /// The timer that is due first up to the moment comes due, and its function is given.
+    pub fn fire_timer(&mut self, moment: u64) -> Option<ObjId>
+        requires { moment < 2 ^ 60 }
+        ensures due { result ≡ option_map (λ t. t.call) (next_timer self.old.host moment) }
+        ensures fired { Does (λ _. changes_host (fires moment)) self.old tt self.new }
+    {
+        self.host.fire(moment)
+    }
+
+    /// Time passes up to the moment.
+    pub fn set_clock(&mut self, moment: u64)
+        requires { moment < 2 ^ 60 }
+        ensures { Does (λ _. changes_host (clock_at moment)) self.old tt self.new }
+    {
+        self.host.set_clock(moment);
+    }
+}
+
+fn is_period(period: Option<u64>) -> bool {
+    match period {
+        None => true,
+        Some(n) => n >= 1 && n <= TIME_LIMIT,
+    }
+}
