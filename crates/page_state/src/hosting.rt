@@ -73,6 +73,11 @@ impl State {
         self.host.clear(id);
     }
 
+    /// Whether a timer is due up to the moment.
+    pub fn is_timer_due(&self, moment: u64) -> bool {
+        self.host.timers().iter().any(|timer| timer.due <= moment)
+    }
+
     /// The timer that is due first up to the moment comes due, and its function is given.
     pub fn fire_timer(&mut self, moment: u64) -> Option<ObjId>
         requires { moment < 2 ^ 60 }

@@ -4,13 +4,15 @@ ghost use Rattle.std.specs.Prelude.{◌≡◌, ◌++◌, ◌∷◌, IfOk, OnOk, 
 ghost use Rattle.std.specs.List.{flat_map};
 ghost use Rattle.page_meaning.specs.Lines as spec;
 ghost use Rattle.page_meaning.specs.Properties.{class_at, get_at};
+ghost use Rattle.page_state.specs.Does.{Does};
 ghost use Rattle.page_state.specs.LineTexts.{spaced};
 
 use crate::convert::text_of;
 use crate::state::State;
 use js_core::{OutOfMemory, Units, ascii_text, push_ascii};
-use js_values::{ObjId, Value};
+use js_values::{LineKind, ObjId, Value};
 use object_heap::Class;
+use page_meaning::Signal;
 
 impl State {
     /// The text of a value in a line: an object tells its class.
@@ -76,6 +78,19 @@ impl State {
             Value::Object(at) => self.object_text(*at, value),
             Value::Undefined | Value::Null | Value::Bool(_) | Value::Num(_) | Value::Text(_) =>
                 self.log_text(value),
+        }
+    }
+
+    /// What a listener or a timer's function threw is put out as a line.
+    pub fn put_uncaught(&mut self, end: &Signal) -> Result<(), OutOfMemory>
+        ensures { OnOk result (Does (λ _. spec.put_uncaught end.now) self.old tt self.new) }
+    {
+        match end {
+            Signal::Thrown(value) => {
+                let text = self.uncaught_text(value)?;
+                self.put_line(LineKind::Uncaught, text)
+            }
+            Signal::Value(_) | Signal::Return(_) | Signal::Break | Signal::Continue => Ok(()),
         }
     }
 

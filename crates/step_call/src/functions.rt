@@ -288,7 +288,7 @@ fn text_maker(state: &State, list: ObjId) -> Result<Value, OutOfMemory>
     ensures { IfOk result (λ v. v ≡ spec.text_maker list state.now) }
 {
     let name = ascii_text(state.alloc(), b"join")?;
-    let join = state.read_property(&Value::Object(list), &name)?;
+    let join = state.get_at(list, &name)?;
     if state.is_function(&join) {
         Ok(join)
     } else {
