@@ -1,24 +1,24 @@
 #!/bin/sh
-# Times the finding of scopes on uses of one variable under 1, 10 and 100 functions inside it, and on 50,000 small functions
+# Times the rule of form on uses of one variable under 1, 10 and 100 functions inside it, and on 50,000 small functions
 # under as many: the best of five runs, the nanoseconds for each byte of the script, and their ratio to the first row's, which
 # stays near 1 as a use costs the same whatever stands round it. The script is parsed before the clock starts.
 . "$(dirname "$0")/frame.sh"
-repository scopes_bench js_core global_names js_lexer js_grammar js_print expression_parser script_parser scope_analysis
+repository scopes_bench js_core global_names js_lexer js_grammar js_print expression_parser script_parser scope_analysis early_rules script_rules
 cat >"$work/crates/scopes_bench/src/main.rt" <<'END'
-//! Prints for each file that is named how many bytes its script has, and the nanoseconds in which its scopes are found.
+//! Prints for each file that is named how many bytes its script has, and the nanoseconds in which the rule of form is asked of it.
 #![tactic(auto)]
 
 use js_core::{Script, Units};
 use js_lexer::tokens;
-use scope_analysis::resolve;
 use script_parser::script;
+use script_rules::in_form;
 use std::fs;
 use std::io;
 use std::time::Instant;
 
 fn time_script(rt: &HostRuntime, length: usize, script: &Script) -> io::Result<()> {
     let start = Instant::now(rt)?;
-    let found = resolve(rt.alloc(), script);
+    let found = in_form(rt.alloc(), script);
     let spent = start.elapsed(rt)?;
     match found {
         Ok(_) => println!(rt; "{} {}", length, spent.as_nanos())?,

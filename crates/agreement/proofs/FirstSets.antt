@@ -5,7 +5,7 @@ use Rattle.code_table.specs.Declarations.{functions_of}
 use Rattle.js_core.specs.Tree as tree
 use Rattle.js_core.specs.Tree.{assign, expr, literal, name, no_declarators, no_stmts, one_expr, then_declarator, then_stmt, var}
 use Rattle.page_meaning.specs.Functions.{Declared, function_names}
-use Rattle.scope_analysis.specs.Form.{are_plain_fields}
+use Rattle.script_rules.specs.Form.{are_plain_fields}
 use Rattle.scope_analysis.specs.Names.{declared_names, is_among}
 use Rattle.instrumenter.specs.Counting.{stmt_scopes}
 use Rattle.heap_relations.specs.Naming.{Frame, Free}

@@ -26,7 +26,7 @@ use Rattle.page_meaning.specs.Store.{Store, with_heap}
 use Rattle.page_meaning.specs.declared.reference.Reference.TheVariants as reference
 use Rattle.page_meaning.specs.declared.signal.Signal.{Signal}
 use Rattle.page_meaning.specs.declared.signal.Signal.TheVariants as signal
-use Rattle.scope_analysis.specs.Form.{are_plain_fields, is_plain_value, is_zero}
+use Rattle.script_rules.specs.Form.{are_plain_fields, is_plain_value, is_zero}
 use Rattle.heap_relations.proofs.Callers as heap
 use Rattle.heap_relations.proofs.Callers.{larger_more, larger_same}
 use Rattle.heap_relations.specs.Laws.{free_slot}

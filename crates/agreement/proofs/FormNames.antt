@@ -7,11 +7,12 @@ use Rattle.std.proofs.Math.Bool.{and-false}
 use Rattle.js_core.specs.Tree as tree
 use Rattle.js_core.specs.Tree.{assign, expr, function, literal, name, no_declarators, no_fields, no_stmts, one_expr, then_declarator, then_field, then_stmt, var}
 use Rattle.code_table.specs.Declarations.{functions_of}
-use Rattle.scope_analysis.specs.Form.{are_plain_fields, can_be_rebuilt, is_assigned_once, is_constant, is_declaration, is_field_of, is_opened, is_once, may_be_captured, opens_with}
+use Rattle.script_rules.specs.Form.{are_plain_fields, can_be_rebuilt, is_constant, is_field_of, is_opened, is_once, may_be_captured, opens_with}
+use Rattle.scope_analysis.specs.Uses.{Use, assignment, fields_uses, is_assigned, is_assigned_once, is_captured, stmts_uses}
+use Rattle.early_rules.specs.FormNodes.{is_declaration}
 use Rattle.scope_analysis.specs.Identifiers.{is_reserved}
 use Rattle.scope_analysis.specs.Names.{declared_names, is_among}
 use Rattle.scope_analysis.specs.Nodes.{stmt_any, stmts_any}
-use Rattle.scope_analysis.specs.Uses.{Use, assignment, fields_uses, is_assigned, is_captured, stmts_uses}
 use Rattle.instrumenter.proofs.Callers.{Among, Each, Missing, all_pass, among_right, each_among, same_name}
 use Rattle.agreement.specs.Opened.{are_sure, begins_with_set, declares_none, is_bound, is_sure}
 

@@ -3,8 +3,9 @@ use Rattle.std.proofs.Common.{◌≡◌, ℕ, Bool, true, false, ◌||◌, List,
 use Rattle.std.proofs.lemmas.Bool.{or_parts}
 use Rattle.js_core.specs.Tree as tree
 use Rattle.js_core.specs.Tree.{assign, expr, literal, name, no_declarators, no_expr, one_expr, then_declarator, then_stmt, var}
-use Rattle.scope_analysis.specs.EarlyRules.{assigns_own_name}
-use Rattle.scope_analysis.specs.Form.{are_plain_fields, is_declaration, scope_out_of_form}
+use Rattle.early_rules.specs.EarlyRules.{assigns_own_name}
+use Rattle.script_rules.specs.Form.{are_plain_fields, scope_out_of_form}
+use Rattle.early_rules.specs.FormNodes.{is_declaration}
 use Rattle.scope_analysis.specs.Nodes.{Node, fields_any, stmts_any}
 use Rattle.scope_analysis.specs.Uses.{Use, declarator_uses, expr_uses, fields_uses, maybe_expr_uses, stmts_uses, target_uses}
 use Rattle.instrumenter.proofs.Callers.{Each, each_parts}

@@ -7,12 +7,12 @@ use Rattle.js_core.specs.Tree as tree
 use Rattle.js_core.specs.Tree.{assign, code, expr, func, function, literal, name, no_declarators, one_catch, one_expr, then_declarator, then_stmt, var}
 use Rattle.js_grammar.specs.Syntax.{AreStmts}
 use Rattle.code_table.specs.Declarations.{functions_of}
-use Rattle.scope_analysis.specs.EarlyRules.{assigns_maybe}
-use Rattle.scope_analysis.specs.Form.{are_variables_in_form, boxes, is_assigned_once, is_field_of, is_not_captured, is_parameter_in_form}
+use Rattle.early_rules.specs.EarlyRules.{assigns_maybe}
+use Rattle.script_rules.specs.Form.{are_variables_in_form, boxes, is_field_of, is_not_captured, is_parameter_in_form}
+use Rattle.scope_analysis.specs.Uses.{Use, catch_uses, expr_uses, fields_uses, is_assigned, is_assigned_once, is_captured, leaving_function, stmt_uses, stmts_uses}
 use Rattle.scope_analysis.specs.Identifiers.{is_reserved}
 use Rattle.scope_analysis.specs.Names.{bound_names, declared_names, is_among, maybe_name, own_name}
 use Rattle.scope_analysis.specs.Nodes.{catch_any, declarators_any, clause, expr_any, expression, fields_any, maybe_expr_any, statement, stmt_any, stmts_any}
-use Rattle.scope_analysis.specs.Uses.{Use, catch_uses, expr_uses, fields_uses, is_assigned, is_captured, leaving_function, stmt_uses, stmts_uses}
 use Rattle.instrumenter.proofs.Callers.{Among, Each, Leaving, Missing, Staying, all_pass, each_always, each_parts, each_so, leaving_from, leaving_to, missing_both, missing_parts, name_is_own, same_name, staying_to}
 use Rattle.scope_chains.proofs.Callers.{entry_bound}
 use Rattle.heap_relations.specs.Naming.{Absent, Frame, Place, Sealed, resolve, resolved}

@@ -3,8 +3,8 @@ use Rattle.std.proofs.Common.{◌≡◌, refl, ℕ, ◌+◌, ◌<◌, ◌≤◌,
 use Rattle.std.proofs.lemmas.Bool.{and_from, and_parts, lt-ltb, ltb-true, not_from_false, or_parts}
 use Rattle.js_core.specs.Tree as tree
 use Rattle.js_core.specs.Tree.{name, one_expr, no_expr}
-use Rattle.scope_analysis.specs.EarlyRules.{assigns_own_name, deletes_name}
-use Rattle.scope_analysis.specs.Form.{has_reserved_identifier}
+use Rattle.early_rules.specs.EarlyRules.{assigns_own_name, deletes_name}
+use Rattle.early_rules.specs.FormNodes.{has_reserved_identifier}
 use Rattle.scope_analysis.specs.Identifiers as identifiers
 use Rattle.scope_analysis.specs.Nodes.{Node}
 use Rattle.scope_analysis.specs.Uses.{Use, declarator_uses, expr_uses, maybe_expr_uses, target_uses}

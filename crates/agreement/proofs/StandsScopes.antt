@@ -5,8 +5,8 @@ use Rattle.std.proofs.lemmas.Bool.{and_from, both_ways, false_from_ne_true, lt-l
 use Rattle.js_core.specs.Tree as tree
 use Rattle.js_core.specs.Tree.{code, func, function, one_catch}
 use Rattle.js_grammar.specs.Syntax.{AreStmts}
-use Rattle.scope_analysis.specs.EarlyRules.{assigns_maybe}
-use Rattle.scope_analysis.specs.Form.{has_reserved_identifier}
+use Rattle.early_rules.specs.EarlyRules.{assigns_maybe}
+use Rattle.early_rules.specs.FormNodes.{has_reserved_identifier}
 use Rattle.scope_analysis.specs.Identifiers as identifiers
 use Rattle.scope_analysis.specs.Names.{bound_names, declared_names, is_among, maybe_name, own_name}
 use Rattle.scope_analysis.specs.Nodes.{Node, catch_any, expr_any, stmt_any, stmts_any}

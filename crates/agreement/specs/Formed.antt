@@ -4,7 +4,7 @@ use Rattle.std.specs.List.{list_all}
 use Rattle.code_table.specs.Declarations.{name_of}
 use Rattle.js_core.specs.Tree as tree
 use Rattle.js_core.specs.Tree.{code, func, function}
-use Rattle.scope_analysis.specs.Form.{is_factory}
+use Rattle.early_rules.specs.FormNodes.{is_factory}
 use Rattle.scope_analysis.specs.Identifiers.{is_reserved}
 use Rattle.scope_analysis.specs.Nodes.{Node, expression, statement}
 use Rattle.scope_analysis.specs.Uses.{expr_uses, is_captured, stmts_uses}

@@ -17,7 +17,7 @@ use Rattle.heap_relations.specs.Naming.{are_below, Captured, Copied, Copy, Fixed
 use Rattle.heap_relations.specs.Related.{Each, ValueRel}
 use Rattle.heap_relations.specs.Scope.{own_frame}
 use Rattle.code_table.specs.Declarations.{functions_of}
-use Rattle.scope_analysis.specs.Form.{are_plain_fields}
+use Rattle.script_rules.specs.Form.{are_plain_fields}
 use Rattle.js_values.specs.declared.ids.EnvId.{EnvId}
 use Rattle.js_values.specs.declared.value.Value.{Value}
 use Rattle.js_values.specs.declared.value.Value.TheVariants.{Object, Undefined}

@@ -1,21 +1,21 @@
 -- The causes of a command's end exclude each other, and there is always one.
-use Rattle.std.proofs.Common.{◌≡◌, ℕ, ◌<◌, ◌≤◌, List, [], ◌∷◌, length, Option, Some, None, Result, Ok, Err, refl, sym, ap, ◌∙◌, subst, inl, inr, arith}
+use Rattle.std.proofs.Common.{◌≡◌, ℕ, ◌<◌, ◌≤◌, Bool, true, false, List, [], ◌∷◌, length, Option, Some, None, Result, Ok, Err, refl, sym, ap, ◌∙◌, subst, inl, inr, arith}
 use Rattle.std.specs.Prelude.{◌⊎◌, All}
 use Rattle.page_io.specs.Content.{Told}
-use Rattle.page_check.specs.Accept.{IsAcceptedAs, IsRefused}
-use Rattle.page_check.specs.declared.page.Kind.{Kind}
+use Rattle.page_check.specs.Accept.{IsRefused}
 use Rattle.page_check.specs.declared.page.Refusal.{Refusal}
-use Rattle.js_core.specs.Tree as tree
+use Rattle.page_check.specs.declared.page.Refusal.TheVariants.{NotPage}
 use Rattle.js_values.specs.declared.event.Event.{Event}
 use Rattle.event_file.specs.Events.{calls_of}
 use Rattle.command_line.specs.declared.status.Status.{Status}
 use Rattle.command_line.specs.declared.status.Status.TheVariants as status
 use Rattle.command_line.specs.declared.command.Work.TheVariants.{Replay, Save}
+use Rattle.command_line.specs.Bare.{IsBareAs, is_bare}
 use Rattle.command_line.specs.Command.{Command, check, instrument, session}
-use Rattle.command_line.specs.Page.{page_limit, event_file_limit, Page, Accepts, IsPage}
+use Rattle.command_line.specs.Page.{page_limit, event_file_limit, Page, IsAccepted, IsPage}
 use Rattle.command_line.specs.Replay.{IsEventFile}
 use Rattle.command_line.specs.Saving.{IsTooLarge, IsMovable}
-use Rattle.command_line.specs.Stages.{Seen, Of, Held, IsNoEventFile, Stage, words, page_file, acceptance, event_file, moving, writing, Stops, Passes, EndsAt, IsQuiet, CausesExclude, IsReadOrFailed, names_of, work_of, work_behind, stages_of, SomeCause}
+use Rattle.command_line.specs.Stages.{Seen, Of, Held, IsNoEventFile, Stage, words, page_file, acceptance, bareness, event_file, moving, writing, Stops, Passes, EndsAt, IsQuiet, CausesExclude, IsReadOrFailed, names_of, work_of, work_behind, stages_of, SomeCause}
 use Rattle.command_line.proofs.Moves.{OneAcceptance}
 use Rattle.command_line.proofs.Numbers.{at_most_or_more}
 use Rattle.command_line.proofs.Outcomes.{one_weight, large_or_little, some_outcome}
@@ -27,7 +27,7 @@ OneCause = (bytes : List ℕ) (cause other : Refusal) → IsRefused bytes cause 
 
 -- and not both accepted and refused
 abbrev NotBoth : Type 0
-NotBoth = (bytes : List ℕ) (kind : Kind) (scripts : List tree.Stmts) (cause : Refusal) → IsAcceptedAs bytes kind scripts → IsRefused bytes cause → ⊥
+NotBoth = (bytes : List ℕ) (page : Page) (cause : Refusal) → IsAccepted bytes page → IsRefused bytes cause → ⊥
 
 -- ---- one status at most stops at a stage
 
@@ -60,6 +60,7 @@ module _ (seen : Seen) (quiet : IsQuiet seen) (one_page : OneAcceptance) (one_ca
   one_stop (acceptance p) s t h k =
       let same = of_name p (λ b. IsRefused b h.0) (λ b. IsRefused b k.0) (h.0 ≡ k.0) h.2 k.2 (λ b x y. one_cause b h.0 k.0 x y) in
       h.1 ∙ ap (λ (r : Refusal). status.PageRefused (Some r)) same ∙ sym k.1
+  one_stop (bareness p) s t h k = h.0 ∙ sym k.0
   one_stop (event_file e) s t h k =
       let same = of_name e (λ f. IsNoEventFile f h.0) (λ f. IsNoEventFile f k.0) (h.0 ≡ k.0) h.2 k.2 (λ f x y. one_number f h.0 k.0 x y) in
       h.1 ∙ ap status.EventsRefused same ∙ sym k.1
@@ -73,13 +74,17 @@ module _ (seen : Seen) (quiet : IsQuiet seen) (one_page : OneAcceptance) (one_ca
   moving_or_not : (p e : List ℕ) (s : Status) → StopsAs (moving p e) seen s → Passes (moving p e) seen → ⊥
   moving_or_not p e s k h = of_names p e (λ b f. IsTooLarge b f k.0) IsMovable ⊥ k.2 h (λ b f x y. large_or_little one_page b f k.0 x y)
 
+  bare_or_not : (bytes : List ℕ) → IsBareAs bytes false → IsBareAs bytes true → ⊥
+  bare_or_not bytes a b = let off : false ≡ true = sym a.nodes ∙ ap (λ (page : Page). is_bare page.nodes) (one_page bytes a.page b.page a.accepted b.accepted) ∙ b.nodes in cc
+
   -- a stage is not both passed and where the command stops
   stop_or_pass : (g : Stage) (s : Status) → Stops g s seen → StopsAs g seen s → ¬ Passes g seen
   stop_or_pass (words None) s h k p = cc
   stop_or_pass (words (Some c)) s h k p = absurd h
   stop_or_pass (page_file n) s h k p = of_name n (λ b. page_limit < length b) (λ b. length b ≤ page_limit) ⊥ k.1 p (λ b x y. omega (arith, x, y))
   stop_or_pass (acceptance n) s h k p =
-      of_name n (λ b. IsRefused b k.0) (λ b. (page : Page) × Accepts b page) ⊥ k.2 p (λ b x y. not_both b y.0.kind y.0.scripts k.0 y.1 x)
+      of_name n (λ b. IsRefused b k.0) (λ b. (page : Page) × IsAccepted b page) ⊥ k.2 p (λ b x y. not_both b y.0 k.0 y.1 x)
+  stop_or_pass (bareness n) s h k p = of_name n (λ b. IsBareAs b false) (λ b. IsBareAs b true) ⊥ k.1 p bare_or_not
   stop_or_pass (event_file n) s h k p =
       of_name n (λ f. IsNoEventFile f k.0) (λ f. (events : List Event) × IsEventFile f events) ⊥ k.2 p (λ f x y. file_or_none f k.0 x y)
   stop_or_pass (moving m n) s h k p = moving_or_not m n s k p
@@ -101,7 +106,7 @@ causes_exclude one_page one_cause not_both command s t seen quiet n m h k =
 -- no bytes are neither accepted nor refused
 abbrev NoneNeither : Type 0
 NoneNeither =
-    (bytes : List ℕ) → ((kind : Kind) (scripts : List tree.Stmts) → ¬ IsAcceptedAs bytes kind scripts)
+    (bytes : List ℕ) → ((page : Page) → ¬ IsAccepted bytes page)
     → ((cause : Refusal) → ¬ IsRefused bytes cause) → ⊥
 
 of_held : (told : Told) (bytes : List ℕ) (P : List ℕ → Type 0) → told ≡ Some (Some bytes) → P bytes → Of told P
@@ -131,12 +136,20 @@ module _ (seen : Seen) (none_neither : NoneNeither) where
       by_case (inr many) = never (status.PageRefused None) (λ e. cc) (inl (of_held _ held.0 (λ b. page_limit < length b) held.1 many))
 
   behind_acceptance : (p bytes : List ℕ) (gs : List Stage) → IsHeld p bytes → No (acceptance p ∷ gs)
-      → ((page : Page) → Accepts bytes page → No gs → ⊥) → ⊥
+      → ((page : Page) → IsAccepted bytes page → No gs → ⊥) → ⊥
   behind_acceptance p bytes gs held never k = none_neither bytes
-      (λ kind scripts a.
-      let page : Page = record { kind = kind; scripts = scripts } in
-      k page a (next (acceptance p) gs never (of_held _ bytes (λ b. (page : Page) × Accepts b page) held (page, a))))
+      (λ page a. k page a (next (acceptance p) gs never (of_held _ bytes (λ b. (page : Page) × IsAccepted b page) held (page, a))))
       (λ cause h. never (status.PageRefused (Some cause)) (λ e. cc) (inl (of_held _ bytes (λ b. IsRefused b cause) held h)))
+
+  behind_bareness : (p bytes : List ℕ) (gs : List Stage) (page : Page) → IsHeld p bytes → IsAccepted bytes page → No (bareness p ∷ gs) → (No gs → ⊥) → ⊥
+  behind_bareness p bytes gs page held a never k = by_nodes (is_bare page.nodes) refl
+    where
+      bare_as : (bare : Bool) → is_bare page.nodes ≡ bare → Held seen p (λ b. IsBareAs b bare)
+      bare_as bare e = of_held _ bytes (λ b. IsBareAs b bare) held (record { page = page; accepted = a; nodes = e })
+
+      by_nodes : (bare : Bool) → is_bare page.nodes ≡ bare → ⊥
+      by_nodes true e = k (next (bareness p) gs never (bare_as true e))
+      by_nodes false e = never (status.PageRefused (Some NotPage)) (λ e. cc) (inl (bare_as false e))
 
   behind_event_file : (n : List ℕ) (gs : List Stage) → IsReadOrFailed seen n → No (event_file n ∷ gs)
       → ((file : List ℕ) (events : List Event) → IsHeld n file → IsEventFile file events → No gs → ⊥) → ⊥
@@ -179,22 +192,25 @@ module _ (seen : Seen) (none_neither : NoneNeither) where
       at_writing no2
   some_end (Some (instrument p)) reads never =
       let no0 = behind_words (instrument p) never in
-      behind_page_file p (acceptance p ∷ writing ∷ []) (reads 0 [] (omega arith)) no0 λ bytes held fits no1.
-      behind_acceptance p bytes (writing ∷ []) held no1 λ page a no2.
-      at_writing no2
+      behind_page_file p (acceptance p ∷ bareness p ∷ writing ∷ []) (reads 0 [] (omega arith)) no0 λ bytes held fits no1.
+      behind_acceptance p bytes (bareness p ∷ writing ∷ []) held no1 λ page a no2.
+      behind_bareness p bytes (writing ∷ []) page held a no2 λ no3.
+      at_writing no3
   some_end (Some (session Replay p n)) reads never =
       let no0 = behind_words (session Replay p n) never in
-      behind_page_file p (acceptance p ∷ event_file n ∷ writing ∷ []) (reads 0 [] (omega arith)) no0 λ bytes held fits no1.
-      behind_acceptance p bytes (event_file n ∷ writing ∷ []) held no1 λ page a no2.
-      behind_event_file n (writing ∷ []) (reads 1 [] (omega arith)) no2 λ file events holds of_file no3.
-      at_writing no3
+      behind_page_file p (acceptance p ∷ bareness p ∷ event_file n ∷ writing ∷ []) (reads 0 [] (omega arith)) no0 λ bytes held fits no1.
+      behind_acceptance p bytes (bareness p ∷ event_file n ∷ writing ∷ []) held no1 λ page a no2.
+      behind_bareness p bytes (event_file n ∷ writing ∷ []) page held a no2 λ no3.
+      behind_event_file n (writing ∷ []) (reads 1 [] (omega arith)) no3 λ file events holds of_file no4.
+      at_writing no4
   some_end (Some (session Save p n)) reads never =
       let no0 = behind_words (session Save p n) never in
-      behind_page_file p (acceptance p ∷ event_file n ∷ moving p n ∷ writing ∷ []) (reads 0 [] (omega arith)) no0 λ bytes held fits no1.
-      behind_acceptance p bytes (event_file n ∷ moving p n ∷ writing ∷ []) held no1 λ page a no2.
-      behind_event_file n (moving p n ∷ writing ∷ []) (reads 1 [] (omega arith)) no2 λ file events holds of_file no3.
+      behind_page_file p (acceptance p ∷ bareness p ∷ event_file n ∷ moving p n ∷ writing ∷ []) (reads 0 [] (omega arith)) no0 λ bytes held fits no1.
+      behind_acceptance p bytes (bareness p ∷ event_file n ∷ moving p n ∷ writing ∷ []) held no1 λ page a no2.
+      behind_bareness p bytes (event_file n ∷ moving p n ∷ writing ∷ []) page held a no2 λ no3.
+      behind_event_file n (moving p n ∷ writing ∷ []) (reads 1 [] (omega arith)) no3 λ file events holds of_file no4.
       let of_page : IsPage bytes page = record { fits = fits; accepted = a } in
-      behind_moving p n bytes file (writing ∷ []) page events held holds of_page of_file no3 at_writing
+      behind_moving p n bytes file (writing ∷ []) page events held holds of_page of_file no4 at_writing
 
 pub some_cause : NoneNeither → SomeCause
 some_cause none_neither command seen reads never = some_end seen none_neither command reads never

@@ -1,22 +1,24 @@
 -- How commands end, by what their parts answer.
-use Rattle.std.proofs.Common.{◌≡◌, ℕ, ◌≤◌, List, [], ◌∷◌, length, Option, Some, None, refl, ap, subst, inl, inr, arith}
+use Rattle.std.proofs.Common.{◌≡◌, ℕ, ◌≤◌, true, false, List, [], ◌∷◌, length, Option, Some, None, refl, sym, ap, subst, inl, inr, arith}
 use Rattle.std.specs.Prelude.{◌⊎◌}
 use Rattle.page_io.specs.Content.{Told}
 use Rattle.page_io.specs.Faults.{Rose}
 use Rattle.page_check.specs.Accept.{IsRefused}
 use Rattle.page_check.specs.declared.page.Refusal.{Refusal}
+use Rattle.page_check.specs.declared.page.Refusal.TheVariants.{NotPage}
 use Rattle.page_meaning.specs.Pages.{run_of}
 use Rattle.js_values.specs.declared.event.Event.{Event}
 use Rattle.command_line.specs.declared.status.Status.{Status}
 use Rattle.command_line.specs.declared.status.Status.TheVariants.{Ok, PageRefused, Usage, EventsRefused, ReadFault, WriteFault, TooLarge, OutOfMemory}
 use Rattle.command_line.specs.declared.command.Work.TheVariants.{Replay, Save}
+use Rattle.command_line.specs.Bare.{IsBareAs, IsNotRun, is_bare}
 use Rattle.command_line.specs.Command.{Command, check, instrument, session}
 use Rattle.command_line.specs.Moving.{IsAnswer}
 use Rattle.command_line.specs.Opening.{OpensTo}
-use Rattle.command_line.specs.Page.{page_limit, Page, Accepts, IsPage, opened}
+use Rattle.command_line.specs.Page.{page_limit, Page, IsAccepted, IsPage, opened}
 use Rattle.command_line.specs.Reading.{StopsAtPage, StopsAtEvents}
 use Rattle.command_line.specs.Replay.{IsEventFile}
-use Rattle.command_line.specs.Stages.{Seen, Of, Held, ReadFailed, Stops, Stage, page_file, acceptance, event_file, moving, writing, EndsAt, work_of, Ends}
+use Rattle.command_line.specs.Stages.{Seen, Of, Held, ReadFailed, Stops, Stage, page_file, acceptance, bareness, event_file, moving, writing, EndsAt, work_of, Ends}
 use Rattle.command_line.specs.Texts.{PutsNothing, PutsText, Puts}
 use Rattle.command_line.proofs.Moves.{SavingLaws}
 use Rattle.command_line.proofs.Works.{Both, told_begins, told_large, told_movable, told_saves}
@@ -32,17 +34,26 @@ told_fits (Some (Some bytes)) P h = (h.0, h.1)
 
 -- a page is accepted as some page
 told_accepted : (told : Told) (page : Page) → Of told (λ b. IsPage b page)
-    → Of told (λ b. length b ≤ page_limit) × Of told (λ b. (page : Page) × Accepts b page)
+    → Of told (λ b. length b ≤ page_limit) × Of told (λ b. (page : Page) × IsAccepted b page)
 told_accepted None page h = (tt, tt)
 told_accepted (Some None) page h = absurd h
 told_accepted (Some (Some bytes)) page h = (h.fits, (page, h.accepted))
 
 -- a page that is opened was accepted
 told_opened : (told : Told) (text : List ℕ) → Of told (λ b. OpensTo b text)
-    → Of told (λ b. length b ≤ page_limit) × Of told (λ b. (page : Page) × Accepts b page)
+    → Of told (λ b. length b ≤ page_limit) × Of told (λ b. (page : Page) × IsAccepted b page)
 told_opened None text h = (tt, tt)
 told_opened (Some None) text h = absurd h
 told_opened (Some (Some bytes)) text h = (h.of_page.fits, (h.page, h.of_page.accepted))
+
+-- a page whose nodes allow it can be run
+told_bare : (told : Told) (page : Page) → is_bare page.nodes ≡ true → Of told (λ b. IsPage b page) → Of told (λ b. IsBareAs b true)
+told_bare None page bare h = tt
+told_bare (Some None) page bare h = absurd h
+told_bare (Some (Some bytes)) page bare h = record { page = page; accepted = h.accepted; nodes = bare }
+
+held_as : (p : List ℕ) (seen : Seen) (told : Told) (P : List ℕ → Type 0) → seen.files_before.content p ≡ told → Of told P → Held seen p P
+held_as p seen told P e h = subst (λ (t : Told). Of t P) (sym e) h
 
 told_events : (told : Told) (events : List Event) → Of told (λ f. IsEventFile f events) → Of told (λ f. (events : List Event) × IsEventFile f events)
 told_events None events h = tt
@@ -64,9 +75,43 @@ stops_at_page p gs WriteFault seen h f = absurd h
 stops_at_page p gs (TooLarge w) seen h f = absurd h
 stops_at_page p gs OutOfMemory seen h f = inl tt
 
+-- a page that is not run is not accepted, or is one that cannot be run
+not_run_at : (p : List ℕ) (gs : List Stage) (seen : Seen) (told : Told) (r : Refusal) → seen.files_before.content p ≡ told
+    → Of told (λ b. (length b ≤ page_limit) × IsNotRun b r) → EndsAt (page_file p ∷ acceptance p ∷ bareness p ∷ gs) (PageRefused (Some r)) seen
+not_run_at p gs seen None r e h = inr (held_as p seen None (λ b. length b ≤ page_limit) e tt, inl (held_as p seen None (λ b. IsRefused b r) e tt))
+not_run_at p gs seen (Some None) r e h = absurd h
+not_run_at p gs seen (Some (Some bytes)) r e h = by h.1
+  where
+    by : IsNotRun bytes r → EndsAt (page_file p ∷ acceptance p ∷ bareness p ∷ gs) (PageRefused (Some r)) seen
+    by (inl off) = inr (held_as p seen (Some (Some bytes)) (λ b. length b ≤ page_limit) e h.0, inl (held_as p seen (Some (Some bytes)) (λ b. IsRefused b r) e off))
+    by (inr other) =
+        let ends : EndsAt (page_file p ∷ acceptance p ∷ bareness p ∷ gs) (PageRefused (Some NotPage)) seen =
+        inr (
+          held_as p seen (Some (Some bytes)) (λ b. length b ≤ page_limit) e h.0,
+          inr (held_as p seen (Some (Some bytes)) (λ b. (page : Page) × IsAccepted b page) e (other.1.page, other.1.accepted), inl (held_as p seen (Some (Some bytes)) (λ b. IsBareAs b false) e other.1)),
+        ) in
+        subst (λ (c : Refusal). EndsAt (page_file p ∷ acceptance p ∷ bareness p ∷ gs) (PageRefused (Some c)) seen) (sym other.0) ends
+
+stops_at_bare : (p : List ℕ) (gs : List Stage) (status : Status) (seen : Seen) → StopsAtPage IsNotRun status (seen.files_before.content p)
+    → (status ≡ ReadFault → ReadFailed p seen) → EndsAt (page_file p ∷ acceptance p ∷ bareness p ∷ gs) status seen
+stops_at_bare p gs Ok seen h f = absurd h
+stops_at_bare p gs (PageRefused None) seen h f = inl h
+stops_at_bare p gs (PageRefused (Some r)) seen h f = not_run_at p gs seen (seen.files_before.content p) r refl h
+stops_at_bare p gs Usage seen h f = absurd h
+stops_at_bare p gs (EventsRefused i) seen h f = absurd h
+stops_at_bare p gs ReadFault seen h f = inl (f refl)
+stops_at_bare p gs WriteFault seen h f = absurd h
+stops_at_bare p gs (TooLarge w) seen h f = absurd h
+stops_at_bare p gs OutOfMemory seen h f = inl tt
+
 behind_acceptance : (p : List ℕ) (gs : List Stage) (status : Status) (seen : Seen) (page : Page) → Held seen p (λ b. IsPage b page)
     → EndsAt gs status seen → EndsAt (page_file p ∷ acceptance p ∷ gs) status seen
 behind_acceptance p gs status seen page h s = let both = told_accepted (seen.files_before.content p) page h in inr (both.0, inr (both.1, s))
+
+behind_bareness : (p : List ℕ) (gs : List Stage) (status : Status) (seen : Seen) (page : Page) → Held seen p (λ b. IsPage b page) → is_bare page.nodes ≡ true
+    → EndsAt gs status seen → EndsAt (page_file p ∷ acceptance p ∷ bareness p ∷ gs) status seen
+behind_bareness p gs status seen page h bare s =
+    behind_acceptance p (bareness p ∷ gs) status seen page h (inr (told_bare (seen.files_before.content p) page bare h, s))
 
 -- ---- check
 
@@ -83,15 +128,15 @@ check_writes p status seen page h s = behind_acceptance p (writing ∷ []) statu
 -- ---- instrument
 
 -- reading the page ends it
-pub instrument_stops : (p : List ℕ) (status : Status) (seen : Seen) → StopsAtPage IsRefused status (seen.files_before.content p)
+pub instrument_stops : (p : List ℕ) (status : Status) (seen : Seen) → StopsAtPage IsNotRun status (seen.files_before.content p)
     → (status ≡ ReadFault → ReadFailed p seen) → EndsAt (work_of (instrument p)) status seen
-instrument_stops p status seen h f = stops_at_page p (writing ∷ []) status seen h f
+instrument_stops p status seen h f = stops_at_bare p (writing ∷ []) status seen h f
 
 -- or writing does
-pub instrument_writes : (p : List ℕ) (text : List ℕ) (status : Status) (seen : Seen) → Held seen p (λ b. OpensTo b text) → Stops writing status seen
-    → EndsAt (work_of (instrument p)) status seen
-instrument_writes p text status seen h s =
-    let both = told_opened (seen.files_before.content p) text h in inr (both.0, inr (both.1, inl s))
+pub instrument_writes : (p : List ℕ) (text : List ℕ) (status : Status) (seen : Seen) → Held seen p (λ b. OpensTo b text) → Held seen p (λ b. IsBareAs b true)
+    → Stops writing status seen → EndsAt (work_of (instrument p)) status seen
+instrument_writes p text status seen h bare s =
+    let both = told_opened (seen.files_before.content p) text h in inr (both.0, inr (both.1, inr (bare, inl s)))
 
 -- ---- the events
 
@@ -109,36 +154,36 @@ stops_at_events e gs OutOfMemory seen h f = inl tt
 -- ---- replay
 
 -- reading the page ends the session
-pub replay_stops : (p e : List ℕ) (status : Status) (seen : Seen) → StopsAtPage IsRefused status (seen.files_before.content p)
+pub replay_stops : (p e : List ℕ) (status : Status) (seen : Seen) → StopsAtPage IsNotRun status (seen.files_before.content p)
     → (status ≡ ReadFault → ReadFailed p seen) → EndsAt (work_of (session Replay p e)) status seen
-replay_stops p e status seen h f = stops_at_page p (event_file e ∷ writing ∷ []) status seen h f
+replay_stops p e status seen h f = stops_at_bare p (event_file e ∷ writing ∷ []) status seen h f
 
 -- or reading the events does
-pub replay_events : (p e : List ℕ) (status : Status) (seen : Seen) (page : Page) → Held seen p (λ b. IsPage b page)
+pub replay_events : (p e : List ℕ) (status : Status) (seen : Seen) (page : Page) → Held seen p (λ b. IsPage b page) → is_bare page.nodes ≡ true
     → StopsAtEvents status (seen.files_before.content e) → (status ≡ ReadFault → ReadFailed e seen)
     → EndsAt (work_of (session Replay p e)) status seen
-replay_events p e status seen page h s f =
-    behind_acceptance p (event_file e ∷ writing ∷ []) status seen page h (stops_at_events e (writing ∷ []) status seen s f)
+replay_events p e status seen page h bare s f =
+    behind_bareness p (event_file e ∷ writing ∷ []) status seen page h bare (stops_at_events e (writing ∷ []) status seen s f)
 
 -- or writing does
-pub replay_writes : (p e : List ℕ) (status : Status) (seen : Seen) (page : Page) (events : List Event) → Held seen p (λ b. IsPage b page)
+pub replay_writes : (p e : List ℕ) (status : Status) (seen : Seen) (page : Page) (events : List Event) → Held seen p (λ b. IsPage b page) → is_bare page.nodes ≡ true
     → Held seen e (λ f. IsEventFile f events) → Stops writing status seen → EndsAt (work_of (session Replay p e)) status seen
-replay_writes p e status seen page events h g s =
-    behind_acceptance p (event_file e ∷ writing ∷ []) status seen page h (inr (told_events (seen.files_before.content e) events g, inl s))
+replay_writes p e status seen page events h bare g s =
+    behind_bareness p (event_file e ∷ writing ∷ []) status seen page h bare (inr (told_events (seen.files_before.content e) events g, inl s))
 
 -- ---- save
 
 -- reading the page ends the session
-pub save_stops : (p e : List ℕ) (status : Status) (seen : Seen) → StopsAtPage IsRefused status (seen.files_before.content p)
+pub save_stops : (p e : List ℕ) (status : Status) (seen : Seen) → StopsAtPage IsNotRun status (seen.files_before.content p)
     → (status ≡ ReadFault → ReadFailed p seen) → EndsAt (work_of (session Save p e)) status seen
-save_stops p e status seen h f = stops_at_page p (event_file e ∷ moving p e ∷ writing ∷ []) status seen h f
+save_stops p e status seen h f = stops_at_bare p (event_file e ∷ moving p e ∷ writing ∷ []) status seen h f
 
 -- or reading the events does
-pub save_events : (p e : List ℕ) (status : Status) (seen : Seen) (page : Page) → Held seen p (λ b. IsPage b page)
+pub save_events : (p e : List ℕ) (status : Status) (seen : Seen) (page : Page) → Held seen p (λ b. IsPage b page) → is_bare page.nodes ≡ true
     → StopsAtEvents status (seen.files_before.content e) → (status ≡ ReadFault → ReadFailed e seen)
     → EndsAt (work_of (session Save p e)) status seen
-save_events p e status seen page h s f =
-    behind_acceptance p (event_file e ∷ moving p e ∷ writing ∷ []) status seen page h (stops_at_events e (moving p e ∷ writing ∷ []) status seen s f)
+save_events p e status seen page h bare s f =
+    behind_bareness p (event_file e ∷ moving p e ∷ writing ∷ []) status seen page h bare (stops_at_events e (moving p e ∷ writing ∷ []) status seen s f)
 
 module _ (p e : List ℕ) (seen : Seen) (page : Page) (events : List Event) (both : Both (seen.files_before.content p) (seen.files_before.content e) page events) where
   -- what was answered of the page as it is ends it
@@ -153,10 +198,10 @@ module _ (p e : List ℕ) (seen : Seen) (page : Page) (events : List Event) (bot
   moving_ends (EventsRefused i) a = absurd a
   moving_ends ReadFault a = absurd a
 
-  pub save_answers : (status : Status) → IsAnswer (run_of (opened page) events) seen.out_before seen.out_now status
+  pub save_answers : (status : Status) → is_bare page.nodes ≡ true → IsAnswer (run_of (opened page) events) seen.out_before seen.out_now status
       → EndsAt (work_of (session Save p e)) status seen
-  save_answers status a =
-      behind_acceptance p (event_file e ∷ moving p e ∷ writing ∷ []) status seen page both.of_page
+  save_answers status bare a =
+      behind_bareness p (event_file e ∷ moving p e ∷ writing ∷ []) status seen page both.of_page bare
       (inr (told_events (seen.files_before.content e) events both.of_file, moving_ends status a))
 
   -- and tells what is put

@@ -1,5 +1,5 @@
 -- A saved page is accepted, and goes on as the page that was saved.
-use Rattle.std.proofs.Common.{◌≡◌, ◌⊎◌, inl, inr, ℕ, true, ◌≤◌, ◌<◌, List, [], ◌∷◌, min, refl, sym, ap, subst, ◌∙◌, arith, ◌+◌, ◌*◌}
+use Rattle.std.proofs.Common.{◌≡◌, ◌⊎◌, inl, inr, ℕ, true, false, ◌≤◌, ◌<◌, List, [], ◌∷◌, min, refl, sym, ap, subst, ◌∙◌, arith, ◌+◌, ◌*◌}
 use Rattle.std.specs.List.{list_all}
 use Rattle.std.proofs.lemmas.Bool.{and_from}
 use Rattle.heap_walker.specs.Things.{IsWalk}
@@ -8,24 +8,28 @@ use Rattle.js_core.specs.Tree as tree
 use Rattle.js_values.specs.declared.event.Event.{Event}
 use Rattle.moved_pages.specs.Moved.{AcceptedScriptsAreInForm, CanBeMoved, GoesOnAs, IsShort, MovedPagesGoOn}
 use Rattle.moved_pages.specs.Moved as moved
-use Rattle.opened_pages.specs.Opened.{HaveNumbers, OpenedPagesAreAccepted, OpenedPagesPutOutTheSame, PutOutTheSame, opened_scripts, opened_text}
-use Rattle.page_check.specs.Accept.{ArePageScripts, IsAcceptedAs}
+use Rattle.opened_pages.specs.Opened.{HaveNumbers, OpenedPagesAreAccepted, OpenedPagesPutOutTheSame, OpensAs, PutOutTheSame, opened_text}
+use Rattle.page_check.specs.Accept.{ArePageScripts, texts_of}
 use Rattle.page_check.specs.declared.page.Kind.{Kind}
 use Rattle.page_check.specs.declared.page.Kind.TheVariants.{Plain, Form}
+use Rattle.page_reader.specs.Laws.{script_page}
+use Rattle.page_reader.specs.Replacing.{places_of}
+use Rattle.printed_pages.specs.Printed.{framed_page}
 use Rattle.page_meaning.specs.Pages.{lines_after, lines_of_run, run_of}
 use Rattle.page_meaning.specs.Store.{Store}
 use Rattle.page_writer.specs.Page.{saved_page}
 use Rattle.page_writer.specs.Sizes.{text_limit, things_limit}
 use Rattle.rebuilding.specs.Laws.{LoadsWithin}
-use Rattle.scope_analysis.specs.Form.{in_form}
+use Rattle.script_rules.specs.Form.{in_form}
+use Rattle.command_line.specs.Bare.{is_bare}
 use Rattle.command_line.specs.Moving.{CanBeSaved}
-use Rattle.command_line.specs.Page.{Page, Accepts, opened}
+use Rattle.command_line.specs.Page.{Page, IsAccepted, opened, opened_page}
 use Rattle.command_line.specs.Saving.{GoesOn, IsTooMuch, MovesTo}
 use Rattle.command_line.proofs.Numbers.{at_most_or_more}
 
 -- bytes are accepted in one way
 abbrev pub OneAcceptance : Type 0
-OneAcceptance = (bytes : List ℕ) (kind other : Kind) (scripts more : List tree.Stmts) → IsAcceptedAs bytes kind scripts → IsAcceptedAs bytes other more → (kind ≡ other) × (scripts ≡ more)
+OneAcceptance = (bytes : List ℕ) (page other : Page) → IsAccepted bytes page → IsAccepted bytes other → page ≡ other
 
 -- what is told of a number is no more than a limit where the number is no more
 few_of : (n limit most : ℕ) → limit < most → ¬ (limit < min n most) → n ≤ limit
@@ -71,12 +75,12 @@ again_by script text now things f h walk =
     ∙ h things (subst (λ (ss : List tree.Stmts). IsWalk (run_of ss []) things) f walk)
 
 -- the scripts of a page with opened scopes are those of some form page
-formed_as : (laws : SavingLaws) (kind : Kind) (bytes : List ℕ) (scripts : List tree.Stmts) → IsAcceptedAs bytes kind scripts
-    → (text : List ℕ) × IsAcceptedAs text Form (opened_scripts kind scripts)
-formed_as laws Form bytes scripts is = (bytes, is)
-formed_as laws Plain bytes scripts is =
-    let text : List ℕ = opened_text is.framed.with_body scripts in
-    (text, laws.accepted Plain bytes scripts text is (is, refl))
+some_opening : (kind : Kind) (bytes : List ℕ) (page : Page) → IsAccepted bytes page → (text : List ℕ) × OpensAs kind bytes page text
+some_opening Form bytes page is = (bytes, refl)
+some_opening Plain bytes page is = (opened_text bytes (places_of is.texts) page.scripts, (is, refl))
+
+formed_as : (laws : SavingLaws) (bytes : List ℕ) (page : Page) → IsAccepted bytes page → (text : List ℕ) × IsAccepted text (opened_page page)
+formed_as laws bytes page is = let opening = some_opening page.kind bytes page is in (opening.0, laws.accepted bytes page opening.0 is opening.1)
 
 all_formed : (texts : List (List ℕ)) (scripts : List tree.Stmts) → ArePageScripts Form texts scripts → list_all in_form scripts ≡ true
 all_formed [] [] read = refl
@@ -85,20 +89,25 @@ all_formed [] (script ∷ scripts) read = absurd read
 all_formed (text ∷ texts) [] read = absurd read
 
 -- a page that can be saved
-can_be_moved : (laws : SavingLaws) (bytes : List ℕ) (page : Page) (earlier : List Event) (things : List ℕ) → Accepts bytes page
+can_be_moved : (laws : SavingLaws) (bytes : List ℕ) (page : Page) (earlier : List Event) (things : List ℕ) → IsAccepted bytes page
     → CanBeSaved (run_of (opened page) earlier) things → CanBeMoved (opened page) earlier things
 can_be_moved laws bytes page earlier things accepted can =
-    let as_form = formed_as laws page.kind bytes page.scripts accepted in
+    let as_form = formed_as laws bytes page accepted in
     record {
-      in_form = laws.formed as_form.0 Form (opened page) as_form.1 (all_formed as_form.1.texts (opened page) as_form.1.read);
+      in_form = laws.formed as_form.0 (opened_page page) as_form.1 (all_formed (texts_of as_form.1.texts) (opened page) as_form.1.read);
       walked = can.walked;
       literals = can.literals;
       few = few_things (run_of (opened page) earlier) things can.little;
       short = little_text (run_of (opened page) earlier) things can.little;
     }
 
+-- a saved page has no other nodes than those of such a page
+saved_is_bare : is_bare (script_page false) ≡ true
+unfolding is_bare
+saved_is_bare = refl
+
 pub saved_short : (laws : SavingLaws) (bytes : List ℕ) (page : Page) (earlier : List Event) (things : List ℕ)
-    → Accepts bytes page → CanBeSaved (run_of (opened page) earlier) things → IsShort (run_of (opened page) earlier) things
+    → IsAccepted bytes page → CanBeSaved (run_of (opened page) earlier) things → IsShort (run_of (opened page) earlier) things
 saved_short laws bytes page earlier things accepted can =
     (laws.moved (opened page) earlier things (can_be_moved laws bytes page earlier things accepted can)).1
 
@@ -106,35 +115,37 @@ more_steps : (script : tree.Stmts) (n : ℕ) → LoadsWithin script (2 * n) → 
 more_steps script n h = record { signal = h.signal; after = h.after; left = h.left; ends = h.ends; few = omega (arith, h.few) }
 
 pub saved_steps : (laws : SavingLaws) (bytes : List ℕ) (page : Page) (earlier : List Event) (things : List ℕ)
-    → Accepts bytes page → CanBeSaved (run_of (opened page) earlier) things
-    → (now : Page) (script : tree.Stmts) → Accepts (saved_page (run_of (opened page) earlier) things) now → now.scripts ≡ script ∷ []
+    → IsAccepted bytes page → CanBeSaved (run_of (opened page) earlier) things
+    → (now : Page) (script : tree.Stmts) → IsAccepted (saved_page (run_of (opened page) earlier) things) now → now.scripts ≡ script ∷ []
     → LoadsWithin script (4 * (load_of (run_of (opened page) earlier) things).things + 4)
 saved_steps laws bytes page earlier things accepted can now script b only =
     let text = saved_page (run_of (opened page) earlier) things in
     let n : ℕ = (load_of (run_of (opened page) earlier) things).things in
     let found : moved.GoesOn text (opened page) earlier (2 * n) =
     (laws.moved (opened page) earlier things (can_be_moved laws bytes page earlier things accepted can)).0 in
-    let at_last = laws.one text now.kind Form now.scripts (found.script ∷ []) b found.goes_on.accepted in
-    let same : script ∷ [] ≡ found.script ∷ [] = sym only ∙ at_last.1 in
+    let at_last = laws.one text now (framed_page found.script) b found.goes_on.accepted in
+    let same : script ∷ [] ≡ found.script ∷ [] = sym only ∙ ap (λ (p : Page). p.scripts) at_last in
     let one_script : script ≡ found.script = cc same in
     subst (λ (c : tree.Stmts). LoadsWithin c (4 * n + 4)) (sym one_script) (more_steps found.script n found.within)
 
 pub saved_moves : (laws : SavingLaws) (bytes : List ℕ) (page : Page) (earlier : List Event) (things : List ℕ)
-    → Accepts bytes page → HaveNumbers page.kind page.scripts → CanBeSaved (run_of (opened page) earlier) things
+    → IsAccepted bytes page → HaveNumbers page.kind page.scripts → CanBeSaved (run_of (opened page) earlier) things
     → MovesTo bytes earlier (saved_page (run_of (opened page) earlier) things)
 saved_moves laws bytes page earlier things accepted numbered can =
     let text = saved_page (run_of (opened page) earlier) things in
     let found : moved.GoesOn text (opened page) earlier (2 * (load_of (run_of (opened page) earlier) things).things) =
     (laws.moved (opened page) earlier things (can_be_moved laws bytes page earlier things accepted can)).0 in
-    let alike = laws.same page.kind bytes page.scripts accepted numbered in
+    let alike = laws.same bytes page accepted numbered in
     record {
-      moved = record { kind = Form; scripts = found.script ∷ [] };
+      moved = framed_page found.script;
       page = record { fits = found.goes_on.fits; accepted = found.goes_on.accepted };
+      bare = saved_is_bare;
       goes_on = λ before now a b.
-          let at_first = laws.one bytes before.kind page.kind before.scripts page.scripts a accepted in
-          let at_last = laws.one text now.kind Form now.scripts (found.script ∷ []) b found.goes_on.accepted in
-          goes_on_by found.script earlier text page now at_last.0 at_last.1 found.goes_on alike before at_first.1;
+          let at_first = laws.one bytes before page a accepted in
+          let at_last = laws.one text now (framed_page found.script) b found.goes_on.accepted in
+          goes_on_by found.script earlier text page now (ap (λ (p : Page). p.kind) at_last) (ap (λ (p : Page). p.scripts) at_last) found.goes_on alike before
+          (ap (λ (p : Page). p.scripts) at_first);
       again = λ now ks b walk.
-          let at_last = laws.one text now.kind Form now.scripts (found.script ∷ []) b found.goes_on.accepted in
-          again_by found.script text now ks at_last.1 found.goes_on.again walk;
+          let at_last = laws.one text now (framed_page found.script) b found.goes_on.accepted in
+          again_by found.script text now ks (ap (λ (p : Page). p.scripts) at_last) found.goes_on.again walk;
     }

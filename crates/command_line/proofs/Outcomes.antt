@@ -2,7 +2,6 @@
 use Rattle.std.proofs.Common.{◌≡◌, ℕ, List, Ok, refl, sym, ap, ◌∙◌, subst}
 use Rattle.js_core.specs.Tree as tree
 use Rattle.js_values.specs.declared.event.Event.{Event}
-use Rattle.opened_pages.specs.Opened.{opened_scripts}
 use Rattle.page_meaning.specs.Pages.{run_of}
 use Rattle.page_meaning.specs.Store.{Store}
 use Rattle.heap_walker.specs.Things.{IsWalk}
@@ -23,9 +22,9 @@ same_events file es ds a b = let same : Ok es ≡ Ok ds = sym a.holds ∙ b.hold
 module _ (one_page : OneAcceptance) (bytes file : List ℕ) where
   same_state : (s t : Store) (ks js : List ℕ) → IsAfter bytes file s ks → IsAfter bytes file t js → s ≡ t
   same_state s t ks js a b =
-      let page = one_page bytes a.page.kind b.page.kind a.page.scripts b.page.scripts a.of_page.accepted b.of_page.accepted in
+      let page = one_page bytes a.page b.page a.of_page.accepted b.of_page.accepted in
       let events = same_events file a.events b.events a.of_file b.of_file in
-      let opens : opened a.page ≡ opened b.page = ap (λ k. opened_scripts k a.page.scripts) page.0 ∙ ap (opened_scripts b.page.kind) page.1 in
+      let opens : opened a.page ≡ opened b.page = ap opened page in
       a.state ∙ ap (λ (scripts : List tree.Stmts). run_of scripts a.events) opens ∙ ap (run_of (opened b.page)) events ∙ sym b.state
 
   -- so what holds of the one holds of the other

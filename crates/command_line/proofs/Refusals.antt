@@ -1,35 +1,50 @@
 -- Pages that are read, and refused or taken.
-use Rattle.std.proofs.Common.{◌≡◌, ◌∙◌, ℕ, ◌≤◌, List, length, Some, None, Result, Ok as Good, Err, IfOk, IfErr, subst}
+use Rattle.std.proofs.Common.{◌≡◌, ◌∙◌, inl, ℕ, ◌≤◌, List, length, Some, None, Result, Ok as Good, Err, IfOk, IfErr, subst}
 use Rattle.page_io.specs.Content.{Told}
 use Rattle.opened_pages.specs.Opened.{OpenedPagesAreAccepted, OpenedPagesPutOutTheSame}
 use Rattle.page_check.specs.Accept.{IsRefused}
+use Rattle.page_check.specs.declared.page.Refusal.{Refusal}
+use Rattle.command_line.specs.Bare.{IsNotRun}
 use Rattle.command_line.specs.Page.{page_limit, Page, IsPage}
 use Rattle.command_line.specs.Checking.{Tells, kind_line}
 use Rattle.command_line.specs.Opening.{IsOpened, OpensTo}
-use Rattle.command_line.specs.Reading.{IsPageFile, IsUnaccepted, StopsAtPage}
+use Rattle.command_line.specs.Reading.{IsPageFile, IsUntaken, StopsAtPage}
 use Rattle.command_line.specs.Stages.{Of}
 use Rattle.command_line.specs.declared.status.Status.{Status}
 use Rattle.command_line.specs.declared.status.Status.TheVariants.{Ok, PageRefused, Usage, EventsRefused, ReadFault, WriteFault, TooLarge, OutOfMemory}
 
--- a page that was read is not accepted
-told_unaccepted : (told : Told) (bytes : List ℕ) (status : Status) → Of told (λ held. IsPageFile held bytes) → IsUnaccepted bytes status
-    → StopsAtPage IsRefused status told
-told_unaccepted told bytes OutOfMemory h u = tt
-told_unaccepted None bytes (PageRefused (Some r)) h u = tt
-told_unaccepted (Some None) bytes (PageRefused (Some r)) h u = absurd h
-told_unaccepted (Some (Some held)) bytes (PageRefused (Some r)) h u = (h.fits, subst (λ (b : List ℕ). IsRefused b r) h.same u)
-told_unaccepted told bytes (PageRefused None) h u = absurd u
-told_unaccepted told bytes Ok h u = absurd u
-told_unaccepted told bytes Usage h u = absurd u
-told_unaccepted told bytes (EventsRefused i) h u = absurd u
-told_unaccepted told bytes ReadFault h u = absurd u
-told_unaccepted told bytes WriteFault h u = absurd u
-told_unaccepted told bytes (TooLarge w) h u = absurd u
+-- a page that was read is not taken
+told_untaken : (Why : List ℕ → Refusal → Type 0) (told : Told) (bytes : List ℕ) (status : Status) → Of told (λ held. IsPageFile held bytes) → IsUntaken Why bytes status
+    → StopsAtPage Why status told
+told_untaken Why told bytes OutOfMemory h u = tt
+told_untaken Why None bytes (PageRefused (Some r)) h u = tt
+told_untaken Why (Some None) bytes (PageRefused (Some r)) h u = absurd h
+told_untaken Why (Some (Some held)) bytes (PageRefused (Some r)) h u = (h.fits, subst (λ (b : List ℕ). Why b r) h.same u)
+told_untaken Why told bytes (PageRefused None) h u = absurd u
+told_untaken Why told bytes Ok h u = absurd u
+told_untaken Why told bytes Usage h u = absurd u
+told_untaken Why told bytes (EventsRefused i) h u = absurd u
+told_untaken Why told bytes ReadFault h u = absurd u
+told_untaken Why told bytes WriteFault h u = absurd u
+told_untaken Why told bytes (TooLarge w) h u = absurd u
 
-pub told_unaccepted_if : {T : Type 0} (told : Told) (bytes others : List ℕ) (r : Result T Status) → others ≡ bytes → Of told (λ held. IsPageFile held bytes)
-    → IfErr r (IsUnaccepted others) → IfErr r (λ status. StopsAtPage IsRefused status told)
-told_unaccepted_if told bytes others (Good t) same h u = tt
-told_unaccepted_if told bytes others (Err status) same h u = told_unaccepted told bytes status h (subst (λ (b : List ℕ). IsUnaccepted b status) same u)
+pub told_untaken_if : {T : Type 0} (Why : List ℕ → Refusal → Type 0) (told : Told) (bytes others : List ℕ) (r : Result T Status) → others ≡ bytes → Of told (λ held. IsPageFile held bytes)
+    → IfErr r (IsUntaken Why others) → IfErr r (λ status. StopsAtPage Why status told)
+told_untaken_if Why told bytes others (Good t) same h u = tt
+told_untaken_if Why told bytes others (Err status) same h u = told_untaken Why told bytes status h (subst (λ (b : List ℕ). IsUntaken Why b status) same u)
+
+-- what is refused when it is accepted is not run
+pub refused_not_run : {T : Type 0} (bytes : List ℕ) (r : Result T Status) → IfErr r (IsUntaken IsRefused bytes) → IfErr r (IsUntaken IsNotRun bytes)
+refused_not_run bytes (Good t) u = tt
+refused_not_run bytes (Err OutOfMemory) u = tt
+refused_not_run bytes (Err (PageRefused (Some r))) u = inl u
+refused_not_run bytes (Err (PageRefused None)) u = absurd u
+refused_not_run bytes (Err Ok) u = absurd u
+refused_not_run bytes (Err Usage) u = absurd u
+refused_not_run bytes (Err (EventsRefused i)) u = absurd u
+refused_not_run bytes (Err ReadFault) u = absurd u
+refused_not_run bytes (Err WriteFault) u = absurd u
+refused_not_run bytes (Err (TooLarge w)) u = absurd u
 
 -- or it is accepted
 pub told_accepted_if : {T : Type 0} (told : Told) (bytes others : List ℕ) (P : List ℕ → T → Type 0) (Q : List ℕ → T → Type 0) (r : Result T Status)
@@ -46,8 +61,8 @@ opens_to accepted same bytes text fits is = record {
   page = is.page;
   of_page = record { fits = fits; accepted = is.accepted };
   opens = is.opens;
-  accepted = accepted is.page.kind bytes is.page.scripts text is.accepted is.opens;
-  same = same is.page.kind bytes is.page.scripts is.accepted is.numbered;
+  accepted = accepted bytes is.page text is.accepted is.opens;
+  same = same bytes is.page is.accepted is.numbered;
 }
 
 -- the line of the kind of an accepted page

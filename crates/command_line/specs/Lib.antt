@@ -1,3 +1,4 @@
+pub mod Bare
 pub mod Checking
 pub mod Command
 pub mod Moving

@@ -10,7 +10,7 @@ use Rattle.command_line.specs.declared.status.Status.{Status}
 use Rattle.command_line.specs.declared.status.Status.TheVariants.{Ok, PageRefused, Usage, EventsRefused, ReadFault, WriteFault, TooLarge, OutOfMemory}
 use Rattle.page_check.specs.declared.page.Refusal.{Refusal}
 use Rattle.page_check.specs.declared.page.Refusal.TheVariants.{NotUtf8, NotPage, NotTokens, NotScript, NotStrict, Early, TooDeep, ReservedName, NotForm}
-use Rattle.scope_analysis.specs.EarlyRules.{rule_number}
+use Rattle.early_rules.specs.EarlyRules.{rule_number}
 
 -- the script of this number, and the cause
 abbrev pub script_words : ℕ → List ℕ → List ℕ

@@ -3,7 +3,6 @@ use Rattle.std.specs.Prelude.{◌≡◌, ℕ, ◌<◌, ◌≤◌, List, length, 
 use Rattle.page_io.specs.Content.{Told}
 use Rattle.page_io.specs.Faults.{Rose}
 use Rattle.page_io.specs.Seen.{FilesSeen}
-use Rattle.page_check.specs.Accept.{IsRefused}
 use Rattle.page_check.specs.declared.page.Refusal.{Refusal}
 use Rattle.command_line.specs.declared.status.Status.{Status}
 use Rattle.command_line.specs.declared.status.Status.TheVariants.{PageRefused, EventsRefused, ReadFault, OutOfMemory}
@@ -23,11 +22,11 @@ StopsAtPage Why ReadFault page = Unit {0}
 StopsAtPage Why OutOfMemory page = Unit {0}
 StopsAtPage Why status page = ⊥
 
--- the bytes are not accepted as a page, for this cause; want of memory is free
-abbrev pub IsUnaccepted : List ℕ → Status → Type 0
-IsUnaccepted bytes (PageRefused (Some r)) = IsRefused bytes r
-IsUnaccepted bytes OutOfMemory = Unit {0}
-IsUnaccepted bytes status = ⊥
+-- the bytes are not taken as a page, for this cause; want of memory is free
+abbrev pub IsUntaken : (List ℕ → Refusal → Type 0) → List ℕ → Status → Type 0
+IsUntaken Why bytes (PageRefused (Some r)) = Why bytes r
+IsUntaken Why bytes OutOfMemory = Unit {0}
+IsUntaken Why bytes status = ⊥
 
 -- why reading the events ends the command
 abbrev pub StopsAtEvents : Status → Told → Type 0

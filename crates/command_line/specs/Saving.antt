@@ -1,5 +1,5 @@
 -- What `save` writes, and that it goes on as the page would.
-use Rattle.std.specs.Prelude.{ℕ, ◌≡◌, ◌<◌, ◌⊎◌, List, [], ◌+◌, ◌*◌, ◌≤◌, length, ◌∷◌}
+use Rattle.std.specs.Prelude.{ℕ, ◌≡◌, ◌<◌, ◌⊎◌, true, List, [], ◌+◌, ◌*◌, ◌≤◌, length, ◌∷◌}
 use Rattle.heap_walker.specs.Things.{IsWalk}
 use Rattle.heap_walker.specs.Weight.{load_of, told}
 use Rattle.heap_walker.specs.declared.weight.Weight.{Weight}
@@ -11,7 +11,8 @@ use Rattle.page_meaning.specs.Store.{Store}
 use Rattle.page_writer.specs.Page.{saved_page}
 use Rattle.page_writer.specs.Sizes.{text_limit, things_limit}
 use Rattle.rebuilding.specs.Laws.{LoadsWithin}
-use Rattle.command_line.specs.Page.{Page, Accepts, IsPage, opened}
+use Rattle.command_line.specs.Bare.{is_bare}
+use Rattle.command_line.specs.Page.{Page, IsAccepted, IsPage, opened}
 use Rattle.command_line.specs.Replay.{IsEventFile}
 
 -- ---- what is saved
@@ -57,8 +58,9 @@ pub record GoesOn (page : Page) (earlier : List Event) (moved : Page) : Type 0 w
 pub record MovesTo (bytes : List ℕ) (earlier : List Event) (saved : List ℕ) : Type 0 where
   pub moved : Page
   pub page : IsPage saved moved
-  pub goes_on : (before now : Page) → Accepts bytes before → Accepts saved now → GoesOn before earlier now
-  pub again : (now : Page) (things : List ℕ) → Accepts saved now → IsWalk (run_of now.scripts []) things → saved_page (run_of now.scripts []) things ≡ saved
+  pub bare : is_bare moved.nodes ≡ true
+  pub goes_on : (before now : Page) → IsAccepted bytes before → IsAccepted saved now → GoesOn before earlier now
+  pub again : (now : Page) (things : List ℕ) → IsAccepted saved now → IsWalk (run_of now.scripts []) things → saved_page (run_of now.scripts []) things ≡ saved
 
 -- the page that is saved after the events of the file, to which the page moves
 pub record Saves (bytes file text : List ℕ) : Type 0 where
@@ -69,7 +71,7 @@ pub record Saves (bytes file text : List ℕ) : Type 0 where
   -- at most 160 bytes for each thing, besides its text, and 4,096 more
   pub short : length text ≤ 160 * (load_of state things).things + (load_of state things).text + 4096
   -- and at most four steps for each thing, and four, when it loads
-  pub steps : (now : Page) (script : Stmts) → Accepts text now → now.scripts ≡ script ∷ [] → LoadsWithin script (4 * (load_of state things).things + 4)
+  pub steps : (now : Page) (script : Stmts) → IsAccepted text now → now.scripts ≡ script ∷ [] → LoadsWithin script (4 * (load_of state things).things + 4)
   pub moves : MovesTo bytes after.events text
 
 -- what may have been put where memory ran out: nothing, or a front of the saved page

@@ -1,15 +1,17 @@
 -- The stages of a command, in the order of the work, and what ends it at each.
-use Rattle.std.specs.Prelude.{◌≡◌, ℕ, ◌<◌, ◌≤◌, ◌⊎◌, Bool, false, List, [], ◌∷◌, length, Option, Some, None, IsSome, Err, All}
+use Rattle.std.specs.Prelude.{◌≡◌, ℕ, ◌<◌, ◌≤◌, ◌⊎◌, Bool, true, false, List, [], ◌∷◌, length, Option, Some, None, IsSome, Err, All}
 use Rattle.std.specs.List.{list_any}
 use Rattle.page_io.specs.Content.{Told}
 use Rattle.page_io.specs.Faults.{Rose}
 use Rattle.page_io.specs.Seen.{FilesSeen, SinkSeen}
 use Rattle.page_check.specs.Accept.{IsRefused}
+use Rattle.page_check.specs.declared.page.Refusal.TheVariants.{NotPage}
 use Rattle.js_values.specs.declared.event.Event.{Event}
 use Rattle.event_file.specs.Events.{calls_of}
 use Rattle.command_line.specs.declared.status.Status.{Status}
 use Rattle.command_line.specs.declared.status.Status.TheVariants.{Ok, PageRefused, Usage, EventsRefused, ReadFault, WriteFault, TooLarge, OutOfMemory}
-use Rattle.command_line.specs.Page.{page_limit, event_file_limit, Page, Accepts}
+use Rattle.command_line.specs.Bare.{IsBareAs}
+use Rattle.command_line.specs.Page.{page_limit, event_file_limit, Page, IsAccepted}
 use Rattle.command_line.specs.declared.command.Work.TheVariants.{Replay, Save}
 use Rattle.command_line.specs.Command.{Command, check, instrument, session, files_of}
 use Rattle.command_line.specs.Replay.{IsEventFile}
@@ -57,6 +59,8 @@ pub data Stage : Type 0 where
   page_file : List ℕ → Stage
   -- it accepts what the file holds
   acceptance : List ℕ → Stage
+  -- it asks that this is a page with one script in `html`, after an empty body or alone, until the nodes of a page are there when it runs
+  bareness : List ℕ → Stage
   -- it reads the event file of this name
   event_file : List ℕ → Stage
   -- it takes what the page of the one name is after the events of the other, if that is little enough
@@ -72,6 +76,8 @@ Stops (page_file p) (PageRefused None) seen = Held seen p (λ bytes. page_limit 
 Stops (page_file p) OutOfMemory seen = Unit {0}
 Stops (acceptance p) (PageRefused (Some r)) seen = Held seen p (λ bytes. IsRefused bytes r)
 Stops (acceptance p) OutOfMemory seen = Unit {0}
+Stops (bareness p) (PageRefused (Some NotPage)) seen = Held seen p (λ bytes. IsBareAs bytes false)
+Stops (bareness p) OutOfMemory seen = Unit {0}
 Stops (event_file e) ReadFault seen = ReadFailed e seen
 Stops (event_file e) (EventsRefused i) seen = Held seen e (λ file. IsNoEventFile file i)
 Stops (event_file e) OutOfMemory seen = Unit {0}
@@ -86,7 +92,8 @@ Stops stage status seen = ⊥
 abbrev pub Passes : Stage → Seen → Type 0
 Passes (words command) seen = IsSome command
 Passes (page_file p) seen = Held seen p (λ bytes. length bytes ≤ page_limit)
-Passes (acceptance p) seen = Held seen p (λ bytes. (page : Page) × Accepts bytes page)
+Passes (acceptance p) seen = Held seen p (λ bytes. (page : Page) × IsAccepted bytes page)
+Passes (bareness p) seen = Held seen p (λ bytes. IsBareAs bytes true)
 Passes (event_file e) seen = Held seen e (λ file. (events : List Event) × IsEventFile file events)
 Passes (moving p e) seen = Held seen p (λ bytes. Held seen e (λ file. IsMovable bytes file))
 Passes writing seen = ⊥
@@ -96,12 +103,12 @@ abbrev pub EndsAt : List Stage → Status → Seen → Type 0
 EndsAt [] status seen = ⊥
 EndsAt (g ∷ gs) status seen = Stops g status seen ⊎ (Passes g seen × EndsAt gs status seen)
 
--- the stages behind the words. Every accepted page is run, and saved where that is little enough
+-- the stages behind the words. Every accepted page is run whose nodes allow it now, and saved where that is little enough
 abbrev pub work_of : Command → List Stage
 work_of (check p) = page_file p ∷ acceptance p ∷ writing ∷ []
-work_of (instrument p) = page_file p ∷ acceptance p ∷ writing ∷ []
-work_of (session Replay p e) = page_file p ∷ acceptance p ∷ event_file e ∷ writing ∷ []
-work_of (session Save p e) = page_file p ∷ acceptance p ∷ event_file e ∷ moving p e ∷ writing ∷ []
+work_of (instrument p) = page_file p ∷ acceptance p ∷ bareness p ∷ writing ∷ []
+work_of (session Replay p e) = page_file p ∷ acceptance p ∷ bareness p ∷ event_file e ∷ writing ∷ []
+work_of (session Save p e) = page_file p ∷ acceptance p ∷ bareness p ∷ event_file e ∷ moving p e ∷ writing ∷ []
 
 abbrev pub work_behind : Option Command → List Stage
 work_behind None = []

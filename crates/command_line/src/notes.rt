@@ -4,11 +4,11 @@ ghost use Rattle.std.specs.Prelude.{◌≡◌, ◌++◌, Some};
 ghost use Rattle.command_line.specs.Notes.{note_of, script_note, script_start, things_start, PutWhole, PutFront, PutCounts, Noted};
 
 use crate::status::Status;
+use early_rules::EarlyRule;
 use heap_walker::Weight;
 use itoa::Buffer;
 use page_check::Refusal;
 use page_io::{PutFault, Sink};
-use scope_analysis::EarlyRule;
 
 // Puts two pieces, the second one where the first was taken.
 fn put_two<N: Sink>(notes: &mut N, first: &[u8], second: &[u8]) -> Result<(), PutFault>

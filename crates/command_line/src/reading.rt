@@ -1,21 +1,28 @@
 //! Reading the files of a command.
 
-ghost use Rattle.std.specs.Prelude.{◌≡◌, ℕ, List, IfOk, IfErr};
+ghost use Rattle.std.specs.Prelude.{◌≡◌, ℕ, true, List, IfOk, IfErr};
 ghost use Rattle.page_check.specs.Accept.{IsAccepted, IsAcceptedAt, IsRefused};
+ghost use Rattle.command_line.specs.Bare.{IsBareAs, IsNotRun, is_bare};
 ghost use Rattle.command_line.specs.Opening.{IsOpened, OpensTo};
 ghost use Rattle.command_line.specs.Page.{IsPage};
-ghost use Rattle.command_line.specs.Reading.{IsPageFile, IsUnaccepted, StopsAtPage, StopsAtEvents, CountsReads};
+ghost use Rattle.command_line.specs.Reading.{IsPageFile, IsUntaken, StopsAtPage, StopsAtEvents, CountsReads};
 ghost use Rattle.command_line.specs.Replay.{IsEventFile};
 ghost use Rattle.command_line.specs.Stages.{Of};
 
 use crate::status::Status;
 use event_file::{EventFault, NotEvents, calls};
-use js_core::{EVENT_FILE_LIMIT, OutOfMemory, PAGE_LIMIT};
-use js_values::Event;
+use js_core::{EVENT_FILE_LIMIT, OutOfMemory, PAGE_LIMIT, Units};
+use js_values::{Event, NodeId};
 use opened_pages::{law_opened_pages_are_accepted, law_opened_pages_put_out_the_same, open_page};
-use page_check::{AcceptFault, Accepted, CheckedPage, accept};
+use page_check::{AcceptFault, Accepted, CheckedPage, Refusal, accept};
 use page_io::{Files, ReadFault};
 use std::alloc::Global;
+
+/// The texts of the documents of pages that can be run, until the nodes of a page are there when it runs.
+const BARE_TEXTS: &[&[u8]] = &[
+    b"<html><body></body><script></script></html>",
+    b"<html><script></script></html>",
+];
 
 // Reads a page file.
 fn read_bytes<F: Files>(alloc: Global, files: &mut F, name: &str) -> Result<Vec<u8>, Status>
@@ -37,7 +44,7 @@ fn read_bytes<F: Files>(alloc: Global, files: &mut F, name: &str) -> Result<Vec<
 // Accepts the page of these bytes.
 fn accept_bytes(alloc: Global, bytes: &[u8]) -> Result<Accepted, Status>
     ensures ok { IfOk result (IsAcceptedAt bytes.now) }
-    ensures stops { IfErr result (IsUnaccepted bytes.now) }
+    ensures stops { IfErr result (IsUntaken IsRefused bytes.now) }
 {
     match accept(alloc, bytes) {
         Ok(accepted) => Ok(accepted),
@@ -46,12 +53,55 @@ fn accept_bytes(alloc: Global, bytes: &[u8]) -> Result<Accepted, Status>
     }
 }
 
-// Accepts the page of these bytes, to run it.
+// Accepts the page of these bytes, which is to be one that can be run.
+fn accept_bare(alloc: Global, bytes: &[u8]) -> Result<Accepted, Status>
+    ensures ok { IfOk result (IsAcceptedAt bytes.now) }
+    ensures bare { IfOk result (λ found. is_bare found.page.nodes ≡ true) }
+    ensures stops { IfErr result (IsUntaken IsNotRun bytes.now) }
+{
+    let accepted = match accept_bytes(alloc, bytes) {
+        Ok(accepted) => accepted,
+        Err(status) => return Err(status),
+    };
+    match is_bare(alloc, accepted.page()) {
+        Ok(true) => Ok(accepted),
+        Ok(false) => Err(Status::PageRefused(Some(Refusal::NotPage))),
+        Err(OutOfMemory) => Err(Status::OutOfMemory),
+    }
+}
+
+// Whether a page has one script in `html`, after an empty body or alone.
+#[tactic(auto, unfolding(crate::specs::Bare::is_bare))]
+fn is_bare(alloc: Global, page: &CheckedPage) -> Result<bool, OutOfMemory>
+    ensures { IfOk result (λ bare. bare ≡ is_bare page.now.nodes) }
+{
+    let dom = page.dom();
+    let mut text = Vec::new(alloc);
+    if dom.count() == 0 {
+        return Ok(false);
+    }
+    dom.dom_text(NodeId(0), &mut text)?;
+    Ok(Units::of(alloc, text.as_slice())?.is_among(BARE_TEXTS))
+}
+
+// Accepts the page of these bytes, without where its parts stand.
 fn accept_page(alloc: Global, bytes: &[u8]) -> Result<CheckedPage, Status>
     ensures ok { IfOk result (IsAccepted bytes.now) }
-    ensures stops { IfErr result (IsUnaccepted bytes.now) }
+    ensures stops { IfErr result (IsUntaken IsRefused bytes.now) }
 {
     match accept_bytes(alloc, bytes) {
+        Ok(accepted) => Ok(accepted.into_page()),
+        Err(status) => Err(status),
+    }
+}
+
+// The same of a page that can be run.
+fn accept_bare_page(alloc: Global, bytes: &[u8]) -> Result<CheckedPage, Status>
+    ensures ok { IfOk result (IsAccepted bytes.now) }
+    ensures bare { IfOk result (λ page. is_bare page.nodes ≡ true) }
+    ensures stops { IfErr result (IsUntaken IsNotRun bytes.now) }
+{
+    match accept_bare(alloc, bytes) {
         Ok(accepted) => Ok(accepted.into_page()),
         Err(status) => Err(status),
     }
@@ -73,12 +123,30 @@ pub fn read_page<F: Files>(alloc: Global, files: &mut F, name: &str) -> Result<C
     accept_page(alloc, &bytes)
 }
 
+/// Reads and accepts a page that can be run.
+pub fn read_bare<F: Files>(alloc: Global, files: &mut F, name: &str) -> Result<CheckedPage, Status>
+    ensures ok { IfOk result (λ page. Of ((F.seen files.old).content name.now)
+        (λ bytes. IsPage bytes page)) }
+    ensures bare { IfOk result (λ page. is_bare page.nodes ≡ true) }
+    ensures stops { IfErr result
+        (λ status. StopsAtPage IsNotRun status ((F.seen files.old).content name.now)) }
+    ensures same { (n : List ℕ) → (F.seen files.new).content n ≡ (F.seen files.old).content n }
+    ensures counts { CountsReads (F.seen files.old) (F.seen files.new) name.now result }
+{
+    let bytes = match read_bytes(alloc, files, name) {
+        Ok(bytes) => bytes,
+        Err(status) => return Err(status),
+    };
+    accept_bare_page(alloc, &bytes)
+}
+
 // The text of the page of these bytes with opened scopes.
 fn open_bytes(alloc: Global, bytes: &[u8]) -> Result<Vec<u8>, Status>
     ensures ok { IfOk result (λ text. IsOpened bytes.now text.items) }
-    ensures stops { IfErr result (IsUnaccepted bytes.now) }
+    ensures bare { IfOk result (λ _. IsBareAs bytes.now true) }
+    ensures stops { IfErr result (IsUntaken IsNotRun bytes.now) }
 {
-    let accepted = match accept_bytes(alloc, bytes) {
+    let accepted = match accept_bare(alloc, bytes) {
         Ok(accepted) => accepted,
         Err(status) => return Err(status),
     };
@@ -88,12 +156,14 @@ fn open_bytes(alloc: Global, bytes: &[u8]) -> Result<Vec<u8>, Status>
     }
 }
 
-/// Reads and accepts a page, and gives its text with opened scopes.
+/// Reads and accepts a page that can be run, and gives its text with opened scopes.
 pub fn read_opened<F: Files>(alloc: Global, files: &mut F, name: &str) -> Result<Vec<u8>, Status>
     ensures ok { IfOk result (λ text. Of ((F.seen files.old).content name.now)
         (λ bytes. OpensTo bytes text.items)) }
+    ensures bare { IfOk result (λ _. Of ((F.seen files.old).content name.now)
+        (λ bytes. IsBareAs bytes true)) }
     ensures stops { IfErr result
-        (λ status. StopsAtPage IsRefused status ((F.seen files.old).content name.now)) }
+        (λ status. StopsAtPage IsNotRun status ((F.seen files.old).content name.now)) }
     ensures same { (n : List ℕ) → (F.seen files.new).content n ≡ (F.seen files.old).content n }
     ensures counts { CountsReads (F.seen files.old) (F.seen files.new) name.now result }
 {

@@ -5,7 +5,7 @@ ghost use Rattle.command_line.specs.Command.{session};
 ghost use Rattle.command_line.specs.Stages.{seen_between, work_of, EndsAt, Lasts};
 ghost use Rattle.command_line.specs.Texts.{PutsText};
 
-use crate::reading::{read_events, read_page};
+use crate::reading::{read_bare, read_events};
 use crate::saving::save_page;
 use crate::status::Status;
 use moved_pages::{law_accepted_scripts_are_in_form, law_moved_pages_go_on};
@@ -36,7 +36,7 @@ pub fn save<F: Files, O: Sink>(
     law_moved_pages_go_on();
     law_opened_pages_are_accepted();
     law_opened_pages_put_out_the_same();
-    let page = match read_page(alloc, files, page) {
+    let page = match read_bare(alloc, files, page) {
         Ok(page) => page,
         Err(status) => return status,
     };

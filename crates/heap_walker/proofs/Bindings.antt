@@ -18,7 +18,7 @@ use Rattle.object_shapes.proofs.Callers.{below_join}
 use Rattle.object_shapes.specs.Links as shapes
 use Rattle.object_shapes.specs.Links.{all_below, bound_links, parts_links, props_links, proto_links, value_links}
 use Rattle.page_meaning.specs.Store.{Store}
-use Rattle.scope_analysis.specs.FreeUses.{needed_variables}
+use Rattle.scope_analysis.specs.Needs.{needed_variables}
 use Rattle.heap_walker.specs.Still.{Still, made_links}
 use Rattle.heap_walker.specs.Things.{Reach, bound_value, bound_values, class_links, links, needs_links, needs_of}
 use Rattle.heap_walker.proofs.Walks.{thing_of}

@@ -11,8 +11,8 @@ use Rattle.object_heap.specs.Chain.{object_at}
 use Rattle.object_heap.specs.declared.object.Class.TheVariants as class
 use Rattle.object_shapes.specs.Links.{all_below}
 use Rattle.page_meaning.specs.Store.{Store}
-use Rattle.scope_analysis.specs.FreeUses.{needed_variables}
-use Rattle.scope_analysis.specs.Limits.{function_height_limit}
+use Rattle.scope_analysis.specs.Needs.{needed_variables}
+use Rattle.early_rules.specs.Limits.{function_height_limit}
 
 -- the function at the place can be made again from its code and what its needed variables hold: these are bound round it, and what they
 -- hold is older; the other names that it leaves to the scopes round it are bound nowhere there; its own name, if it has one, is bound to it;

@@ -17,11 +17,11 @@ use Rattle.object_heap.specs.declared.object.Class.TheVariants as class
 use Rattle.object_shapes.specs.Links.{all_below, proto_links}
 use Rattle.object_shapes.specs.Shapes.{IsShaped}
 use Rattle.page_meaning.specs.Store.{Store}
-use Rattle.scope_analysis.specs.EarlyRules.{early_rule}
-use Rattle.scope_analysis.specs.Form.{in_form}
-use Rattle.scope_analysis.specs.FreeUses.{needed_variables}
+use Rattle.early_rules.specs.EarlyRules.{early_rule}
+use Rattle.script_rules.specs.Form.{in_form}
+use Rattle.scope_analysis.specs.Needs.{needed_variables}
 use Rattle.scope_analysis.specs.Identifiers.{is_reserved}
-use Rattle.scope_analysis.specs.Limits.{function_height_limit}
+use Rattle.early_rules.specs.Limits.{function_height_limit}
 use Rattle.scope_analysis.specs.Uses.{expr_uses}
 use Rattle.heap_walker.specs.Things.{Reach, class_links, needs_links, needs_of}
 

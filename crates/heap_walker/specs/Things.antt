@@ -18,7 +18,7 @@ use Rattle.object_shapes.specs.Links.{is_thing, props_links, proto_links, value_
 use Rattle.object_shapes.specs.Shapes.{built_in_globals}
 use Rattle.page_meaning.specs.Places.{window}
 use Rattle.page_meaning.specs.Store.{Store}
-use Rattle.scope_analysis.specs.FreeUses.{needed_variables}
+use Rattle.scope_analysis.specs.Needs.{needed_variables}
 
 -- ---- what an object refers to
 

@@ -2,14 +2,14 @@
 
 ghost use Rattle.std.specs.Prelude.{◌≡◌, ◌++◌, ◌∷◌, [], IfOk, OnErr, OnOk};
 ghost use Rattle.code_table.specs.Declarations.{unnamed};
-ghost use Rattle.scope_analysis.specs.FreeUses.{needed_variables};
+ghost use Rattle.scope_analysis.specs.Needs.{needed_variables};
 ghost use Rattle.heap_walker.specs.Things as spec;
 
 use code_table::FunctionCode;
 use js_core::{Code, OutOfMemory, Units};
 use js_values::{EnvId, Value};
 use page_state::State;
-use scope_analysis::needed_variables;
+use script_rules::needed_variables;
 use std::alloc::Global;
 use std::marker::Model;
 

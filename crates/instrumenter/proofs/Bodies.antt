@@ -3,7 +3,7 @@ use Rattle.std.proofs.Common.{◌≡◌, ◌∙◌, ℕ, ◌+◌, ◌≤◌, tru
 use Rattle.js_core.specs.Height.{code_height, stmts_height}
 use Rattle.js_core.specs.Tree as tree
 use Rattle.js_core.specs.Tree.{code, func, function, no_stmts, one_catch, stmts_of, then_stmt}
-use Rattle.scope_analysis.specs.Limits.{plain_height_limit}
+use Rattle.early_rules.specs.Limits.{plain_height_limit}
 use Rattle.scope_analysis.specs.Names.{code_body, code_formals, code_name, own_name}
 use Rattle.instrumenter.specs.Around.{Around, append, clause_object, declaration, in_clause, in_function, next_number, opened_clause, opened_fields, parameter, scope_object, valued_names}
 use Rattle.instrumenter.specs.Counting.{count_of, expr_scopes, stmt_scopes, stmts_scopes}

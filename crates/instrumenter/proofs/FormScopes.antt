@@ -6,11 +6,11 @@ use Rattle.std.proofs.lemmas.Slice.Eq.{bytes_eq-Decides}
 use Rattle.js_core.specs.Tree as tree
 use Rattle.js_core.specs.Tree.{code, name, no_fields, no_stmts, then_field, then_stmt}
 use Rattle.js_grammar.specs.Syntax.{AreStmts}
-use Rattle.scope_analysis.specs.EarlyRules.{assigns_maybe, assigns_own}
-use Rattle.scope_analysis.specs.Form.{are_plain_fields, are_variables_in_form, boxes, can_be_rebuilt, is_assigned_once, is_clause_out_of_form, is_declaration_out_of_form, is_expression_out_of_form, is_not_captured, is_once, is_plain_value, may_be_captured, opens_with}
+use Rattle.early_rules.specs.EarlyRules.{assigns_maybe, assigns_own}
+use Rattle.script_rules.specs.Form.{are_plain_fields, are_variables_in_form, boxes, can_be_rebuilt, is_clause_out_of_form, is_declaration_out_of_form, is_expression_out_of_form, is_not_captured, is_once, is_plain_value, may_be_captured, opens_with}
+use Rattle.scope_analysis.specs.Uses.{Use, assignment, fields_uses, is_assigned, is_assigned_once, is_captured, read, stmts_uses}
 use Rattle.scope_analysis.specs.Identifiers.{is_reserved}
 use Rattle.scope_analysis.specs.Names.{declared_names, is_among, maybe_name, own_name}
-use Rattle.scope_analysis.specs.Uses.{Use, assignment, fields_uses, is_assigned, is_captured, read, stmts_uses}
 use Rattle.instrumenter.specs.Around.{append, clause_object, field_inside, literal_fields, next_number, parameter, scope_name, scope_object, valued_names, void_zero}
 use Rattle.instrumenter.specs.Fields.{clause_fields, fields_in, has_fields}
 use Rattle.instrumenter.specs.Opening.{open_stmts}

@@ -1,5 +1,5 @@
 -- An opened script of a plain page is a script of a form page.
-use Rattle.scope_analysis.specs.FormScripts.{IsFormScript}
+use Rattle.script_rules.specs.FormScripts.{IsFormScript}
 use Rattle.instrumenter.specs.Opened.{OpenedScriptsAreForm}
 use Rattle.instrumenter.specs.Opening.{open_script}
 use Rattle.instrumenter.proofs.Heights.{opened_scripts_are_low}

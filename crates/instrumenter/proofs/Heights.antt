@@ -5,9 +5,9 @@ use Rattle.js_core.specs.Height.{cases_height, code_height, declarators_height, 
 use Rattle.js_core.specs.Tree as tree
 use Rattle.js_core.specs.Tree.{name, num, text, bool, null, this, list, literal, func, member, index, call, construct, unary, update, binary, logical_and, logical_or, conditional, assign, comma, no_exprs, then_expr, no_expr, one_expr, no_holes, then_hole, no_fields, then_field, code, var, function, expr, empty, block, if_else, do_while, while, for, for_in, continue, break, return, throw, try, switch, no_stmts, then_stmt, no_body, one_body, no_declarators, then_declarator, no_init, init_var, init_expr, no_catch, one_catch, no_cases, then_case}
 use Rattle.js_core.specs.declared.operators.UnaryOp.TheVariants.{Void}
-use Rattle.scope_analysis.proofs.Callers.{has_no_high_function}
-use Rattle.scope_analysis.specs.Form.{has_high_function}
-use Rattle.scope_analysis.specs.Limits.{form_height_limit}
+use Rattle.script_rules.proofs.Callers.{has_no_high_function}
+use Rattle.script_rules.specs.Form.{has_high_function}
+use Rattle.early_rules.specs.Limits.{form_height_limit}
 use Rattle.scope_analysis.specs.Names.{is_among, own_name}
 use Rattle.scope_analysis.specs.Uses.{Use, catch_uses, declarators_uses, init_uses, is_captured, leaving_clause, maybe_expr_uses, maybe_stmts_uses, stmt_uses, stmts_uses}
 use Rattle.instrumenter.specs.Around.{Around, append, as_init, as_statements, assignments, before_for, before_for_in, callee, clause_object, declaration, field_or_name, in_clause, in_function, is_changed, literal_fields, next_number, opened_body, opened_fields, opened_init, opened_var, plain_names, scope_object, top, valued_names, var_of, var_where_any, without_this}

@@ -4,9 +4,9 @@ use Rattle.std.specs.Prelude.{is_some}
 use Rattle.std.proofs.Math.Bool.{or-false, or_assoc}
 use Rattle.js_core.specs.Tree as tree
 use Rattle.js_core.specs.Tree.{name, num, text, bool, null, this, list, literal, func, member, index, call, construct, unary, update, binary, logical_and, logical_or, conditional, assign, comma, no_exprs, then_expr, no_expr, one_expr, no_holes, then_hole, no_fields, then_field, code, var, function, expr, empty, block, if_else, do_while, while, for, for_in, continue, break, return, throw, try, switch, no_stmts, then_stmt, no_body, one_body, no_declarators, then_declarator, no_init, init_var, init_expr, no_catch, one_catch, no_cases, then_case}
-use Rattle.scope_analysis.specs.Jumps.{cases_leave, catch_leaves, is_continue, is_return, leaves, maybe_body_leaves, stmt_leaves}
+use Rattle.early_rules.specs.Jumps.{cases_leave, catch_leaves, is_continue, is_return, leaves, maybe_body_leaves, stmt_leaves}
 use Rattle.scope_analysis.specs.Names.{bound_names, is_among, maybe_name}
-use Rattle.scope_analysis.specs.declared.jump.Jump.{Jump}
+use Rattle.early_rules.specs.declared.jump.Jump.{Jump}
 use Rattle.instrumenter.specs.Around.{Around, append, as_statements, before_for, before_for_in, clause_object, declaration, field_inside, field_or_name, is_changed, next_number, plain_names, scope_object, single, valued_names, var_of, var_where_any}
 use Rattle.instrumenter.specs.Counting.{catch_scopes, expr_scopes, init_scopes, maybe_expr_scopes, stmt_scopes, stmts_scopes}
 use Rattle.instrumenter.specs.Fields.{clause_fields}

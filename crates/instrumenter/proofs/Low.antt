@@ -2,7 +2,7 @@
 use Rattle.std.proofs.Common.{ℕ, ◌≤◌, arith}
 use Rattle.js_core.specs.Height.{cases_height, declarators_height, expr_height, exprs_height, fields_height, for_init_height, holes_height, maybe_catch_height, maybe_expr_height, maybe_stmts_height, stmts_height}
 use Rattle.js_core.specs.Tree as tree
-use Rattle.scope_analysis.specs.Limits.{plain_height_limit}
+use Rattle.early_rules.specs.Limits.{plain_height_limit}
 use Rattle.instrumenter.specs.Around.{Around, assignments}
 use Rattle.instrumenter.specs.Opening.{open_cases, open_catch, open_declarators, open_expr, open_exprs, open_fields, open_holes, open_init, open_maybe, open_maybe_body, open_stmts}
 use Rattle.instrumenter.proofs.Heights.{assignments_fit, cases_fit, catch_fits, declarators_fit, expr_fits, exprs_fit, fields_fit, holes_fit, init_fits, maybe_fits, maybe_stmts_fit, stmts_fit}

@@ -10,11 +10,12 @@ use Rattle.js_core.specs.Tree.{name, num, text, bool, null, this, list, literal,
 use Rattle.js_core.specs.declared.operators.UnaryOp.{UnaryOp}
 use Rattle.js_core.specs.declared.operators.UnaryOp.TheVariants.{Delete}
 use Rattle.js_grammar.specs.Syntax.{AreStmts}
-use Rattle.scope_analysis.specs.declared.jump.Jump.TheVariants as jump
-use Rattle.scope_analysis.specs.EarlyRules.{assigns_own, assigns_own_name, deletes_name, field_names, has_bad_target, has_restricted_name, has_stray_jump, is_name, is_target, repeats_field, repeats_formal, repeats_name}
-use Rattle.scope_analysis.specs.Form.{has_reserved_identifier, is_declaration, scope_out_of_form}
+use Rattle.early_rules.specs.declared.jump.Jump.TheVariants as jump
+use Rattle.early_rules.specs.EarlyRules.{assigns_own, assigns_own_name, deletes_name, field_names, has_bad_target, has_restricted_name, has_stray_jump, is_name, is_target, repeats_field, repeats_formal, repeats_name}
+use Rattle.early_rules.specs.FormNodes.{has_reserved_identifier, is_declaration}
+use Rattle.script_rules.specs.Form.{scope_out_of_form}
 use Rattle.scope_analysis.specs.Identifiers.{is_reserved, is_restricted}
-use Rattle.scope_analysis.specs.Jumps.{leaves, strays}
+use Rattle.early_rules.specs.Jumps.{leaves, strays}
 use Rattle.scope_analysis.specs.Names.{declarator_names, declared_names, has_repeat, init_names, is_among, maybe_name, own_name}
 use Rattle.scope_analysis.specs.Nodes.{Node, catch_any, clause, declarators_any, expr_any, expression, exprs_any, fields_any, init_any, maybe_expr_any, statement, stmt_any, stmts_any}
 use Rattle.scope_analysis.specs.Uses.{Use, stmts_uses}

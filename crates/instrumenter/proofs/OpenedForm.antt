@@ -3,12 +3,13 @@ use Rattle.std.proofs.Common.{◌≡◌, ◌∙◌, ℕ, Bool, true, false, ◌|
 use Rattle.std.proofs.lemmas.Bool.{and_from, not_from_false, or_from, or_parts}
 use Rattle.js_core.specs.Tree as tree
 use Rattle.js_grammar.specs.Syntax.{IsSyntax}
-use Rattle.scope_analysis.proofs.Callers.{KeepsRules, none_is_broken, rules_are_kept}
-use Rattle.scope_analysis.specs.declared.jump.Jump.TheVariants as jump
-use Rattle.scope_analysis.specs.EarlyRules.{assigns_own_name, deletes_name, early_rule, has_bad_target, has_restricted_name, has_stray_jump, repeats_field, repeats_formal}
-use Rattle.scope_analysis.specs.Form.{any_is_reserved, any_use_is_reserved, has_reserved_identifier, has_reserved_name, in_form, scope_out_of_form}
+use Rattle.early_rules.proofs.Callers.{KeepsRules, none_is_broken, rules_are_kept}
+use Rattle.early_rules.specs.declared.jump.Jump.TheVariants as jump
+use Rattle.early_rules.specs.EarlyRules.{assigns_own_name, deletes_name, early_rule, has_bad_target, has_restricted_name, has_stray_jump, repeats_field, repeats_formal}
+use Rattle.script_rules.specs.Form.{any_is_reserved, any_use_is_reserved, has_reserved_name, in_form, scope_out_of_form}
+use Rattle.early_rules.specs.FormNodes.{has_reserved_identifier}
 use Rattle.scope_analysis.specs.Identifiers.{is_reserved}
-use Rattle.scope_analysis.specs.Jumps.{leaves}
+use Rattle.early_rules.specs.Jumps.{leaves}
 use Rattle.scope_analysis.specs.Names.{declared_names}
 use Rattle.scope_analysis.specs.Nodes.{Node, stmts_any}
 use Rattle.scope_analysis.specs.Uses.{Use, stmts_uses}

@@ -5,7 +5,7 @@ use Rattle.std.proofs.lemmas.Bool.{or_from, or_parts}
 use Rattle.js_core.specs.Tree as tree
 use Rattle.js_core.specs.Tree.{name, num, text, bool, null, this, list, literal, func, member, index, call, construct, unary, update, binary, logical_and, logical_or, conditional, assign, comma, no_exprs, then_expr, no_expr, one_expr, no_holes, then_hole, no_fields, then_field, code, var, function, expr, empty, block, if_else, do_while, while, for, for_in, continue, break, return, throw, try, switch, no_stmts, then_stmt, no_body, one_body, no_declarators, then_declarator, no_init, init_var, init_expr, no_catch, one_catch, no_cases, then_case}
 use Rattle.js_grammar.specs.Syntax.{AreCases, AreDeclarators, AreExprs, AreFields, AreHoles, AreStmts, IsExpr, IsMaybeBody, IsMaybeCatch, IsMaybeExpr, IsStmt}
-use Rattle.scope_analysis.specs.EarlyRules.{is_target, repeats_name}
+use Rattle.early_rules.specs.EarlyRules.{is_target, repeats_name}
 use Rattle.scope_analysis.specs.Identifiers.{is_restricted}
 use Rattle.scope_analysis.specs.Names.{declarator_names, has_repeat, is_among, maybe_name, own_name}
 use Rattle.scope_analysis.specs.Nodes.{cases_any, catch_any, declarators_any, expr_any, expression, exprs_any, fields_any, holes_any, maybe_expr_any, maybe_stmts_any, statement, stmt_any, stmts_any}

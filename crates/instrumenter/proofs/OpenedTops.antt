@@ -4,10 +4,11 @@ use Rattle.std.proofs.lemmas.Bool.{or_from, or_parts}
 use Rattle.js_core.specs.Tree as tree
 use Rattle.js_core.specs.Tree.{code, func, function, no_stmts, then_stmt, var, expr, empty, block, if_else, do_while, while, for, for_in, continue, break, return, throw, try, switch, name, no_declarators, then_declarator, no_expr, one_expr, no_init, init_var, init_expr, no_exprs, then_expr}
 use Rattle.js_grammar.specs.Syntax.{AreStmts}
-use Rattle.scope_analysis.specs.declared.jump.Jump.{Jump}
-use Rattle.scope_analysis.specs.EarlyRules.{declares_global, redeclares_global}
-use Rattle.scope_analysis.specs.Form.{has_inner_declaration, is_declaration}
-use Rattle.scope_analysis.specs.Jumps.{leaves}
+use Rattle.early_rules.specs.declared.jump.Jump.{Jump}
+use Rattle.early_rules.specs.EarlyRules.{declares_global, redeclares_global}
+use Rattle.script_rules.specs.Form.{has_inner_declaration}
+use Rattle.early_rules.specs.FormNodes.{is_declaration}
+use Rattle.early_rules.specs.Jumps.{leaves}
 use Rattle.scope_analysis.specs.Names.{bound_names, declared_names, is_among, maybe_name, stmt_names}
 use Rattle.scope_analysis.specs.Nodes.{Node, stmt_any, stmts_any, statement}
 use Rattle.scope_analysis.specs.Uses.{Use, leaving_function, stmt_uses, stmts_uses}

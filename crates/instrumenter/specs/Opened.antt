@@ -3,10 +3,10 @@ use Rattle.std.specs.Prelude.{◌≡◌, ◌≤◌, ℕ, false, None}
 use Rattle.js_core.specs.Height.{stmts_height}
 use Rattle.js_core.specs.Tree as tree
 use Rattle.js_grammar.specs.Syntax.{IsSyntax}
-use Rattle.scope_analysis.specs.EarlyRules.{early_rule}
-use Rattle.scope_analysis.specs.Form.{has_reserved_name}
-use Rattle.scope_analysis.specs.FormScripts.{IsFormPageScript}
-use Rattle.scope_analysis.specs.Limits.{plain_height_limit}
+use Rattle.early_rules.specs.EarlyRules.{early_rule}
+use Rattle.script_rules.specs.Form.{has_reserved_name}
+use Rattle.script_rules.specs.FormScripts.{IsFormPageScript}
+use Rattle.early_rules.specs.Limits.{plain_height_limit}
 use Rattle.instrumenter.specs.Opening.{open_script}
 
 -- a script of a plain page: a tree that some tokens have, that breaks no early rule and is low, and in which no identifier

@@ -6,7 +6,7 @@ ghost use Rattle.js_core.specs.Height.{maybe_catch_height};
 ghost use Rattle.js_core.specs.Tree as tree;
 ghost use Rattle.js_core.specs.Tree.{stmts_of};
 ghost use Rattle.js_core.specs.Views.{catch_of};
-ghost use Rattle.scope_analysis.specs.Limits.{plain_height_limit};
+ghost use Rattle.early_rules.specs.Limits.{plain_height_limit};
 ghost use Rattle.instrumenter.specs.Around as around;
 ghost use Rattle.instrumenter.specs.Counting.{catch_scopes};
 ghost use Rattle.instrumenter.specs.Levels.{around_of};

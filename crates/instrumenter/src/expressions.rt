@@ -5,7 +5,7 @@ ghost use Rattle.std.specs.Rc.{rc_value};
 ghost use Rattle.js_core.specs.Height.{expr_height, exprs_height, fields_height, holes_height, maybe_expr_height};
 ghost use Rattle.js_core.specs.Tree as tree;
 ghost use Rattle.js_core.specs.Tree.{exprs_of, fields_of, holes_of, maybe_expr};
-ghost use Rattle.scope_analysis.specs.Limits.{plain_height_limit};
+ghost use Rattle.early_rules.specs.Limits.{plain_height_limit};
 ghost use Rattle.instrumenter.specs.Around as around;
 ghost use Rattle.instrumenter.specs.Counting.{
   expr_scopes,

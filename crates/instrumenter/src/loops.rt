@@ -6,7 +6,7 @@ ghost use Rattle.js_core.specs.Height.{for_init_height, stmt_height};
 ghost use Rattle.js_core.specs.Tree as tree;
 ghost use Rattle.js_core.specs.Tree.{maybe_expr, stmts_of};
 ghost use Rattle.js_core.specs.Views.{declarators_of, init_of};
-ghost use Rattle.scope_analysis.specs.Limits.{plain_height_limit};
+ghost use Rattle.early_rules.specs.Limits.{plain_height_limit};
 ghost use Rattle.instrumenter.specs.Around as around;
 ghost use Rattle.instrumenter.specs.Around.{append};
 ghost use Rattle.instrumenter.specs.Counting.{init_scopes, stmt_scopes};

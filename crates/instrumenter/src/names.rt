@@ -13,9 +13,9 @@ use indexmap::IndexSet;
 use itoa::Buffer;
 use js_core::{Catch, Code, OutOfMemory, Stmt, Units, ascii_text};
 use scope_analysis::{
-    ScopeTest, UseTable, insert_names, note_statements, push_declared_names, push_maybe_name,
-    push_names,
+    UseTable, insert_names, push_declared_names, push_maybe_name, push_names,
 };
+use script_rules::{ScopeTest, note_statements};
 use std::alloc::Global;
 
 /// The captured variables of a function with this own name: its formals, then its own name, then the others in the order of

@@ -4,7 +4,7 @@ ghost use Rattle.std.specs.Prelude.{◌≡◌, ◌≤◌, ◌<◌, ◌+◌, ◌^
 ghost use Rattle.js_core.specs.Height.{stmt_height, stmts_height};
 ghost use Rattle.js_core.specs.Tree as tree;
 ghost use Rattle.js_core.specs.Tree.{stmts_of};
-ghost use Rattle.scope_analysis.specs.Limits.{plain_height_limit};
+ghost use Rattle.early_rules.specs.Limits.{plain_height_limit};
 ghost use Rattle.instrumenter.specs.Around.{append, top};
 ghost use Rattle.instrumenter.specs.Counting.{scripts_scopes, stmt_scopes, stmts_scopes};
 ghost use Rattle.instrumenter.specs.Opening as spec;

@@ -12,7 +12,7 @@ ghost use Rattle.js_core.specs.Height.{
 ghost use Rattle.js_core.specs.Tree as tree;
 ghost use Rattle.js_core.specs.Tree.{maybe_expr, maybe_stmts, stmts_of};
 ghost use Rattle.js_core.specs.Views.{cases_of, catch_of, declarators_of, init_of};
-ghost use Rattle.scope_analysis.specs.Limits.{plain_height_limit};
+ghost use Rattle.early_rules.specs.Limits.{plain_height_limit};
 ghost use Rattle.instrumenter.specs.Around.{append};
 ghost use Rattle.instrumenter.specs.Counting.{
   cases_scopes,

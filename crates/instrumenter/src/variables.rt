@@ -6,7 +6,7 @@ ghost use Rattle.js_core.specs.Height.{declarators_height, expr_height, exprs_he
 ghost use Rattle.js_core.specs.Tree as tree;
 ghost use Rattle.js_core.specs.Tree.{exprs_of, maybe_expr, stmts_of};
 ghost use Rattle.js_core.specs.Views.{declarators_of, init_of};
-ghost use Rattle.scope_analysis.specs.Limits.{plain_height_limit};
+ghost use Rattle.early_rules.specs.Limits.{plain_height_limit};
 ghost use Rattle.instrumenter.specs.Around as around;
 ghost use Rattle.instrumenter.specs.Around.{append};
 ghost use Rattle.instrumenter.specs.Counting.{declarators_scopes, expr_scopes, maybe_expr_scopes, stmt_scopes};

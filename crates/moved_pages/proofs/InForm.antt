@@ -8,14 +8,14 @@ use Rattle.js_core.specs.Tree as tree
 use Rattle.js_grammar.specs.Scripts.{TokensHaveSyntax}
 use Rattle.js_grammar.specs.Syntax.{IsSyntax}
 use Rattle.js_print.specs.Written.{TokensCanBeWritten}
-use Rattle.page_check.specs.Accept.{ArePageScripts, IsPageScript, is_too_deep}
+use Rattle.page_check.specs.Accept.{ArePageScripts, IsPageScript, is_too_deep, texts_of}
 use Rattle.page_check.specs.declared.page.Kind.{Kind}
 use Rattle.page_check.specs.declared.page.Kind.TheVariants.{Plain, Form}
 use Rattle.page_rest.specs.Laws.{IsInForm}
-use Rattle.printed_pages.proofs.Callers.{accepted_scripts_have_syntax}
-use Rattle.scope_analysis.proofs.Callers.{has_no_high_function}
-use Rattle.scope_analysis.specs.Form.{has_high_function, in_form}
-use Rattle.scope_analysis.specs.Limits.{form_height_limit, plain_height_limit}
+use Rattle.printed_pages.proofs.Callers.{TextsHaveUnits, accepted_scripts_have_syntax}
+use Rattle.script_rules.proofs.Callers.{has_no_high_function}
+use Rattle.script_rules.specs.Form.{has_high_function, in_form}
+use Rattle.early_rules.specs.Limits.{form_height_limit, plain_height_limit}
 use Rattle.moved_pages.specs.Moved.{AcceptedScriptsAreInForm}
 
 low_of : (kind : Kind) (script : tree.Stmts) → is_too_deep kind script ≡ false → stmts_height script ≤ form_height_limit
@@ -45,6 +45,6 @@ all_in_form kind (text ∷ texts) (script ∷ scripts) read formed syntax =
 all_in_form kind [] (script ∷ scripts) read formed syntax = absurd read
 all_in_form kind (text ∷ texts) [] read formed syntax = absurd read
 
-pub accepted_scripts_in_form : TokensCanBeWritten → TokensHaveSyntax → AcceptedScriptsAreInForm
-accepted_scripts_in_form written syntax bytes kind scripts is formed =
-    all_in_form kind is.texts scripts is.read formed (accepted_scripts_have_syntax written syntax bytes kind scripts is)
+pub accepted_scripts_in_form : TokensCanBeWritten → TokensHaveSyntax → TextsHaveUnits → AcceptedScriptsAreInForm
+accepted_scripts_in_form written syntax units bytes page is formed =
+    all_in_form page.kind (texts_of is.texts) page.scripts is.read formed (accepted_scripts_have_syntax written syntax units bytes page is)

@@ -21,6 +21,7 @@ use Rattle.rebuild_plan.specs.Stands.{PlansStand}
 use Rattle.rebuild_plan.specs.declared.statement.Rebuild.{Rebuild}
 use Rattle.rebuilding.specs.Again.{SavedAgain}
 use Rattle.rebuilding.specs.Laws.{LoadsWithin, ScriptsTakeFewSteps, CanBeRebuilt, RebuiltPagesGoOn, ScriptsRebuild}
+use Rattle.printed_pages.proofs.Callers.{ScriptPages}
 use Rattle.moved_pages.specs.Moved.{CanBeMoved, MovedPagesGoOn, longest_page}
 use Rattle.moved_pages.proofs.Accepted.{saved_pages_are_accepted}
 use Rattle.moved_pages.proofs.Written.{are_written}
@@ -53,9 +54,9 @@ can_be_rebuilt few rest scripts earlier things can =
 
 -- ---- the law
 
-pub moved_pages_go_on : PagesAreShort → SavedScriptsAreForm → LinedScriptsAreReadAgain → PlansStand → PlansAreFew → PagesRest → ScriptsRebuild → RebuiltPagesGoOn → SavedAgain → ScriptsTakeFewSteps
+pub moved_pages_go_on : PagesAreShort → SavedScriptsAreForm → LinedScriptsAreReadAgain → ScriptPages → PlansStand → PlansAreFew → PagesRest → ScriptsRebuild → RebuiltPagesGoOn → SavedAgain → ScriptsTakeFewSteps
     → MovedPagesGoOn
-moved_pages_go_on bound form lined stand few rest rebuild go_on saved_again steps scripts earlier things can =
+moved_pages_go_on bound form lined pages stand few rest rebuild go_on saved_again steps scripts earlier things can =
     let s : Store = run_of scripts earlier in
     let at_rest = rest scripts earlier things can.in_form can.walked in
     let rs : List Rebuild = plan (compact s things) in
@@ -69,7 +70,7 @@ moved_pages_go_on bound form lined stand few rest rebuild go_on saved_again step
         goes_on = record {
           fits = fits (length (saved_page s things)) (weight.load_of s things).things (weight.load_of s things).text
               (bound s things at_rest.0 can.walked can.few can.literals) can.few can.short;
-          accepted = saved_pages_are_accepted form lined s things at_rest.0 can.walked written;
+          accepted = saved_pages_are_accepted form lined pages s things at_rest.0 can.walked written;
           formed = (form s things at_rest.0 can.walked written).1.form.formed;
           silent = silent;
           again = λ (again : List ℕ) walk. ap (λ c. page_of (plan c)) (saved_again s things again ready walk);

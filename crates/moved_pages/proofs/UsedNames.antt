@@ -7,7 +7,7 @@ use Rattle.indexmap.specs.IndexSet.{insert_all, insert_key}
 use Rattle.js_core.specs.Tree as tree
 use Rattle.js_core.specs.Tree.{name, num, text, bool, null, this, list, literal, func, member, index, call, construct, unary, update, binary, logical_and, logical_or, conditional, assign, comma, no_exprs, then_expr, no_expr, one_expr, no_holes, then_hole, no_fields, then_field, code, var, function, expr, empty, block, if_else, do_while, while, for, for_in, continue, break, return, throw, try, switch, no_stmts, then_stmt, no_body, one_body, no_declarators, then_declarator, no_init, init_var, init_expr, no_catch, one_catch, no_cases, then_case}
 use Rattle.js_grammar.specs.Syntax.{AreCases, AreDeclarators, AreExprs, AreFields, AreHoles, AreStmts, IsExpr, IsInit, IsMaybeBody, IsMaybeCatch, IsMaybeExpr, IsStmt, is_identifier}
-use Rattle.scope_analysis.specs.FreeUses.{needed_variables}
+use Rattle.scope_analysis.specs.Needs.{needed_variables}
 use Rattle.scope_analysis.specs.Identifiers.{is_reserved}
 use Rattle.scope_analysis.specs.Names.{bound_names, is_among, maybe_name}
 use Rattle.scope_analysis.specs.Uses.{Use, cases_uses, catch_uses, crossing, declarator_uses, declarators_uses, expr_uses, exprs_uses, fields_uses, holes_uses, init_uses, leaving_clause, leaving_function, maybe_expr_uses, maybe_stmts_uses, stmt_uses, stmts_uses, target_uses}

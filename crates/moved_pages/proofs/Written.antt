@@ -44,8 +44,8 @@ use Rattle.rebuild_plan.specs.declared.statement.Maker.{Maker}
 use Rattle.rebuild_plan.specs.declared.statement.Maker.TheVariants as made
 use Rattle.rebuild_plan.specs.declared.statement.Rebuild.{Rebuild}
 use Rattle.rebuild_plan.specs.declared.statement.Rebuild.TheVariants.{Make, Define, DefinePrototype, DefineLength, Prevent}
-use Rattle.scope_analysis.specs.FreeUses.{needed_variables}
-use Rattle.scope_analysis.specs.Limits.{function_height_limit}
+use Rattle.scope_analysis.specs.Needs.{needed_variables}
+use Rattle.early_rules.specs.Limits.{function_height_limit}
 use Rattle.moved_pages.proofs.UsedNames.{needed_named}
 
 -- ---- places and values

@@ -5,19 +5,19 @@ use Rattle.heap_walker.specs.Things.{IsWalk}
 use Rattle.heap_walker.specs.Weight.{load_of}
 use Rattle.js_core.specs.Tree as tree
 use Rattle.js_values.specs.declared.event.Event.{Event}
-use Rattle.page_check.specs.Accept.{IsAcceptedAs}
-use Rattle.page_check.specs.declared.page.Kind.{Kind}
-use Rattle.page_check.specs.declared.page.Kind.TheVariants.{Form}
+use Rattle.page_check.specs.Accept.{IsAccepted}
+use Rattle.page_check.specs.Rules.{Page}
 use Rattle.page_meaning.specs.Pages.{lines_after, lines_of_run, run_of}
 use Rattle.page_meaning.specs.Store.{Store}
 use Rattle.page_rest.specs.Laws.{IsInForm}
 use Rattle.page_writer.specs.Literals.{HaveLiterals}
 use Rattle.page_writer.specs.Page.{saved_page}
 use Rattle.page_writer.specs.Sizes.{text_limit, things_limit}
+use Rattle.printed_pages.specs.Printed.{framed_page}
 use Rattle.rebuild_plan.specs.Compact.{compact}
 use Rattle.rebuild_plan.specs.Plan.{plan}
 use Rattle.rebuilding.specs.Laws.{LoadsWithin}
-use Rattle.scope_analysis.specs.Form.{in_form}
+use Rattle.script_rules.specs.Form.{in_form}
 
 -- scripts of form pages, after whose events these things can be reached; what they write can be written, and they and their text are no more
 -- than a saved page may have
@@ -36,7 +36,7 @@ longest_page = 16777216
 -- every list of later events, exactly the lines that the page puts out for them after the earlier ones
 pub record GoesOnAs (text : List ℕ) (scripts : List tree.Stmts) (earlier : List Event) (script : tree.Stmts) : Type 0 where
   pub fits : length text ≤ longest_page
-  pub accepted : IsAcceptedAs text Form (script ∷ [])
+  pub accepted : IsAccepted text (framed_page script)
   pub formed : in_form script ≡ true
   pub silent : lines_of_run (script ∷ []) [] ≡ []
   pub same : (later : List Event) → lines_after (script ∷ []) [] later ≡ lines_after scripts earlier later
@@ -73,4 +73,4 @@ MovesJoin =
 -- an accepted script that is in form is one of a form page
 abbrev pub AcceptedScriptsAreInForm : Type 0
 AcceptedScriptsAreInForm =
-    (bytes : List ℕ) (kind : Kind) (scripts : List tree.Stmts) → IsAcceptedAs bytes kind scripts → list_all in_form scripts ≡ true → All IsInForm scripts
+    (bytes : List ℕ) (page : Page) → IsAccepted bytes page → list_all in_form page.scripts ≡ true → All IsInForm page.scripts

@@ -7,6 +7,7 @@ use js_print::{
     law_lined_scripts_are_read_again, law_syntax_is_what_tokens_have, law_tokens_can_be_written,
 };
 use page_meaning::law_lines_grow;
+use page_reader::{law_script_pages, law_script_units};
 use page_rest::law_pages_rest;
 use page_writer::{law_pages_are_short, law_saved_scripts_are_form};
 use rebuild_plan::{law_plans_are_few, law_plans_stand};
@@ -20,6 +21,7 @@ pub fn law_saved_pages_are_accepted()
 {
     law_saved_scripts_are_form();
     law_lined_scripts_are_read_again();
+    law_script_pages();
 }
 
 /// A moved page behaves as if it had never moved: the text of a page in form is accepted as a page in form, which loads without a line
@@ -30,6 +32,7 @@ pub fn law_moved_pages_go_on()
     law_pages_are_short();
     law_saved_scripts_are_form();
     law_lined_scripts_are_read_again();
+    law_script_pages();
     law_plans_stand();
     law_plans_are_few();
     law_pages_rest();
@@ -53,4 +56,5 @@ pub fn law_accepted_scripts_are_in_form()
 {
     law_tokens_can_be_written();
     law_syntax_is_what_tokens_have();
+    law_script_units();
 }

@@ -1,16 +1,45 @@
--- That the text of a plain page is that of its opened scripts, in its frame.
-use Rattle.std.proofs.Common.{◌≡◌, ◌∙◌, sym, ap, ℕ, Bool, List, Result, Ok, Err, IfOk}
+-- That the text of a plain page with opened scopes is its own, with its opened scripts.
+use Rattle.std.proofs.Common.{◌≡◌, ◌∙◌, sym, ap, ℕ, List, map, Result, Ok, Err, IfOk, refl}
+use Rattle.std.specs.Prelude.{◌++◌}
+use Rattle.dom_tree.specs.Node.{Nodes}
+use Rattle.instrumenter.specs.Opening.{open_scripts}
 use Rattle.js_core.specs.Tree as tree
-use Rattle.page_check.specs.Accept.{IsAcceptedAs}
+use Rattle.js_print.specs.Printing.{script_text}
+use Rattle.page_check.specs.Accept.{AcceptedPage, IsAccepted, IsAcceptedAt}
+use Rattle.page_check.specs.Rules.{Page}
 use Rattle.page_check.specs.declared.page.Kind.{Kind}
 use Rattle.page_check.specs.declared.page.Kind.TheVariants.{Plain, Form}
-use Rattle.opened_pages.specs.Opened.{Opens, opened_text}
+use Rattle.page_reader.specs.declared.page.Place.{Place}
+use Rattle.page_reader.specs.Replacing.{form_mark, replaced_from}
+use Rattle.printed_pages.specs.Printed.{form_page}
+use Rattle.opened_pages.specs.Opened.{Opens, OpensAs, opened_scripts}
+
+abbrev texts_of_opened : List tree.Stmts → List (List ℕ)
+texts_of_opened scripts = map script_text (open_scripts scripts)
 
 -- where the text may be wanting
-pub opens_as_plain : {T E : Type 0} (kind : Kind) (bytes : List ℕ) (scripts others : List tree.Stmts) (with_body : Bool) (text_of : T → List ℕ) (r : Result T E)
-    → kind ≡ Plain → (page : IsAcceptedAs bytes kind scripts) → page.framed.with_body ≡ with_body → others ≡ scripts
-    → IfOk r (λ t. text_of t ≡ opened_text with_body others) → IfOk r (λ t. Opens kind bytes scripts (text_of t))
-opens_as_plain Plain bytes scripts others with_body text_of (Ok t) is page body same e =
-    (page, e ∙ ap (opened_text with_body) same ∙ ap (λ (b : Bool). opened_text b scripts) (sym body))
-opens_as_plain Form bytes scripts others with_body text_of (Ok t) is page body same e = absurd (cc)
-opens_as_plain kind bytes scripts others with_body text_of (Err f) is page body same e = tt
+pub opens_as_plain : {T E : Type 0} (found : AcceptedPage) (bytes : List ℕ) (start : ℕ) (places : List Place) (scripts : List tree.Stmts) (text_of : T → List ℕ) (r : Result T E)
+    → found.page.kind ≡ Plain → IsAcceptedAt bytes found → start ≡ found.start → places ≡ found.places → scripts ≡ found.page.scripts
+    → IfOk r (λ t. text_of t ≡ form_mark ++ replaced_from start bytes places (texts_of_opened scripts)) → IfOk r (λ t. Opens bytes found.page (text_of t))
+opens_as_plain found bytes start places scripts text_of (Ok t) is at s p same e = by found.page.kind is
+  where
+    whole : text_of t ≡ form_mark ++ replaced_from found.start bytes found.places (texts_of_opened found.page.scripts)
+    whole =
+        e ∙ ap (λ (n : ℕ). form_mark ++ replaced_from n bytes places (texts_of_opened scripts)) s
+        ∙ ap (λ (ps : List Place). form_mark ++ replaced_from found.start bytes ps (texts_of_opened scripts)) p
+        ∙ ap (λ (ss : List tree.Stmts). form_mark ++ replaced_from found.start bytes found.places (texts_of_opened ss)) same
+
+    by : (kind : Kind) → kind ≡ Plain → OpensAs kind bytes found.page (text_of t)
+    by Form off = absurd (cc)
+    by Plain on = (
+      at.accepted,
+      whole ∙ ap (λ (n : ℕ). form_mark ++ replaced_from n bytes found.places (texts_of_opened found.page.scripts)) at.start
+          ∙ ap (λ (ps : List Place). form_mark ++ replaced_from _ bytes ps (texts_of_opened found.page.scripts)) at.placed,
+    )
+opens_as_plain found bytes start places scripts text_of (Err f) is at s p same e = tt
+
+-- a form page is its own page with opened scopes
+pub stays_open : (kind : Kind) (nodes : Nodes) (scripts : List tree.Stmts) → kind ≡ Form
+    → record { kind = kind; nodes = nodes; scripts = scripts } ≡ form_page nodes (opened_scripts kind scripts)
+stays_open Form nodes scripts e = refl
+stays_open Plain nodes scripts e = absurd (cc)

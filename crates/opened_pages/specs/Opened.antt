@@ -1,40 +1,44 @@
 -- The text of a page with opened scopes.
-use Rattle.std.specs.Prelude.{◌≡◌, ◌+◌, ◌<◌, ◌^◌, ◌++◌, ℕ, Bool, List, [], ◌∷◌, ⊤}
+use Rattle.std.specs.Prelude.{◌≡◌, ◌+◌, ◌<◌, ◌^◌, ℕ, List, map, ⊤}
 use Rattle.js_core.specs.Tree as tree
 use Rattle.instrumenter.specs.Counting.{scripts_scopes}
 use Rattle.instrumenter.specs.Opening.{open_scripts}
 use Rattle.js_print.specs.Printing.{script_text}
 use Rattle.js_values.specs.declared.event.Event.{Event}
-use Rattle.page_check.specs.Accept.{IsAcceptedAs}
+use Rattle.page_check.specs.Accept.{IsAccepted}
+use Rattle.page_check.specs.Rules.{Page}
 use Rattle.page_check.specs.declared.page.Kind.{Kind}
 use Rattle.page_check.specs.declared.page.Kind.TheVariants.{Plain, Form}
 use Rattle.page_meaning.specs.Pages.{lines_after, lines_of_run}
-use Rattle.printed_pages.specs.Printed.{framed}
+use Rattle.page_reader.specs.declared.page.Place.{Place}
+use Rattle.page_reader.specs.Replacing.{as_form_page, places_of}
+use Rattle.printed_pages.specs.Printed.{form_page}
 
--- the texts of scripts, one behind the other
-abbrev pub script_texts : List tree.Stmts → List ℕ
-script_texts [] = []
-script_texts (script ∷ scripts) = script_text script ++ script_texts scripts
+-- the mark of form pages and a plain page's own bytes, without a byte order mark, with the texts of its opened scripts in the places of its
+-- own
+abbrev pub opened_text : List ℕ → List Place → List tree.Stmts → List ℕ
+opened_text bytes places scripts = as_form_page bytes places (map script_text (open_scripts scripts))
 
--- the mark, and a plain page without a byte order mark, with the texts of its opened scripts in place of its own
-abbrev pub opened_text : Bool → List tree.Stmts → List ℕ
-opened_text with_body scripts = framed with_body (script_texts (open_scripts scripts))
+-- the text that opens the scopes of an accepted page, by its kind: those of a form page are open
+abbrev pub OpensAs : Kind → List ℕ → Page → List ℕ → Type 0
+OpensAs Form bytes page text = text ≡ bytes
+OpensAs Plain bytes page text = (is : IsAccepted bytes page) × (text ≡ opened_text bytes (places_of is.texts) page.scripts)
 
--- the text that opens the scopes of an accepted page: those of a form page are open
-abbrev pub Opens : Kind → List ℕ → List tree.Stmts → List ℕ → Type 0
-Opens Form bytes scripts text = text ≡ bytes
-Opens Plain bytes scripts text = (page : IsAcceptedAs bytes Plain scripts) × (text ≡ opened_text page.framed.with_body scripts)
+abbrev pub Opens : List ℕ → Page → List ℕ → Type 0
+Opens bytes page text = OpensAs page.kind bytes page text
 
 -- the scripts of the page that it is
 abbrev pub opened_scripts : Kind → List tree.Stmts → List tree.Stmts
 opened_scripts Form scripts = scripts
 opened_scripts Plain scripts = open_scripts scripts
 
--- it is accepted as a form page with these scripts
+-- that page
+abbrev pub opened_page : Page → Page
+opened_page page = form_page page.nodes (opened_scripts page.kind page.scripts)
+
+-- the text is accepted as this page
 abbrev pub OpenedPagesAreAccepted : Type 0
-OpenedPagesAreAccepted =
-    (kind : Kind) (bytes : List ℕ) (scripts : List tree.Stmts) (text : List ℕ) → IsAcceptedAs bytes kind scripts → Opens kind bytes scripts text
-    → IsAcceptedAs text Form (opened_scripts kind scripts)
+OpenedPagesAreAccepted = (bytes : List ℕ) (page : Page) (text : List ℕ) → IsAccepted bytes page → Opens bytes page text → IsAccepted text (opened_page page)
 
 -- the objects of its scopes have numbers that the program can count to
 abbrev pub HaveNumbers : Kind → List tree.Stmts → Type 0
@@ -49,5 +53,5 @@ pub record PutOutTheSame (scripts others : List tree.Stmts) : Type 0 where
 -- **an opened page puts out the lines of the page**
 abbrev pub OpenedPagesPutOutTheSame : Type 0
 OpenedPagesPutOutTheSame =
-    (kind : Kind) (bytes : List ℕ) (scripts : List tree.Stmts) → IsAcceptedAs bytes kind scripts → HaveNumbers kind scripts
-    → PutOutTheSame (opened_scripts kind scripts) scripts
+    (bytes : List ℕ) (page : Page) → IsAccepted bytes page → HaveNumbers page.kind page.scripts
+    → PutOutTheSame (opened_page page).scripts page.scripts

@@ -6,7 +6,7 @@ use agreement::law_plain_pages_agree;
 use instrumenter::law_opened_scripts_are_form;
 use printed_pages::{
     law_accepted_scripts_begin_strict, law_accepted_scripts_have_syntax,
-    law_printed_scripts_are_accepted,
+    law_printed_pages_are_accepted,
 };
 
 /// The text of an accepted page with opened scopes is accepted as a form page, with the opened scripts.
@@ -14,7 +14,7 @@ pub fn law_opened_pages_are_accepted()
     ensures { OpenedPagesAreAccepted }
 {
     law_opened_scripts_are_form();
-    law_printed_scripts_are_accepted();
+    law_printed_pages_are_accepted();
     law_accepted_scripts_have_syntax();
     law_accepted_scripts_begin_strict();
 }

@@ -1,8 +1,4 @@
-pub mod Callers
-pub mod Frames
-pub mod Fronts
 pub mod OneAnswer
-pub mod OneFrame
 pub mod OneList
 pub mod OneScript
 pub mod Refusals

@@ -5,8 +5,8 @@ use Rattle.js_core.specs.Tree as tree
 use Rattle.js_core.specs.declared.token.Token.{Token}
 use Rattle.js_grammar.specs.Scripts.{Derives}
 use Rattle.js_lexer.specs.Tokens.{Tokens}
-use Rattle.scope_analysis.specs.EarlyRules.{early_rule}
-use Rattle.scope_analysis.specs.declared.early_rule.EarlyRule.{EarlyRule}
+use Rattle.early_rules.specs.EarlyRules.{early_rule}
+use Rattle.early_rules.specs.declared.early_rule.EarlyRule.{EarlyRule}
 use Rattle.page_check.specs.Accept.{IsPageScript, IsScriptRefusal}
 use Rattle.page_check.specs.declared.page.Kind.{Kind}
 use Rattle.page_check.specs.declared.page.Kind.TheVariants.{Plain, Form}

@@ -1,9 +1,8 @@
--- Scripts that are read one behind the other.
+-- Scripts that are read one after the other.
 use Rattle.std.proofs.Common.{◌≡◌, ℕ, suc, ◌+◌, List, [], ◌∷◌, ◌++◌, length, refl, sym, ap, ◌∙◌, subst, append_assoc, append-nil}
 use Rattle.std.proofs.lemmas.List.Elements.{All-append, All-cons, All-nil}
 use Rattle.js_core.specs.Tree as tree
 use Rattle.page_check.specs.Accept.{AreNotScripts, ArePageScripts, IsNotScript, IsPageScript, IsScriptRefusal}
-use Rattle.page_check.specs.Frame.{IsFramePage}
 use Rattle.page_check.specs.Rules.{AllKeepRules, KeepsRules}
 use Rattle.js_core.specs.declared.memory.Failure.{Failure}
 use Rattle.page_check.specs.declared.page.Refusal.{Refusal}
@@ -58,13 +57,3 @@ none_read kind texts rest behind scripts text number (Cause r) so e n off = reco
   off = subst (λ (k : ℕ). IsScriptRefusal kind k text r) (n ∙ ap (λ (k : ℕ). k + 1) (sym (as_many kind so.before scripts so.read))) off;
 }
 none_read kind texts rest behind scripts text number OutOfMemory so e n off = tt
-
--- a page has one script, until nodes come
-pub one_page_script : (text : List ℕ) (kind : Kind) (texts : List (List ℕ)) (scripts : List tree.Stmts) (framed : IsFramePage text kind texts) → ArePageScripts kind texts scripts
-    → (script : tree.Stmts) × (scripts ≡ script ∷ []) × IsPageScript kind framed.inner script
-one_page_script text kind texts scripts framed read = by scripts (subst (λ (ts : List (List ℕ)). ArePageScripts kind ts scripts) framed.only read)
-  where
-    by : (ss : List tree.Stmts) → ArePageScripts kind (framed.inner ∷ []) ss → (script : tree.Stmts) × (ss ≡ script ∷ []) × IsPageScript kind framed.inner script
-    by [] h = absurd h
-    by (script ∷ []) h = (script, refl, h.0)
-    by (script ∷ more ∷ others) h = absurd h.1

@@ -3,8 +3,8 @@ use Rattle.std.proofs.Common.{◌≡◌, ℕ, Bool, true, false, Option, Some, N
 use Rattle.js_core.specs.Tree as tree
 use Rattle.js_core.specs.declared.token.Token.{Token}
 use Rattle.js_lexer.specs.Tokens.{Tokens}
-use Rattle.scope_analysis.specs.EarlyRules.{early_rule}
-use Rattle.scope_analysis.specs.declared.early_rule.EarlyRule.{EarlyRule}
+use Rattle.early_rules.specs.EarlyRules.{early_rule}
+use Rattle.early_rules.specs.declared.early_rule.EarlyRule.{EarlyRule}
 use Rattle.page_check.specs.Accept.{is_too_deep, keeps_form, IsRead, IsStrictScript, IsOrderly, IsLow, IsPageScript, IsScriptRefusal}
 use Rattle.page_check.specs.declared.page.Kind.{Kind}
 use Rattle.page_check.specs.declared.page.Kind.TheVariants.{Plain, Form}

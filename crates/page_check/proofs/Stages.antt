@@ -6,7 +6,7 @@ use Rattle.js_core.specs.declared.token.Token.{Token}
 use Rattle.js_grammar.specs.Scripts.{Derives, ScriptOf, height_limit}
 use Rattle.js_lexer.specs.Directives.{IsStrict}
 use Rattle.js_lexer.specs.Tokens.{Tokens}
-use Rattle.scope_analysis.specs.EarlyRules.{early_rule}
+use Rattle.early_rules.specs.EarlyRules.{early_rule}
 use Rattle.page_check.specs.Accept.{is_too_deep, keeps_form, IsRead, IsStrictScript, IsOrderly, IsLow, IsPageScript, IsScriptRefusal}
 use Rattle.page_check.specs.declared.page.Kind.{Kind}
 use Rattle.page_check.specs.declared.page.Refusal.{Refusal}

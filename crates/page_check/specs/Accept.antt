@@ -1,22 +1,33 @@
 -- Which bytes are accepted as a page, and why others are refused.
-use Rattle.std.specs.Prelude.{ℕ, ◌+◌, ◌≡◌, Bool, true, false, List, [], ◌∷◌, ◌++◌, length, Some, None}
+use Rattle.std.specs.Prelude.{ℕ, ◌+◌, ◌≡◌, true, false, if◌then◌else◌, List, [], ◌∷◌, ◌++◌, length, map, Some, None, nat_eq}
+use Rattle.std.specs.List.{starts_with}
 use Rattle.std.specs.Str.{IsUtf8}
-use Rattle.js_core.specs.Text.{utf16_of}
+use Rattle.dom_tree.specs.Node.{Nodes}
+use Rattle.js_core.specs.Text.{Text, utf16_of}
 use Rattle.js_core.specs.Tree as tree
 use Rattle.js_core.specs.declared.token.Token.{Token}
 use Rattle.js_grammar.specs.Scripts.{ScriptOf, height_limit}
 use Rattle.js_lexer.specs.Directives.{IsStrict}
 use Rattle.js_lexer.specs.Tokens.{Tokens}
-use Rattle.scope_analysis.specs.EarlyRules.{early_rule}
-use Rattle.page_check.specs.Frame.{IsFramePage, places_of, with_line_feeds}
+use Rattle.early_rules.specs.EarlyRules.{early_rule}
 pub use Rattle.page_check.specs.Rules.{Page, is_too_deep, keeps_form}
 use Rattle.js_core.specs.declared.memory.Failure.{Failure}
 use Rattle.js_core.specs.declared.memory.Failure.TheVariants.{Cause, OutOfMemory}
 use Rattle.page_check.specs.declared.page.Kind.{Kind}
 use Rattle.page_check.specs.declared.page.Kind.TheVariants.{Plain, Form}
-use Rattle.page_check.specs.declared.page.Place.{Place}
 use Rattle.page_check.specs.declared.page.Refusal.{Refusal}
 use Rattle.page_check.specs.declared.page.Refusal.TheVariants.{NotUtf8, NotPage, NotTokens, NotScript, NotStrict, Early, TooDeep, ReservedName, NotForm}
+use Rattle.page_reader.specs.declared.page.Place.{Place}
+use Rattle.page_reader.specs.declared.page.ScriptText.{ScriptText}
+use Rattle.page_reader.specs.Bytes.{IsPageOf}
+use Rattle.page_reader.specs.Replacing.{form_mark, places_of}
+use Rattle.page_reader.specs.Text.{mark_size}
+
+-- ---- scripts
+
+-- the texts of scripts
+abbrev pub texts_of : List ScriptText → List Text
+texts_of scripts = map (λ s. s.text) scripts
 
 -- the text has these tokens, and they this tree
 pub record IsRead (text : List ℕ) (tokens : List Token) (script : tree.Stmts) : Type 0 where
@@ -82,44 +93,43 @@ abbrev pub AreNotScripts : Kind → List (List ℕ) → Failure Refusal → Type
 AreNotScripts kind texts (Cause refusal) = IsRefusedFrom kind 1 texts refusal
 AreNotScripts kind texts OutOfMemory = Unit {0}
 
--- the text that UTF-8 bytes write, with its line ends made LF
-abbrev pub text_of : List ℕ → List ℕ
-text_of bytes = with_line_feeds (utf16_of bytes)
+-- ---- pages
 
--- the bytes are accepted as a page of this kind with these scripts
-pub record IsAcceptedAs (bytes : List ℕ) (kind : Kind) (scripts : List tree.Stmts) : Type 0 where
-  pub utf8 : IsUtf8 bytes
-  pub texts : List (List ℕ)
-  pub framed : IsFramePage (text_of bytes) kind texts
-  pub read : ArePageScripts kind texts scripts
+-- a page is a form page where its first bytes are the mark of form pages
+abbrev pub kind_of : List ℕ → Kind
+kind_of bytes = if starts_with nat_eq bytes form_mark then Form else Plain
 
-abbrev pub IsAccepted : List ℕ → Page → Type 0
-IsAccepted bytes page = IsAcceptedAs bytes page.kind page.scripts
+-- the bytes are accepted as this page: they are a page with these nodes, of this kind, and the texts of its scripts are those of
+-- scripts of such a page, with these trees
+pub record IsAccepted (bytes : List ℕ) (page : Page) : Type 0 where
+  pub texts : List ScriptText
+  pub is_page : IsPageOf bytes page.nodes texts
+  pub of_kind : page.kind ≡ kind_of bytes
+  pub read : ArePageScripts page.kind (texts_of texts) page.scripts
 
--- a page, whether an empty body stands before its scripts, and where their texts stand
+-- a page, how many bytes a byte order mark has before it, and where the texts of its scripts stand
 pub record AcceptedPage : Type 0 where
   pub page : Page
-  pub with_body : Bool
+  pub start : ℕ
   pub places : List Place
 
--- the bytes are accepted as this page, with this body and at these places
+-- the bytes are accepted as this page, whose parts stand so
 pub record IsAcceptedAt (bytes : List ℕ) (found : AcceptedPage) : Type 0 where
   pub accepted : IsAccepted bytes found.page
-  pub body : accepted.framed.with_body ≡ found.with_body
-  pub placed : found.places ≡ places_of accepted.framed
+  pub start : found.start ≡ mark_size (utf16_of bytes)
+  pub placed : found.places ≡ places_of accepted.texts
 
 -- the bytes are a page but for one of its scripts
 pub record IsRefusedScript (bytes : List ℕ) (refusal : Refusal) : Type 0 where
-  pub utf8 : IsUtf8 bytes
-  pub kind : Kind
-  pub texts : List (List ℕ)
-  pub framed : IsFramePage (text_of bytes) kind texts
-  pub off : IsRefusedFrom kind 1 texts refusal
+  pub nodes : Nodes
+  pub texts : List ScriptText
+  pub is_page : IsPageOf bytes nodes texts
+  pub off : IsRefusedFrom (kind_of bytes) 1 (texts_of texts) refusal
 
 -- the bytes are refused for this cause, and for none before it
 abbrev pub IsRefused : List ℕ → Refusal → Type 0
 IsRefused bytes NotUtf8 = ¬ IsUtf8 bytes
-IsRefused bytes NotPage = IsUtf8 bytes × ((kind : Kind) (texts : List (List ℕ)) → ¬ IsFramePage (text_of bytes) kind texts)
+IsRefused bytes NotPage = IsUtf8 bytes × ((nodes : Nodes) (texts : List ScriptText) → IsPageOf bytes nodes texts → ⊥)
 IsRefused bytes refusal = IsRefusedScript bytes refusal
 
 -- want of memory is free

@@ -1,5 +1,2 @@
 pub mod Accept
-pub mod CodedAccepted
-pub mod CodedPage
-pub mod Frame
 pub mod Rules

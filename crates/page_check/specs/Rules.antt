@@ -1,18 +1,20 @@
 -- The rules that the scripts of a page keep.
 use Rattle.std.specs.Prelude.{◌≡◌, Bool, true, false, not, ◌||◌, List, None, nat_lt}
 use Rattle.std.specs.List.{All}
+use Rattle.dom_tree.specs.Node.{Nodes}
 use Rattle.js_core.specs.Height.{stmts_height}
 use Rattle.js_core.specs.Tree as tree
 use Rattle.js_grammar.specs.Syntax.{IsSyntax}
 use Rattle.page_check.specs.declared.page.Kind.{Kind}
 use Rattle.page_check.specs.declared.page.Kind.TheVariants.{Plain, Form}
-use Rattle.scope_analysis.specs.EarlyRules.{early_rule}
-use Rattle.scope_analysis.specs.Form.{in_form, has_reserved_name, has_high_function}
-use Rattle.scope_analysis.specs.Limits.{form_height_limit, plain_height_limit}
+use Rattle.early_rules.specs.EarlyRules.{early_rule}
+use Rattle.script_rules.specs.Form.{in_form, has_reserved_name, has_high_function}
+use Rattle.early_rules.specs.Limits.{form_height_limit, plain_height_limit}
 
--- what a page is, and the trees of its scripts in document order
+-- what a page is, its nodes, and the trees of its scripts in document order
 pub record Page : Type 0 where
   pub kind : Kind
+  pub nodes : Nodes
   pub scripts : List tree.Stmts
 
 -- the script is higher than one of such a page; in a form page, or a function of it that is no factory is higher than may be

@@ -3,8 +3,9 @@
 ghost use Rattle.std.specs.Prelude.{◌≡◌};
 ghost use Rattle.page_check.specs.Rules.{AllKeepRules};
 
+use dom_tree::Dom;
+use early_rules::EarlyRule;
 use js_core::{Failure, Script};
-use scope_analysis::EarlyRule;
 use std::marker::Model;
 
 /// What a page is.
@@ -12,48 +13,50 @@ use std::marker::Model;
 pub enum Kind {
     /// A page as an author writes it.
     Plain,
-    /// A page that begins with the mark `<!--imagen 1-->`: each of its captured variables is a `$$` name that is set
+    /// A page that begins with the mark of form pages: each of its captured variables is a `$$` name that is set
     /// once.
     Form,
 }
 
-/// Where a part of a text stands: from this unit to the one behind its last.
-#[derive(Clone, Copy, PartialEq, Eq)]
-pub struct Place {
-    /// The number of units before it.
-    pub start: usize,
-    /// The number of units before what stands behind it.
-    pub end: usize,
-}
-
 /// A page whose scripts keep the rules of its kind: each is a tree that some tokens have, breaks no early rule, is no higher
-/// than may be, and keeps the form of the page. Contracts see its kind and the trees of its scripts, in document order.
+/// than may be, and keeps the form of the page. Contracts see its kind, its nodes, and the trees of its scripts, in document
+/// order.
 #[derive(Drop)]
 pub struct CheckedPage {
     kind: Kind,
+    dom: Dom,
     scripts: Vec<Script>,
 }
 
 impl Model for CheckedPage {
     ghost use Rattle.page_check.specs.Rules.{AllKeepRules, Page};
-    ghost use Rattle.page_check.specs.CodedPage.{coded_page};
 
     ghost Value = { Page };
 
-    ghost coded = { coded_page };
-
-    ghost view = { λ a. record { kind = a.kind; scripts = a.scripts.items } };
+    ghost view = { λ a. record { kind = a.kind; nodes = a.dom; scripts = a.scripts.items } };
 
     ghost invariant = { λ a. AllKeepRules a.kind a.scripts.items };
 }
 
 impl CheckedPage {
-    /// The page of this kind with these scripts.
-    pub fn new(kind: Kind, scripts: Vec<Script>) -> CheckedPage
+    /// The page of this kind with these nodes and scripts.
+    pub fn new(kind: Kind, dom: Dom, scripts: Vec<Script>) -> CheckedPage
         requires { AllKeepRules kind scripts.items }
-        ensures { result ≡ record { kind = kind; scripts = scripts.items } }
+        ensures { result ≡ record { kind = kind; nodes = dom; scripts = scripts.items } }
     {
-        CheckedPage { kind, scripts }
+        CheckedPage { kind, dom, scripts }
+    }
+
+    /// The page of this kind with the same nodes and other scripts.
+    pub fn with_scripts(self, kind: Kind, scripts: Vec<Script>) -> CheckedPage
+        requires { AllKeepRules kind scripts.items }
+        ensures { result ≡ record { kind = kind; nodes = self.nodes; scripts = scripts.items } }
+    {
+        CheckedPage {
+            kind,
+            dom: self.dom,
+            scripts,
+        }
     }
 
     /// What the page is. Its scripts keep the rules of that kind.
@@ -62,6 +65,13 @@ impl CheckedPage {
         ensures rules { AllKeepRules self.now.kind self.now.scripts }
     {
         self.kind
+    }
+
+    /// Its nodes.
+    pub fn dom(&self) -> &Dom
+        ensures { result.now ≡ self.now.nodes }
+    {
+        &self.dom
     }
 
     /// Its scripts, in document order.
@@ -84,7 +94,7 @@ impl CheckedPage {
 pub enum Refusal {
     /// The bytes are no UTF-8.
     NotUtf8,
-    /// The text is no page.
+    /// They are UTF-8 that is no page.
     NotPage,
     /// The script's text has no tokens.
     NotTokens(u64),

@@ -13,8 +13,8 @@ use js_core::{FORM_HEIGHT_LIMIT, OutOfMemory, PLAIN_HEIGHT_LIMIT, Script, Units}
 use js_grammar::law_derived_trees_are_syntax;
 use js_lexer::{LexFault, NotTokens, strict, tokens};
 use js_print::law_tokens_can_be_written;
-use scope_analysis::{early, has_high_function, has_reserved_name, in_form};
 use script_parser::script;
+use script_rules::{early, has_high_function, has_reserved_name, in_form};
 use std::alloc::Global;
 
 /// The script with this text, which is that of this number in a page of this kind. The first cause that there is against

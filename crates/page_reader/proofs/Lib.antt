@@ -9,6 +9,7 @@ pub mod OneReading
 pub mod Passing
 pub mod Renewing
 pub mod ScriptPages
+pub mod ScriptUnits
 pub mod Swapped
 pub mod Sizes
 pub mod Steps

@@ -19,10 +19,10 @@ use Rattle.page_tokens.specs.Tokens.{TokenAt, TokensOf}
 use Rattle.page_tokens.specs.Tokens.TokenAt.{comment}
 use Rattle.page_tokens.specs.Tokens.TokensOf.{more}
 use Rattle.page_reader.specs.declared.page.ScriptText.{ScriptText}
-use Rattle.page_reader.specs.Bytes.{IsPageOf, IsTextPage, script_of, scripts_of}
+use Rattle.page_reader.specs.Bytes.{IsPageOf, IsTextPage, place_of, script_of, scripts_of}
 use Rattle.page_reader.specs.Pages.{IsPage, PageOf}
 use Rattle.page_reader.specs.Pages.PageOf.{page}
-use Rattle.page_reader.specs.Replacing.{AreScriptBytes, IsReadAs, IsScriptBytes, form_mark, part, replaced, replaced_from}
+use Rattle.page_reader.specs.Replacing.{AreScriptBytes, IsReadAs, IsScriptBytes, as_form_page, form_mark, part, places_of, replaced, replaced_from}
 use Rattle.page_reader.specs.Text.{begins_with_line_feed, bytes_before, has_mark, has_zero, is_half, line_feed, mark_size, page_text, unit_size, units_behind, with_line_feeds, without_mark}
 use Rattle.page_reader.proofs.Cutting.{IsPlain, cut_bytes, cut_units, feeds_half, feeds_whole, first_bytes, first_unit, same_unit, step_whole, units_append, units_of}
 use Rattle.page_reader.proofs.Passing.{behind_more, behind_none, bytes_more, bytes_none}
@@ -190,7 +190,7 @@ joined front y new front_units g x v old after utf8 is text zero calm x_is n who
       marked = ap has_mark units ∙ marked_same front_units (x ++ utf16_of new) after ∙ sym (ap has_mark w);
     }
 
-pub swap_bytes : (off : ℕ) (us us' : Text) (raws : List RawText) (xs : List Text) → Swaps off us raws xs us' → (bytes pre b : List ℕ) (skipped : ℕ) (inner : Text) (at : ℕ) (texts : List (List ℕ)) → bytes ≡ pre ++ b → length pre ≡ at → IsUtf8 b → utf16_of b ≡ units_behind inner off → at ≡ skipped + bytes_before inner off → with_line_feeds (utf16_of b) ≡ us → has_zero (utf16_of b) ≡ false → AreScriptBytes (map (script_of skipped inner) raws) texts → map utf16_of texts ≡ xs → NewBytes (replaced_from at bytes (map (script_of skipped inner) raws) texts) us' (utf16_of b)
+pub swap_bytes : (off : ℕ) (us us' : Text) (raws : List RawText) (xs : List Text) → Swaps off us raws xs us' → (bytes pre b : List ℕ) (skipped : ℕ) (inner : Text) (at : ℕ) (texts : List (List ℕ)) → bytes ≡ pre ++ b → length pre ≡ at → IsUtf8 b → utf16_of b ≡ units_behind inner off → at ≡ skipped + bytes_before inner off → with_line_feeds (utf16_of b) ≡ us → has_zero (utf16_of b) ≡ false → AreScriptBytes (map (script_of skipped inner) raws) texts → map utf16_of texts ≡ xs → NewBytes (replaced_from at bytes (map (place_of skipped inner) raws) texts) us' (utf16_of b)
 swap_bytes off us us' raws xs (last o vs) bytes pre b skipped inner at texts e l utf8 behind place text zero are m =
     rw (drop_front bytes pre b at e l) (record { utf8 = utf8; is_text = text; no_zero = zero; marked = refl })
 swap_bytes off us us' raws xs (cut o vs vs' g v v' x raw rs ys f f' s t h) bytes pre b skipped inner at [] e l utf8 behind place text zero are m = absurd are
@@ -209,8 +209,8 @@ swap_bytes off us us' raws xs (cut o vs vs' g v v' x raw rs ys f f' s t h) bytes
     let first : utf16_of y ≡ x = cc in
     let others : map utf16_of texts ≡ ys = cc in
     let next = swap_bytes raw.end (60 ∷ v) (60 ∷ v') rs ys h bytes before c.rest skipped inner end texts bytes_behind (omega (arith, c.start, c.end, open_len, both_len, before_len, l)) c.rest_utf8 c.rest_behind refl c.rest_text (c.rest_zero zero) are.1 others in
-    let new = joined c.front y (replaced_from end bytes (map (script_of skipped inner) rs) texts) c.front_units g x (60 ∷ v') (utf16_of c.rest) c.more c.front_utf8 c.front_is c.front_text (c.front_zero zero) are.0 first next (utf16_of b) c.units in
-    subst (λ z. NewBytes z vs' (utf16_of b)) (ap (λ z. z ++ (y ++ replaced_from end bytes (map (script_of skipped inner) rs) texts)) (sym front_is)) (subst (λ z. NewBytes (open_ ++ (y ++ replaced_from end bytes (map (script_of skipped inner) rs) texts)) z (utf16_of b)) (sym f') new)
+    let new = joined c.front y (replaced_from end bytes (map (place_of skipped inner) rs) texts) c.front_units g x (60 ∷ v') (utf16_of c.rest) c.more c.front_utf8 c.front_is c.front_text (c.front_zero zero) are.0 first next (utf16_of b) c.units in
+    subst (λ z. NewBytes z vs' (utf16_of b)) (ap (λ z. z ++ (y ++ replaced_from end bytes (map (place_of skipped inner) rs) texts)) (sym front_is)) (subst (λ z. NewBytes (open_ ++ (y ++ replaced_from end bytes (map (place_of skipped inner) rs) texts)) z (utf16_of b)) (sym f') new)
 
 -- Whole pages
 
@@ -293,18 +293,22 @@ renewal_texts ts ts' xs rs (same t us us' ys qs r h) = renewal_texts us us' ys q
 renewal_texts ts ts' xs rs (style tag raw raw' us us' ys qs s f h) = renewal_texts us us' ys qs h
 renewal_texts ts ts' xs rs (script tag raw raw' us us' y ys qs s f h) = ap (λ z. z ∷ map (λ r. r.text) qs) f ∙ ap (λ z. y ∷ z) (renewal_texts us us' ys qs h)
 
-script_texts : (skipped : ℕ) (inner : Text) (rs : List RawText) → map (λ s. s.text) (map (script_of skipped inner) rs) ≡ map (λ r. r.text) rs
+pub script_texts : (skipped : ℕ) (inner : Text) (rs : List RawText) → map (λ s. s.text) (map (script_of skipped inner) rs) ≡ map (λ r. r.text) rs
 script_texts skipped inner [] = refl
 script_texts skipped inner (r ∷ rs) = ap (λ z. r.text ∷ z) (script_texts skipped inner rs)
 
+raw_places : (skipped : ℕ) (inner : Text) (rs : List RawText) → places_of (map (script_of skipped inner) rs) ≡ map (place_of skipped inner) rs
+raw_places skipped inner [] = refl
+raw_places skipped inner (r ∷ rs) = ap (λ z. place_of skipped inner r ∷ z) (raw_places skipped inner rs)
+
 -- going on from behind the mark
-from_mark : (bytes mark b : List ℕ) (skipped : ℕ) (inner : Text) (raws : List RawText) (texts : List (List ℕ)) → bytes ≡ mark ++ b → length mark ≡ skipped → AreScriptBytes (map (script_of skipped inner) raws) texts → replaced_from 0 bytes (map (script_of skipped inner) raws) texts ≡ mark ++ replaced_from skipped bytes (map (script_of skipped inner) raws) texts
+from_mark : (bytes mark b : List ℕ) (skipped : ℕ) (inner : Text) (raws : List RawText) (texts : List (List ℕ)) → bytes ≡ mark ++ b → length mark ≡ skipped → AreScriptBytes (map (script_of skipped inner) raws) texts → replaced_from 0 bytes (map (place_of skipped inner) raws) texts ≡ mark ++ replaced_from skipped bytes (map (place_of skipped inner) raws) texts
 from_mark bytes mark b skipped inner [] [] e l h = e ∙ ap (λ z. mark ++ z) (sym (drop_front bytes mark b skipped e l))
 from_mark bytes mark b skipped inner [] (t ∷ ts) e l h = absurd h
 from_mark bytes mark b skipped inner (r ∷ rs) [] e l h = absurd h
 from_mark bytes mark b skipped inner (r ∷ rs) (t ∷ ts) e l h =
     let k : ℕ = bytes_before inner r.start in
-    let rest : List ℕ = t ++ replaced_from (skipped + bytes_before inner r.end) bytes (map (script_of skipped inner) rs) ts in
+    let rest : List ℕ = t ++ replaced_from (skipped + bytes_before inner r.end) bytes (map (place_of skipped inner) rs) ts in
     let all : (skipped + k) - 0 ≡ length mark + k = omega (arith, l) in
     let left : (skipped + k) - skipped ≡ k = omega arith in
     let first : part bytes 0 (skipped + k) ≡ mark ++ take k b = ap (take ((skipped + k) - 0)) e ∙ ap (λ n. take n (mark ++ b)) all ∙ take-append-add mark b k in
@@ -325,7 +329,8 @@ record NewPage (bytes : List ℕ) (nodes : Nodes) (scripts : List ScriptText) (t
   is_new : (size : ℕ) → IsNewText nodes (map utf16_of texts) text size
   marked : Marked bytes (without_mark (utf16_of bytes)) (mark_size (utf16_of bytes))
   tail : List ℕ
-  whole : replaced bytes scripts texts ≡ marked.mark ++ tail
+  whole : replaced bytes (places_of scripts) texts ≡ marked.mark ++ tail
+  behind_mark : replaced_from (mark_size (utf16_of bytes)) bytes (places_of scripts) texts ≡ tail
   new : NewBytes tail text (without_mark (utf16_of bytes))
 
 new_page : (bytes : List ℕ) (nodes : Nodes) (scripts : List ScriptText) (texts : List (List ℕ)) → IsPageOf bytes nodes scripts → AreScriptBytes scripts texts → NewPage bytes nodes scripts texts
@@ -338,6 +343,7 @@ new_page bytes nodes scripts texts p are =
     let t = page_text units in
     let xs = map utf16_of texts in
     let placed = subst (λ z. AreScriptBytes z texts) p.units.placed are in
+    let where_ : places_of scripts ≡ map (place_of skipped inner) raws = ap places_of p.units.placed ∙ raw_places skipped inner raws in
     let among = page_scripts all.tokens nodes raws all.is_page in
     let calm = are_texts skipped inner raws texts placed in
     let sw = swapped (length t) t all.tokens all.reads xs (omega arith) (subst (λ z. AreTexts z xs) (sym among) calm) in
@@ -351,12 +357,13 @@ new_page bytes nodes scripts texts p are =
       text = sw.text;
       is_new = λ size. let k = sw.tokened size in record { tokens = k.tokens; raws = k.scripts; reads = k.reads; is_page = renewed_page all.tokens nodes raws xs k.tokens k.scripts all.is_page k.renewal; texts_are = renewal_texts all.tokens k.tokens xs k.scripts k.renewal };
       marked = m;
-      tail = replaced_from skipped bytes (map (script_of skipped inner) raws) texts;
-      whole = ap (λ z. replaced_from 0 bytes z texts) p.units.placed ∙ from_mark bytes m.mark m.b skipped inner raws texts m.whole m.size placed;
-      new = subst (NewBytes (replaced_from skipped bytes (map (script_of skipped inner) raws) texts) sw.text) m.units n;
+      tail = replaced_from skipped bytes (map (place_of skipped inner) raws) texts;
+      whole = ap (λ z. replaced_from 0 bytes z texts) where_ ∙ from_mark bytes m.mark m.b skipped inner raws texts m.whole m.size placed;
+      behind_mark = ap (λ z. replaced_from skipped bytes z texts) where_;
+      new = subst (NewBytes (replaced_from skipped bytes (map (place_of skipped inner) raws) texts) sw.text) m.units n;
     }
 
-pub replaced_read : (bytes : List ℕ) (nodes : Nodes) (scripts : List ScriptText) (texts : List (List ℕ)) → IsPageOf bytes nodes scripts → AreScriptBytes scripts texts → IsReadAs (replaced bytes scripts texts) nodes (map utf16_of texts)
+pub replaced_read : (bytes : List ℕ) (nodes : Nodes) (scripts : List ScriptText) (texts : List (List ℕ)) → IsPageOf bytes nodes scripts → AreScriptBytes scripts texts → IsReadAs (replaced bytes (places_of scripts) texts) nodes (map utf16_of texts)
 replaced_read bytes nodes scripts texts p are =
     let n = new_page bytes nodes scripts texts p are in
     let m = n.marked in
@@ -412,12 +419,11 @@ commented v ts nodes raws (page us tag f s read) =
     } in
     page (Comment v ∷ us) tag f s read'
 
-pub form_read : (bytes : List ℕ) (nodes : Nodes) (scripts : List ScriptText) (texts : List (List ℕ)) → IsPageOf bytes nodes scripts → AreScriptBytes scripts texts → IsReadAs (form_mark ++ drop (mark_size (utf16_of bytes)) (replaced bytes scripts texts)) nodes (map utf16_of texts)
+pub form_read : (bytes : List ℕ) (nodes : Nodes) (scripts : List ScriptText) (texts : List (List ℕ)) → IsPageOf bytes nodes scripts → AreScriptBytes scripts texts → IsReadAs (as_form_page bytes (places_of scripts) texts) nodes (map utf16_of texts)
 form_read bytes nodes scripts texts p are =
     let n = new_page bytes nodes scripts texts p are in
-    let m = n.marked in
     let w = n.new in
-    let tail : drop (mark_size (utf16_of bytes)) (replaced bytes scripts texts) ≡ n.tail = drop_front (replaced bytes scripts texts) m.mark n.tail (mark_size (utf16_of bytes)) n.whole m.size in
+    let tail = n.behind_mark in
     let new : List ℕ = form_mark ++ n.tail in
     let units : utf16_of new ≡ form_mark ++ utf16_of n.tail = units_append form_mark n.tail form_utf8 ∙ ap (λ z. z ++ utf16_of n.tail) form_units in
     let text : page_text (utf16_of new) ≡ form_mark ++ n.text = ap page_text units ∙ form_text (utf16_of n.tail) ∙ ap (λ z. form_mark ++ z) w.is_text in

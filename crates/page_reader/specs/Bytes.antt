@@ -8,6 +8,7 @@ use Rattle.page_tokens.specs.declared.token.RawText.{RawText}
 use Rattle.page_tokens.specs.Tokens.{Tokens}
 use Rattle.page_reader.specs.declared.fault.PageError.{PageError}
 use Rattle.page_reader.specs.declared.fault.PageError.TheVariants.{NotUtf8, NotPage}
+use Rattle.page_reader.specs.declared.page.Place.{Place}
 use Rattle.page_reader.specs.declared.page.ScriptText.{ScriptText}
 use Rattle.page_reader.specs.Pages.{PageOf}
 use Rattle.page_reader.specs.Text.{byte_place, has_zero, mark_size, page_text, without_mark}
@@ -18,10 +19,13 @@ pub record IsTextPage (text : Text) (nodes : Nodes) (raws : List RawText) : Type
   pub reads : Tokens text tokens
   pub is_page : PageOf tokens nodes raws
 
--- a script with its place in a file's bytes, from its place in the page's text, before whose units so many bytes stand
+-- a script's place in a file's bytes, from its place in the page's text, before whose units so many bytes stand
+abbrev pub place_of : ℕ → Text → RawText → Place
+place_of skipped units raw = record { start = byte_place skipped units raw.start; end = byte_place skipped units raw.end }
+
+-- a script with its place
 abbrev pub script_of : ℕ → Text → RawText → ScriptText
-script_of skipped units raw =
-    record { text = raw.text; start = byte_place skipped units raw.start; end = byte_place skipped units raw.end }
+script_of skipped units raw = record { text = raw.text; place = place_of skipped units raw }
 
 -- the scripts with their places in the bytes of a file with these units
 abbrev pub scripts_of : Text → List RawText → List ScriptText

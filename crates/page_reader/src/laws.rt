@@ -1,6 +1,7 @@
 //! What holds of all tokens and their pages.
 
-ghost use Rattle.std.specs.Prelude.{◌≡◌, ◌∷◌, ◌++◌, [], ℕ, Bool, List, drop, map};
+ghost use Rattle.std.specs.Prelude.{◌≡◌, ◌∷◌, ◌++◌, [], ℕ, Bool, List, map};
+ghost use Rattle.std.specs.List.{All};
 ghost use Rattle.std.specs.Str.{IsUtf8};
 ghost use Rattle.dom_tree.specs.Node.{Nodes};
 ghost use Rattle.page_tokens.specs.declared.token.PageToken.{PageToken as PureToken};
@@ -9,10 +10,10 @@ ghost use Rattle.page_reader.specs.declared.page.ScriptText.{ScriptText as PureS
 ghost use Rattle.page_reader.specs.Bytes.{IsPageOf, IsTextPage};
 ghost use Rattle.page_reader.specs.Laws.{GoesOn, HasOneScript, IsScriptPage, script_page};
 ghost use Rattle.page_reader.specs.Pages.{PageOf};
-ghost use Rattle.page_reader.specs.Replacing.{AreScriptBytes, IsReadAs, form_mark, replaced};
+ghost use Rattle.page_reader.specs.Replacing.{AreScriptBytes, IsReadAs, as_form_page, places_of, replaced};
 ghost use Rattle.page_reader.specs.Worked as worked;
-ghost use Rattle.page_reader.specs.Text.{mark_size, with_line_feeds};
-ghost use Rattle.js_core.specs.Text.{utf16_of};
+ghost use Rattle.page_reader.specs.Text.{with_line_feeds};
+ghost use Rattle.js_core.specs.Text.{AllUnits, utf16_of};
 
 /// No tokens are two pages.
 pub fn law_one_page()
@@ -44,7 +45,7 @@ pub fn law_fronts()
 /// The worked page has the texts of its scripts replaced as it says; so has the page without scripts, which stays.
 #[tactic(auto, using(crate::proofs::Worked::page_is_replaced))]
 pub fn law_worked_replacing()
-    ensures { (replaced worked.page worked.scripts worked.texts ≡ worked.replaced_page)
+    ensures { (replaced worked.page worked.places worked.texts ≡ worked.replaced_page)
         × (replaced worked.page [] [] ≡ worked.page) }
 {}
 
@@ -53,11 +54,16 @@ pub fn law_worked_replacing()
 pub fn law_replaced_scripts()
     ensures read { (bytes : List ℕ) (nodes : Nodes) (scripts : List PureScript)
         (texts : List (List ℕ)) → IsPageOf bytes nodes scripts → AreScriptBytes scripts texts
-        → IsReadAs (replaced bytes scripts texts) nodes (map utf16_of texts) }
+        → IsReadAs (replaced bytes (places_of scripts) texts) nodes (map utf16_of texts) }
     ensures marked { (bytes : List ℕ) (nodes : Nodes) (scripts : List PureScript)
         (texts : List (List ℕ)) → IsPageOf bytes nodes scripts → AreScriptBytes scripts texts
-        → IsReadAs (form_mark ++ drop (mark_size (utf16_of bytes)) (replaced bytes scripts texts))
-        nodes (map utf16_of texts) }
+        → IsReadAs (as_form_page bytes (places_of scripts) texts) nodes (map utf16_of texts) }
+{}
+
+/// The texts of scripts have 16-bit units, so their tokens can be written.
+pub fn law_script_units()
+    ensures { (bytes : List ℕ) (nodes : Nodes) (scripts : List PureScript)
+        → IsPageOf bytes nodes scripts → All AllUnits (map (λ s. s.text) scripts) }
 {}
 
 /// A page round one script, behind a byte order mark, the mark of a form page, or neither, is read as `html` with an empty `body` or

@@ -10,6 +10,8 @@ pub struct Page {
     pub dom: Dom,
     /// The scripts.
     pub scripts: Vec<ScriptText>,
+    /// The bytes of a byte order mark, which stands before its text.
+    pub start: u64,
 }
 
 /// The text of a script and its place in the bytes of the page.
@@ -17,8 +19,15 @@ pub struct Page {
 pub struct ScriptText {
     /// The text, with its line ends made LF.
     pub text: Units,
-    /// The place of its first byte.
+    /// Where it stands.
+    pub place: Place,
+}
+
+/// A place in the bytes of a page.
+#[derive(Clone, Copy)]
+pub struct Place {
+    /// The bytes before its first byte.
     pub start: u64,
-    /// The place after its last byte.
+    /// The bytes before what follows it.
     pub end: u64,
 }

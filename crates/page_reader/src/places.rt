@@ -4,7 +4,7 @@ ghost use Rattle.std.specs.Prelude.{◌≡◌, ◌<◌, ◌+◌, ◌^◌, IfOk, 
 ghost use Rattle.page_reader.specs.Bytes.{script_of};
 ghost use Rattle.page_reader.specs.Text as spec;
 
-use crate::page::ScriptText;
+use crate::page::{Place, ScriptText};
 use crate::text::advanced;
 use js_core::OutOfMemory;
 use page_tokens::RawText;
@@ -28,7 +28,11 @@ pub fn placed(
     for raw in raws {
         let (inner, start) = at_place(units, rest, passed, bytes, raw.start);
         let (behind, end) = at_place(units, inner, raw.start, start, raw.end);
-        scripts.push(script_text(raw, skipped + start, skipped + end)?)?;
+        let place = Place {
+            start: skipped + start,
+            end: skipped + end,
+        };
+        scripts.push(script_text(raw, place)?)?;
         rest = behind;
         passed = raw.end;
         bytes = end;
@@ -58,13 +62,11 @@ fn at_place<'a>(
 }
 
 /// The script at this place, which shares the units.
-fn script_text(raw: &RawText, start: u64, end: u64) -> Result<ScriptText, OutOfMemory>
-    ensures { IfOk result (λ script. (script.text ≡ raw.now.text) × (script.start ≡ start)
-        × (script.end ≡ end)) }
+fn script_text(raw: &RawText, place: Place) -> Result<ScriptText, OutOfMemory>
+    ensures { IfOk result (λ script. (script.text ≡ raw.now.text) × (script.place ≡ place)) }
 {
     Ok(ScriptText {
         text: raw.text.clone()?,
-        start,
-        end,
+        place,
     })
 }

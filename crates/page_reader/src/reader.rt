@@ -2,6 +2,7 @@
 
 ghost use Rattle.std.specs.Prelude.{◌≡◌, ◌<◌, ◌^◌, List, IfOk};
 ghost use Rattle.js_core.specs.Memory.{IfCause};
+ghost use Rattle.js_core.specs.Text.{utf16_of};
 ghost use Rattle.dom_tree.specs.Node.{Nodes};
 ghost use Rattle.page_tokens.specs.declared.token.RawText.{RawText as PureRawText};
 ghost use Rattle.page_reader.specs.declared.page.ScriptText.{ScriptText as PureScript};
@@ -22,6 +23,7 @@ use std::alloc::Global;
 /// and `NotPage` where they are and have no reading. The time is linear in the bytes.
 pub fn read_page(alloc: Global, bytes: &[u8]) -> Result<Page, PageFault>
     ensures read { IfOk result (λ page. IsPageOf bytes.now page.dom page.scripts.items) }
+    ensures start { IfOk result (λ page. page.start ≡ spec.mark_size (utf16_of bytes.now)) }
     ensures refused { IfCause result (IsNoPage bytes.now) }
 {
     let Ok(text) = str::from_utf8(bytes) else {
@@ -40,17 +42,22 @@ pub fn read_page(alloc: Global, bytes: &[u8]) -> Result<Page, PageFault>
 fn page_of_units(alloc: Global, units: &[u16]) -> Result<Page, TreeFault>
     requires short { spec.size_of units.now < 2 ^ 64 }
     ensures read { IfOk result (λ page. IsUnitsPage units.now page.dom page.scripts.items) }
+    ensures start { IfOk result (λ page. page.start ≡ spec.mark_size units.now) }
     ensures refused { IfCause result (λ _. (nodes : Nodes) (scripts : List PureScript)
         → IsUnitsPage units.now nodes scripts → ⊥) }
 {
     if has_zero(units) {
         return Err(TreeFault::Cause(NotPage));
     }
-    let (skipped, inner) = behind_mark(units);
+    let (start, inner) = behind_mark(units);
     let text = with_line_feeds(alloc, inner)?;
     let (dom, raws) = page_of_text(alloc, text.as_slice())?;
-    let scripts = placed(alloc, inner, skipped, raws.as_slice())?;
-    Ok(Page { dom, scripts })
+    let scripts = placed(alloc, inner, start, raws.as_slice())?;
+    Ok(Page {
+        dom,
+        scripts,
+        start,
+    })
 }
 
 /// The bytes of a byte order mark, where there is one, and what stands behind it.

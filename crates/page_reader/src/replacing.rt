@@ -3,32 +3,36 @@
 ghost use Rattle.std.specs.Prelude.{◌≡◌, ◌++◌, OnOk, drop, map};
 ghost use Rattle.page_reader.specs.Replacing as spec;
 
-use crate::page::Page;
+use crate::page::Place;
 use js_core::OutOfMemory;
 
-/// Appends the bytes of the page with these texts in the place of its scripts' texts, one for each script. After an error `out`
-/// may end with a part of them.
+/// The mark with which a form page begins.
+pub const FORM_MARK: &[u8] = b"<!--imagen 1-->";
+
+/// Appends the bytes of a page from a place on, with these texts in the places of its scripts' texts, one for each script. After
+/// an error `out` may end with a part of them.
 pub fn replace_scripts(
     bytes: &[u8],
-    page: &Page,
+    from: u64,
+    places: &[Place],
     texts: &[Vec<u8>],
     out: &mut Vec<u8>,
 ) -> Result<(), OutOfMemory>
     ensures { OnOk result (out.new.items ≡ out.old.items
-        ++ spec.replaced bytes.now page.now.scripts.items (map (λ t. t.items) texts.now)) }
+        ++ spec.replaced_from from bytes.now places.now (map (λ t. t.items) texts.now)) }
 {
-    let mut from = 0;
-    let mut scripts = page.scripts.as_slice();
+    let mut from = from;
+    let mut places = places;
     let mut rest = texts;
-    while let Some((script, more)) = scripts.split_first() {
+    while let Some((place, more)) = places.split_first() {
         let Some((text, others)) = rest.split_first() else {
             out.extend_from_slice(behind(bytes, from))?;
             return Ok(());
         };
-        out.extend_from_slice(part(bytes, from, script.start))?;
+        out.extend_from_slice(part(bytes, from, place.start))?;
         out.extend_from_slice(text.as_slice())?;
-        from = script.end;
-        scripts = more;
+        from = place.end;
+        places = more;
         rest = others;
     }
     out.extend_from_slice(behind(bytes, from))?;

@@ -7,10 +7,10 @@ use Rattle.std.proofs.lemmas.Slice.Eq.{bytes_eq-Decides}
 use Rattle.std.proofs.Math.Bool.{or-false}
 use Rattle.js_core.specs.Tree as tree
 use Rattle.js_core.specs.Tree.{assign, code, expr, func, name, no_declarators, no_expr, one_expr, then_declarator, then_stmt, var}
-use Rattle.scope_analysis.specs.Form.{any_use_is_reserved, are_variables_in_form, boxes, can_be_rebuilt, is_assigned_once, is_clause_out_of_form, is_constant, is_expression_out_of_form, is_not_captured, is_once, is_opened, is_parameter_in_form, may_be_captured, opens_with}
+use Rattle.script_rules.specs.Form.{any_use_is_reserved, are_variables_in_form, boxes, can_be_rebuilt, is_clause_out_of_form, is_constant, is_expression_out_of_form, is_not_captured, is_once, is_opened, is_parameter_in_form, may_be_captured, opens_with}
+use Rattle.scope_analysis.specs.Uses.{Use, assignment, crossing, declarator_uses, expr_uses, is_assigned, is_assigned_once, is_captured, leaving_clause, leaving_function, maybe_expr_uses, stmts_uses, target_uses}
 use Rattle.scope_analysis.specs.Identifiers.{is_reserved}
 use Rattle.scope_analysis.specs.Names.{code_body, declared_names, is_among, maybe_name, unless_among}
-use Rattle.scope_analysis.specs.Uses.{Use, assignment, crossing, declarator_uses, expr_uses, is_assigned, is_captured, leaving_clause, leaving_function, maybe_expr_uses, stmts_uses, target_uses}
 use Rattle.agreement.proofs.Callers.{all_names, or_else, same_name}
 
 -- a function inside assigns to a reserved name

@@ -2,7 +2,7 @@
 use Rattle.std.proofs.Common.{◌≡◌, true, false, not, ◌&&◌}
 use Rattle.std.proofs.lemmas.Bool.{and_from, and_parts, not-true, not_from_false}
 use Rattle.js_core.specs.Tree as tree
-use Rattle.scope_analysis.specs.Form.{has_inner_declaration, has_open_reserved, in_form, scope_out_of_form}
+use Rattle.script_rules.specs.Form.{has_inner_declaration, has_open_reserved, in_form, scope_out_of_form}
 use Rattle.scope_analysis.specs.Nodes.{stmts_any}
 
 pub record FormParts (script : tree.Stmts) : Type 0 where

@@ -3,15 +3,15 @@ use Rattle.std.proofs.Common.{◌≡◌, refl, false, None}
 use Rattle.std.proofs.lemmas.Bool.{or_from, or_parts}
 use Rattle.js_core.specs.Tree as tree
 use Rattle.js_core.specs.Tree.{code, func, function, no_stmts, then_stmt}
-use Rattle.scope_analysis.specs.EarlyRules.{has_stray_jump}
-use Rattle.scope_analysis.specs.Form.{any_is_reserved, any_use_is_reserved, declares_inside, has_inner_declaration}
-use Rattle.scope_analysis.specs.Jumps.{strays}
+use Rattle.early_rules.specs.EarlyRules.{has_stray_jump}
+use Rattle.script_rules.specs.Form.{any_is_reserved, any_use_is_reserved, declares_inside, has_inner_declaration}
+use Rattle.early_rules.specs.Jumps.{strays}
 use Rattle.scope_analysis.specs.Names.{declared_names}
 use Rattle.scope_analysis.specs.Nodes.{stmt_any, stmts_any}
 use Rattle.scope_analysis.specs.Uses.{stmt_uses, stmts_uses}
 use Rattle.page_rest.proofs.Assigning.{assigns_round, closed_calm, left_calm, right_calm}
 use Rattle.page_rest.proofs.FormParts.{FormParts, form_parts}
-use Rattle.scope_analysis.proofs.Callers.{KeepsRules, rules_are_kept}
+use Rattle.early_rules.proofs.Callers.{KeepsRules, rules_are_kept}
 use Rattle.page_rest.proofs.Pieces.{expr_formed, stmt_formed}
 use Rattle.page_rest.proofs.Tests.{Deleted, Fields, Formals, Jumps, Own, Restricted, Scopes, Targets, Test, test_of, unnamed}
 use Rattle.page_rest.specs.Asks.{FunctionsAreFormed, is_unformed}

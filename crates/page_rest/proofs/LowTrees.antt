@@ -7,9 +7,9 @@ use Rattle.js_core.specs.Height.{code_height}
 use Rattle.js_core.specs.Tree as tree
 use Rattle.js_core.specs.Tree.{code, func, function}
 use Rattle.js_grammar.specs.Syntax.{IsSyntax}
-use Rattle.scope_analysis.specs.Form.{is_factory, is_high_function}
-use Rattle.scope_analysis.specs.FormScripts.{IsFormPageScript}
-use Rattle.scope_analysis.specs.Limits.{function_height_limit}
+use Rattle.early_rules.specs.FormNodes.{is_factory, is_high_function}
+use Rattle.script_rules.specs.FormScripts.{IsFormPageScript}
+use Rattle.early_rules.specs.Limits.{function_height_limit}
 use Rattle.scope_analysis.specs.Nodes.{Node, expression, statement, stmts_any}
 use Rattle.page_rest.proofs.AskedTrees.{functions_are_asked}
 use Rattle.page_rest.specs.Asks.{is_asked, is_asked_low, is_low, is_not_asked}

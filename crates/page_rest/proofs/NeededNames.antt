@@ -8,8 +8,8 @@ use Rattle.std.proofs.lemmas.Slice.Eq.{bytes_eq-Decides}
 use Rattle.indexmap.specs.IndexSet.{insert_all, insert_key}
 use Rattle.js_core.specs.Tree as tree
 use Rattle.js_core.specs.Tree.{func}
-use Rattle.scope_analysis.specs.Form.{any_use_is_reserved}
-use Rattle.scope_analysis.specs.FreeUses.{needed_variables}
+use Rattle.script_rules.specs.Form.{any_use_is_reserved}
+use Rattle.scope_analysis.specs.Needs.{needed_variables}
 use Rattle.scope_analysis.specs.Identifiers.{is_reserved, is_restricted}
 use Rattle.scope_analysis.specs.Names.{has_repeat, is_among}
 use Rattle.scope_analysis.specs.Uses.{Use, crossing, expr_uses, leaving_function}

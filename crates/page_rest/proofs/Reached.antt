@@ -21,7 +21,7 @@ use Rattle.object_shapes.specs.Links.{built_in_count, made_links, parts_links, p
 use Rattle.object_shapes.specs.Shapes.{built_in_globals}
 use Rattle.page_meaning.specs.Places.{window}
 use Rattle.page_meaning.specs.Store.{Store}
-use Rattle.scope_analysis.specs.FreeUses.{needed_variables}
+use Rattle.scope_analysis.specs.Needs.{needed_variables}
 
 -- ---- lists of links
 

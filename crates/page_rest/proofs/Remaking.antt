@@ -28,9 +28,9 @@ use Rattle.object_heap.specs.declared.property.Prop.{Prop}
 use Rattle.object_shapes.proofs.Callers.{below_join, below_more}
 use Rattle.object_shapes.specs.Links.{all_below, value_links}
 use Rattle.page_meaning.specs.Store.{Store}
-use Rattle.scope_analysis.specs.FreeUses.{needed_variables}
+use Rattle.scope_analysis.specs.Needs.{needed_variables}
 use Rattle.scope_analysis.specs.Identifiers.{is_reserved}
-use Rattle.scope_analysis.specs.Limits.{function_height_limit}
+use Rattle.early_rules.specs.Limits.{function_height_limit}
 use Rattle.scope_analysis.specs.Uses.{Use, expr_uses}
 use Rattle.page_rest.proofs.NeededNames.{all_pass}
 

@@ -22,9 +22,9 @@ use Rattle.object_heap.specs.Chain.{object_at}
 use Rattle.object_heap.specs.declared.object.Class.TheVariants as class
 use Rattle.page_meaning.specs.Pages.{run_of}
 use Rattle.page_meaning.specs.Store.{Store}
-use Rattle.scope_analysis.specs.EarlyRules.{early_rule}
-use Rattle.scope_analysis.specs.Form.{in_form}
-use Rattle.scope_analysis.specs.Limits.{function_height_limit}
+use Rattle.early_rules.specs.EarlyRules.{early_rule}
+use Rattle.script_rules.specs.Form.{in_form}
+use Rattle.early_rules.specs.Limits.{function_height_limit}
 use Rattle.page_rest.proofs.LowTrees.{functions_are_low}
 use Rattle.page_rest.proofs.Reached.{reached_named}
 use Rattle.page_rest.proofs.Remaking.{remade_in}

@@ -5,8 +5,9 @@ use Rattle.std.proofs.lemmas.Bool.{or_from, or_parts}
 use Rattle.std.proofs.Math.Bool.{and-true}
 use Rattle.js_core.specs.Tree as tree
 use Rattle.js_core.specs.Tree.{code, func, function, one_catch}
-use Rattle.scope_analysis.specs.EarlyRules.{assigns_own_name, deletes_name, has_bad_target, has_restricted_name, has_stray_jump, repeats_field, repeats_formal}
-use Rattle.scope_analysis.specs.Form.{are_variables_in_form, is_clause_out_of_form, is_declaration, is_expression_out_of_form, scope_out_of_form}
+use Rattle.early_rules.specs.EarlyRules.{assigns_own_name, deletes_name, has_bad_target, has_restricted_name, has_stray_jump, repeats_field, repeats_formal}
+use Rattle.script_rules.specs.Form.{are_variables_in_form, is_clause_out_of_form, is_expression_out_of_form, scope_out_of_form}
+use Rattle.early_rules.specs.FormNodes.{is_declaration}
 use Rattle.scope_analysis.specs.Identifiers.{is_restricted}
 use Rattle.scope_analysis.specs.Names.{code_body}
 use Rattle.scope_analysis.specs.Nodes.{Node, catch_any, code_any, expr_any, stmt_any, stmts_any}

@@ -5,18 +5,19 @@ use Rattle.std.proofs.lemmas.Bool.{and_from, and_parts, not_from_false, or_from,
 use Rattle.std.proofs.lemmas.List.{append-nil}
 use Rattle.js_core.specs.Tree as tree
 use Rattle.js_core.specs.Tree.{call, code, expr, func, no_exprs, no_stmts, one_expr, return, then_stmt}
-use Rattle.scope_analysis.specs.EarlyRules.{early_rule, has_stray_jump}
-use Rattle.scope_analysis.specs.Form.{any_is_reserved, any_use_is_reserved, are_variables_in_form, can_be_rebuilt, in_form, is_constant, is_declaration, is_opened, may_be_captured}
-use Rattle.scope_analysis.specs.FreeUses.{needed_variables}
+use Rattle.early_rules.specs.EarlyRules.{early_rule, has_stray_jump}
+use Rattle.script_rules.specs.Form.{any_is_reserved, any_use_is_reserved, are_variables_in_form, can_be_rebuilt, in_form, is_constant, is_opened, may_be_captured}
+use Rattle.early_rules.specs.FormNodes.{is_declaration}
+use Rattle.scope_analysis.specs.Needs.{needed_variables}
 use Rattle.scope_analysis.specs.Identifiers.{is_reserved}
-use Rattle.scope_analysis.specs.Jumps.{strays}
+use Rattle.early_rules.specs.Jumps.{strays}
 use Rattle.scope_analysis.specs.Names.{bound_names, declared_names, is_among, maybe_name}
 use Rattle.scope_analysis.specs.Nodes.{Node, expr_any, expression, statement, stmts_any}
 use Rattle.scope_analysis.specs.Uses.{Use, expr_uses, is_assigned, is_captured, stmts_uses}
 use Rattle.agreement.proofs.Callers.{same_name}
 use Rattle.page_rest.proofs.Assigning.{assigns_round, never_assigned}
 use Rattle.page_rest.proofs.FormParts.{FormParts, from_parts}
-use Rattle.scope_analysis.proofs.Callers.{KeepsRules, none_is_broken}
+use Rattle.early_rules.proofs.Callers.{KeepsRules, none_is_broken}
 use Rattle.page_rest.proofs.NeededNames.{needed_are_all, needed_are_apart, needed_are_reserved, needed_are_unrestricted}
 use Rattle.page_rest.proofs.Tests.{Deleted, Fields, Formals, Jumps, Kept, Own, Restricted, Scopes, Targets, Test, test_of}
 use Rattle.page_rest.specs.Asks.{is_formed, is_no}

@@ -8,10 +8,10 @@ use Rattle.js_core.specs.Tree as tree
 use Rattle.js_core.specs.Tree.{func, function}
 use Rattle.js_grammar.specs.Syntax.{IsSyntax}
 use Rattle.page_rest.specs.Trees.{keeps_code}
-use Rattle.scope_analysis.specs.EarlyRules.{early_rule}
-use Rattle.scope_analysis.specs.Form.{in_form}
-use Rattle.scope_analysis.specs.FormScripts.{IsFormScript}
-use Rattle.scope_analysis.specs.Limits.{function_height_limit}
+use Rattle.early_rules.specs.EarlyRules.{early_rule}
+use Rattle.script_rules.specs.Form.{in_form}
+use Rattle.script_rules.specs.FormScripts.{IsFormScript}
+use Rattle.early_rules.specs.Limits.{function_height_limit}
 use Rattle.scope_analysis.specs.Nodes.{Node, expression, statement, stmts_any}
 
 abbrev pub is_no : {A : Type 0} → Option A → Bool

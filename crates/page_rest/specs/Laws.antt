@@ -14,7 +14,7 @@ use Rattle.heap_walker.specs.Things.{Reach}
 use Rattle.page_meaning.specs.Pages.{run_of}
 use Rattle.page_meaning.specs.Store.{Store}
 use Rattle.heap_walker.specs.Remade.{AllCanBeRemade}
-use Rattle.scope_analysis.specs.FormScripts.{IsFormPageScript}
+use Rattle.script_rules.specs.FormScripts.{IsFormPageScript}
 
 -- a script of a form page, as tokens have it
 abbrev pub IsInForm : tree.Stmts → Type 0

@@ -73,8 +73,8 @@ pub fn push_document(alloc: Global, dom: &Dom, out: &mut Vec<u8>) -> Result<(), 
 }
 
 fn push_script(alloc: Global, script: &ScriptText, out: &mut Vec<u8>) -> Result<(), AllocError> {
-    let start = script.start;
-    let end = script.end;
+    let start = script.place.start;
+    let end = script.place.end;
     let place = format!(in alloc; " {start}-{end} ")?;
     out.extend_from_slice(place.as_bytes())?;
     push_line(alloc, script.text.as_slice(), out)

@@ -10,11 +10,11 @@ use Rattle.js_core.specs.Tree.{call, code, expr, func, no_exprs, no_stmts, one_e
 use Rattle.js_values.specs.declared.ids.EnvId.{EnvId}
 use Rattle.js_values.specs.declared.value.Value.{Value}
 use Rattle.page_meaning.specs.Store.{Store}
-use Rattle.scope_analysis.specs.EarlyRules.{early_rule}
-use Rattle.scope_analysis.specs.Form.{in_form}
-use Rattle.scope_analysis.specs.FreeUses.{needed_variables}
+use Rattle.early_rules.specs.EarlyRules.{early_rule}
+use Rattle.script_rules.specs.Form.{in_form}
+use Rattle.scope_analysis.specs.Needs.{needed_variables}
 use Rattle.scope_analysis.specs.Identifiers.{is_reserved}
-use Rattle.scope_analysis.specs.Limits.{function_height_limit}
+use Rattle.early_rules.specs.Limits.{function_height_limit}
 use Rattle.scope_analysis.specs.Nodes.{Node, expr_any, expression, stmt_any, stmts_any, statement, exprs_any}
 use Rattle.scope_analysis.specs.Uses.{Use, expr_uses}
 use Rattle.heap_walker.specs.Still.{IsFunctionAtRest}

@@ -5,9 +5,9 @@ use Rattle.js_core.specs.Height.{code_height}
 use Rattle.js_core.specs.Tree as tree
 use Rattle.js_core.specs.Tree.{func}
 use Rattle.js_values.specs.declared.value.Value.{Value}
-use Rattle.scope_analysis.proofs.Callers.{expr_has_no_high_function}
-use Rattle.scope_analysis.specs.Form.{is_factory, is_high_function}
-use Rattle.scope_analysis.specs.Limits.{function_height_limit}
+use Rattle.script_rules.proofs.Callers.{expr_has_no_high_function}
+use Rattle.early_rules.specs.FormNodes.{is_factory, is_high_function}
+use Rattle.early_rules.specs.Limits.{function_height_limit}
 use Rattle.scope_analysis.specs.Nodes.{expr_any}
 use Rattle.page_writer.proofs.FormFunctions.{IsFormFunction, NonePass}
 use Rattle.page_writer.specs.Statements.{binder}

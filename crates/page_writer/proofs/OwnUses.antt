@@ -19,11 +19,10 @@ use Rattle.rebuild_plan.specs.declared.statement.Maker.{Maker}
 use Rattle.rebuild_plan.specs.declared.statement.Maker.TheVariants as made
 use Rattle.rebuild_plan.specs.declared.statement.Rebuild.{Rebuild}
 use Rattle.rebuild_plan.specs.declared.statement.Rebuild.TheVariants.{Make, Define, DefinePrototype, DefineLength, Prevent}
-use Rattle.scope_analysis.specs.Form.{any_use_is_reserved, has_inner_declaration, has_open_reserved, in_form}
+use Rattle.script_rules.specs.Form.{any_use_is_reserved, has_inner_declaration, has_open_reserved, in_form, scope_out_of_form}
 use Rattle.scope_analysis.specs.Identifiers.{is_reserved}
 use Rattle.scope_analysis.specs.Names.{bound_names, maybe_name, declared_names}
 use Rattle.scope_analysis.specs.Nodes.{stmts_any}
-use Rattle.scope_analysis.specs.Form.{scope_out_of_form}
 use Rattle.scope_analysis.specs.Uses.{Use, expr_uses, exprs_uses, is_captured, leaving_clause, leaving_function, read, stmts_uses}
 use Rattle.page_writer.proofs.CommonNames.{begins_common, common_is_unreserved, begin_is_common, is_common, kind_is_common, nan_is_common, none_begin, object_is_common, path_begins}
 use Rattle.page_writer.proofs.FormFunctions.{IsFormFunction, called}

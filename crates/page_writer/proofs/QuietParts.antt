@@ -16,7 +16,7 @@ use Rattle.rebuild_plan.specs.declared.statement.Maker.{Maker}
 use Rattle.rebuild_plan.specs.declared.statement.Maker.TheVariants as made
 use Rattle.rebuild_plan.specs.declared.statement.Rebuild.{Rebuild}
 use Rattle.rebuild_plan.specs.declared.statement.Rebuild.TheVariants.{Make, Define, DefinePrototype, DefineLength, Prevent}
-use Rattle.scope_analysis.specs.EarlyRules.{repeats_name}
+use Rattle.early_rules.specs.EarlyRules.{repeats_name}
 use Rattle.scope_analysis.specs.Identifiers.{is_restricted}
 use Rattle.scope_analysis.specs.Nodes.{Node, clause, expr_any, expression, exprs_any, statement, stmts_any}
 use Rattle.page_writer.proofs.CommonNames.{begins_common, common_is_unrestricted, begin_is_common, kind_is_common, none_begin, path_begins}

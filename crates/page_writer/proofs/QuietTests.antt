@@ -4,10 +4,11 @@ use Rattle.std.proofs.lemmas.Bool.{or_from}
 use Rattle.js_core.specs.Tree as tree
 use Rattle.js_core.specs.Tree.{name, num, text, bool, null, list, literal, member, index, call, construct, unary, assign, no_holes, expr, throw, try}
 use Rattle.js_core.specs.declared.operators.UnaryOp.TheVariants.{Minus, Void}
-use Rattle.scope_analysis.specs.EarlyRules.{assigns_own, assigns_own_name, deletes_name, has_bad_target, has_restricted_name, has_stray_jump, is_function, repeats_field, repeats_formal, repeats_name}
-use Rattle.scope_analysis.specs.Form.{is_clause_out_of_form, is_declaration, is_declaration_out_of_form, is_expression_out_of_form, is_high_function, scope_out_of_form}
+use Rattle.early_rules.specs.EarlyRules.{assigns_own, assigns_own_name, deletes_name, has_bad_target, has_restricted_name, has_stray_jump, is_function, repeats_field, repeats_formal, repeats_name}
+use Rattle.script_rules.specs.Form.{is_clause_out_of_form, is_declaration_out_of_form, is_expression_out_of_form, scope_out_of_form}
+use Rattle.early_rules.specs.FormNodes.{is_declaration, is_high_function}
 use Rattle.scope_analysis.specs.Identifiers.{is_restricted}
-use Rattle.scope_analysis.specs.Jumps.{strays}
+use Rattle.early_rules.specs.Jumps.{strays}
 use Rattle.scope_analysis.specs.Names.{code_body, code_formals, has_repeat}
 use Rattle.scope_analysis.specs.Nodes.{Node, expression, of_scopes, statement}
 use Rattle.page_writer.proofs.QuietParts.{IsQuiet}

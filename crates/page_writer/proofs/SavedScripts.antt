@@ -10,19 +10,20 @@ use Rattle.js_values.specs.declared.value.Value.{Value}
 use Rattle.rebuild_plan.specs.Compact.{compact}
 use Rattle.rebuild_plan.specs.Plan.{plan}
 use Rattle.rebuild_plan.specs.declared.statement.Rebuild.{Rebuild}
-use Rattle.scope_analysis.specs.EarlyRules.{assigns_own_name, deletes_name, has_bad_target, has_restricted_name, has_stray_jump, repeats_field, repeats_formal}
-use Rattle.scope_analysis.specs.Form.{any_is_reserved, any_use_is_reserved, has_inner_declaration, has_open_reserved, in_form, is_clause_out_of_form, is_declaration, is_high_function, scope_out_of_form}
-use Rattle.scope_analysis.specs.FormScripts.{IsFormScript}
-use Rattle.scope_analysis.specs.Jumps.{leaves, strays}
-use Rattle.scope_analysis.specs.Limits.{form_height_limit}
+use Rattle.early_rules.specs.EarlyRules.{assigns_own_name, deletes_name, has_bad_target, has_restricted_name, has_stray_jump, repeats_field, repeats_formal}
+use Rattle.script_rules.specs.Form.{any_is_reserved, any_use_is_reserved, has_inner_declaration, has_open_reserved, in_form, is_clause_out_of_form, scope_out_of_form}
+use Rattle.early_rules.specs.FormNodes.{is_declaration, is_high_function}
+use Rattle.script_rules.specs.FormScripts.{IsFormScript}
+use Rattle.early_rules.specs.Jumps.{leaves, strays}
+use Rattle.early_rules.specs.Limits.{form_height_limit}
 use Rattle.scope_analysis.specs.Names.{declared_names}
 use Rattle.scope_analysis.specs.Nodes.{stmts_any}
 use Rattle.scope_analysis.specs.Uses.{Use, is_captured, leaving_clause, stmts_uses}
-use Rattle.scope_analysis.specs.declared.jump.Jump.{Jump}
-use Rattle.scope_analysis.specs.declared.jump.Jump.TheVariants as jump
+use Rattle.early_rules.specs.declared.jump.Jump.{Jump}
+use Rattle.early_rules.specs.declared.jump.Jump.TheVariants as jump
 use Rattle.page_writer.proofs.FormFunctions.{IsFormFunction, called, none_pass}
 use Rattle.page_writer.proofs.FormPlans.{IsInForm, plan_in_form}
-use Rattle.scope_analysis.proofs.Callers.{KeepsRules, none_is_broken, rules_are_kept}
+use Rattle.early_rules.proofs.Callers.{KeepsRules, none_is_broken, rules_are_kept}
 use Rattle.page_writer.proofs.LowFunctions.{functions_are_low}
 use Rattle.page_writer.proofs.OwnUses.{clause_leaves, list_is_not_captured, list_name, statements_own}
 use Rattle.page_writer.proofs.QuietParts.{script_quiet}

@@ -18,7 +18,7 @@ use Rattle.rebuild_plan.specs.declared.statement.Maker.{Maker}
 use Rattle.rebuild_plan.specs.declared.statement.Maker.TheVariants as made
 use Rattle.rebuild_plan.specs.declared.statement.Rebuild.{Rebuild}
 use Rattle.rebuild_plan.specs.declared.statement.Rebuild.TheVariants.{Make, Define, DefinePrototype, DefineLength, Prevent}
-use Rattle.scope_analysis.specs.Limits.{function_height_limit}
+use Rattle.early_rules.specs.Limits.{function_height_limit}
 use Rattle.page_writer.proofs.Words.{are_path_names, bind_is_written, create_is_written, define_is_written, is_free_word, is_word, kind_is_identifier, list_is_identifier, nan_is_identifier, object_is_identifier, path_is_named, prevent_is_written, word_is_identifier, word_is_written}
 use Rattle.page_writer.specs.Statements.{define_expr, function_expr, maker_expr, need_exprs, need_names, path_expr, path_from, proto_expr, rebuild_expr, reference, reference_over, short_descriptor, thing_expr, value_expr, value_exprs, whole_descriptor, whole_expr}
 use Rattle.page_writer.specs.Writable.{IsWritable, IsWritableMaker, StatementsAreSyntax, is_need, is_number, is_place, is_prototype, is_thing_number, is_writable_value}

@@ -7,7 +7,7 @@ use Rattle.js_grammar.specs.Syntax.{IsSyntax}
 use Rattle.page_meaning.specs.Store.{Store}
 use Rattle.rebuild_plan.specs.Compact.{compact}
 use Rattle.rebuild_plan.specs.Plan.{plan}
-use Rattle.scope_analysis.specs.FormScripts.{IsFormPageScript}
+use Rattle.script_rules.specs.FormScripts.{IsFormPageScript}
 use Rattle.page_writer.specs.Script.{saved_script}
 use Rattle.page_writer.specs.Writable.{IsWritable}
 

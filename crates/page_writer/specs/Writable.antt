@@ -10,7 +10,7 @@ use Rattle.js_lexer.specs.Written.{is_unit}
 use Rattle.js_values.specs.declared.ids.ObjId.{ObjId}
 use Rattle.js_values.specs.declared.value.Value.{Value}
 use Rattle.js_values.specs.declared.value.Value.TheVariants as value
-use Rattle.scope_analysis.specs.Limits.{form_height_limit, function_height_limit}
+use Rattle.early_rules.specs.Limits.{form_height_limit, function_height_limit}
 use Rattle.page_writer.specs.Statements.{statement}
 use Rattle.rebuild_plan.specs.declared.statement.Maker.{Maker}
 use Rattle.rebuild_plan.specs.declared.statement.Maker.TheVariants as made

@@ -1,4 +1,4 @@
 -- What other crates cite.
-pub use Rattle.printed_pages.proofs.Accepted.{framed_scripts_are_accepted}
-pub use Rattle.printed_pages.proofs.AcceptedTrees.{accepted_scripts_have_syntax}
+pub use Rattle.printed_pages.proofs.Accepted.{ScriptPages, framed_scripts_are_accepted}
+pub use Rattle.printed_pages.proofs.AcceptedTrees.{TextsHaveUnits, accepted_scripts_have_syntax}
 pub use Rattle.printed_pages.proofs.StrictScripts.{accepted_scripts_begin_strict}

@@ -1,8 +1,9 @@
--- That a text between the frame of a form page is that of its script, where it has neither an end tag nor another control character than LF.
+-- What bytes may be a script's text, and that such a text in the frame of a saved page is that of its script.
 use Rattle.std.proofs.Common.{◌≡◌, ◌∙◌, ℕ, ◌<◌, Bool, true, false, List, [], ◌∷◌, ◌++◌, refl, sym, ap, arith}
 use Rattle.std.specs.Prelude.{not, ◌&&◌, ◌||◌, ◌==◌, if◌then◌else◌, nat_lt, codes, encode_utf8, encode_utf8_all, IsUtf8}
+use Rattle.std.specs.Char.{to_ascii_lowercase}
 use Rattle.std.specs.Char.Escape.{encode_utf16}
-use Rattle.std.specs.List.{list_all, flat_map}
+use Rattle.std.specs.List.{list_all, list_any, flat_map}
 use Rattle.std.specs.Str.{all_scalars}
 use Rattle.std.proofs.lemmas.Bool.{and_from, and_parts}
 use Rattle.std.proofs.lemmas.Bool.Decides.{nat_tests}
@@ -12,33 +13,36 @@ use Rattle.std.proofs.lemmas.Str.{chars-encodes, encodes-append, encode_ascii, I
 use Rattle.js_core.specs.Text.{utf16_of}
 use Rattle.js_print.specs.Laws.{HasNoEndTag, is_ascii_text}
 use Rattle.js_print.specs.Lined.{is_lined}
-use Rattle.page_check.specs.Accept.{text_of}
-use Rattle.page_check.specs.Frame.{IsFramePage, begins_in_any_case, begins_with_line_feed, body_text, form_mark, has_end_tag, has_zero, lower_case, opening_text, with_line_feeds}
-use Rattle.page_check.specs.declared.page.Kind.TheVariants.{Form}
+use Rattle.page_reader.specs.Laws.{IsScriptPage, body_text, mark_text}
+use Rattle.page_reader.specs.Laws.Mark.{form_page_mark}
+use Rattle.page_reader.specs.Replacing.{IsScriptBytes}
+use Rattle.page_reader.specs.Text.{begins_with_line_feed, has_zero, with_line_feeds}
+use Rattle.page_tokens.specs.Characters.{is_front_in_any_case}
+use Rattle.page_tokens.specs.Laws.{has_end_tag}
 use Rattle.printed_pages.specs.Printed.{framed, page_back, page_front}
 
 -- ---- no end tag
 
-less_alone : (u : ℕ) → (lower_case u == 60) ≡ true → u ≡ 60
+less_alone : (u : ℕ) → (to_ascii_lowercase u == 60) ≡ true → u ≡ 60
 less_alone u e = grind (arith, nat_tests)
 
-slash_alone : (u : ℕ) → (lower_case u == 47) ≡ true → u ≡ 47
+slash_alone : (u : ℕ) → (to_ascii_lowercase u == 47) ≡ true → u ≡ 47
 slash_alone u e = grind (arith, nat_tests)
 
-tag_begins : (u : ℕ) (us : List ℕ) → HasNoEndTag (u ∷ us) → begins_in_any_case (codes "</script") (u ∷ us) ≡ true → ⊥
-tag_begins u [] none e = absurd (cc (and_parts (lower_case u == 60) false e).1)
+tag_begins : (u : ℕ) (us : List ℕ) → HasNoEndTag (u ∷ us) → is_front_in_any_case (codes "</script") (u ∷ us) ≡ true → ⊥
+tag_begins u [] none e = absurd (cc (and_parts (to_ascii_lowercase u == 60) false e).1)
 tag_begins u (v ∷ us) none e =
-    let less = less_alone u (and_parts (lower_case u == 60) _ e).0 in
-    let slash = slash_alone v (and_parts (lower_case v == 47) _ (and_parts (lower_case u == 60) _ e).1).0 in
+    let less = less_alone u (and_parts (to_ascii_lowercase u == 60) _ e).0 in
+    let slash = slash_alone v (and_parts (to_ascii_lowercase v == 47) _ (and_parts (to_ascii_lowercase u == 60) _ e).1).0 in
     none [] us (ap (λ (x : ℕ). x ∷ v ∷ us) less ∙ ap (λ (x : ℕ). 60 ∷ x ∷ us) slash)
 
-pub no_end_tag : (us : List ℕ) → HasNoEndTag us → has_end_tag us ≡ false
+no_end_tag : (us : List ℕ) → HasNoEndTag us → has_end_tag (codes "script") us ≡ false
 no_end_tag [] none = refl
 no_end_tag (u ∷ us) none =
-    by (begins_in_any_case (codes "</script") (u ∷ us)) (tag_begins u us none)
+    by (is_front_in_any_case (codes "</script") (u ∷ us)) (tag_begins u us none)
     (no_end_tag us (λ before after e. none (u ∷ before) after (ap (λ (x : List ℕ). u ∷ x) e)))
   where
-    by : (b : Bool) → (b ≡ true → ⊥) → has_end_tag us ≡ false → (b || has_end_tag us) ≡ false
+    by : (b : Bool) → (b ≡ true → ⊥) → has_end_tag (codes "script") us ≡ false → (b || has_end_tag (codes "script") us) ≡ false
     by true none more = absurd (none refl)
     by false none more = more
 
@@ -57,12 +61,19 @@ all_stay (u ∷ us) e = and_from (stays u) _ (lined_stays u (and_parts (is_lined
 
 with_same : (us : List ℕ) → list_all stays us ≡ true → with_line_feeds us ≡ us
 with_same [] e = refl
-with_same (u ∷ us) e = by (u == 13) (and_parts (not (u == 13)) _ (and_parts (stays u) _ e).0).0 (with_same us (and_parts (stays u) _ e).1)
+with_same (u ∷ us) e = by (u == 13) (begins_with_line_feed us) (and_parts (not (u == 13)) _ (and_parts (stays u) _ e).0).0 (with_same us (and_parts (stays u) _ e).1)
   where
-    by : (b : Bool) → not b ≡ true → with_line_feeds us ≡ us
-        → (if b then (if begins_with_line_feed us then with_line_feeds us else 10 ∷ with_line_feeds us) else u ∷ with_line_feeds us) ≡ u ∷ us
+    by : (b c : Bool) → not b ≡ true → with_line_feeds us ≡ us → (if b && c then with_line_feeds us else (if b then 10 else u) ∷ with_line_feeds us) ≡ u ∷ us
+    by true c off more = absurd (cc)
+    by false c off more = ap (λ (x : List ℕ). u ∷ x) more
+
+return_free : (us : List ℕ) → list_all stays us ≡ true → list_any (λ u. u == 13) us ≡ false
+return_free [] e = refl
+return_free (u ∷ us) e = by (u == 13) (and_parts (not (u == 13)) _ (and_parts (stays u) _ e).0).0 (return_free us (and_parts (stays u) _ e).1)
+  where
+    by : (b : Bool) → not b ≡ true → list_any (λ u. u == 13) us ≡ false → (b || list_any (λ u. u == 13) us) ≡ false
     by true off more = absurd (cc)
-    by false off more = ap (λ (x : List ℕ). u ∷ x) more
+    by false off more = more
 
 zero_free : (us : List ℕ) → list_all stays us ≡ true → has_zero us ≡ false
 zero_free [] e = refl
@@ -71,6 +82,12 @@ zero_free (u ∷ us) e = by (u == 0) (and_parts (not (u == 13)) _ (and_parts (st
     by : (b : Bool) → not b ≡ true → has_zero us ≡ false → (b || has_zero us) ≡ false
     by true off more = absurd (cc)
     by false off more = more
+
+-- bytes with neither an end tag nor another control character than LF may be a script's text
+pub script_bytes : (t : List ℕ) → IsUtf8 t → HasNoEndTag (utf16_of t) → list_all is_lined (utf16_of t) ≡ true → IsScriptBytes t
+script_bytes t utf8 none lined =
+    let kept = all_stay (utf16_of t) lined in
+    record { utf8 = utf8; no_zero = zero_free (utf16_of t) kept; no_return = return_free (utf16_of t) kept; no_end = no_end_tag (utf16_of t) none }
 
 -- ---- units of a text between others
 
@@ -109,47 +126,39 @@ same_units us low scalars alone =
     let bytes = ascii_bytes us low in
     record { utf8 = (us, (scalars, bytes)); units = ap utf16_of (sym bytes) ∙ ap (flat_map encode_utf16) (chars-encodes us scalars) ∙ alone }
 
-front_same : (with_body : Bool) → Same (page_front with_body)
-front_same true = same_units (page_front true) refl refl refl
-front_same false = same_units (page_front false) refl refl refl
+front_same : Same page_front
+front_same = same_units page_front refl refl refl
 
 back_same : Same page_back
 back_same = same_units page_back refl refl refl
 
-pub framed_is_utf8 : (with_body : Bool) (t : List ℕ) → IsUtf8 t → IsUtf8 (framed with_body t)
-framed_is_utf8 with_body t u =
-    IsUtf8-append (page_front with_body) (t ++ page_back) (front_same with_body).utf8 (IsUtf8-append t page_back u back_same.utf8)
+pub framed_is_utf8 : (t : List ℕ) → IsUtf8 t → IsUtf8 (framed t)
+framed_is_utf8 t u =
+    IsUtf8-append page_front (t ++ page_back) front_same.utf8 (IsUtf8-append t page_back u back_same.utf8)
 
-framed_units : (with_body : Bool) (t : List ℕ) → IsUtf8 t → utf16_of (framed with_body t) ≡ framed with_body (utf16_of t)
-framed_units with_body t u =
-    units_join (page_front with_body) (t ++ page_back) (front_same with_body).utf8 (IsUtf8-append t page_back u back_same.utf8)
-    ∙ ap (λ (x : List ℕ). x ++ utf16_of (t ++ page_back)) (front_same with_body).units
-    ∙ ap (λ (x : List ℕ). page_front with_body ++ x) (units_join t page_back u back_same.utf8 ∙ ap (λ (x : List ℕ). utf16_of t ++ x) back_same.units)
+framed_units : (t : List ℕ) → IsUtf8 t → utf16_of (framed t) ≡ framed (utf16_of t)
+framed_units t u =
+    units_join page_front (t ++ page_back) front_same.utf8 (IsUtf8-append t page_back u back_same.utf8)
+    ∙ ap (λ (x : List ℕ). x ++ utf16_of (t ++ page_back)) front_same.units
+    ∙ ap (λ (x : List ℕ). page_front ++ x) (units_join t page_back u back_same.utf8 ∙ ap (λ (x : List ℕ). utf16_of t ++ x) back_same.units)
 
 -- what stays of the frame round units that stay
-framed_stays : (with_body : Bool) (us : List ℕ) → list_all stays us ≡ true → list_all stays (framed with_body us) ≡ true
-framed_stays true us all = list_all-append stays us page_back ∙ and_from _ _ all refl
-framed_stays false us all = list_all-append stays us page_back ∙ and_from _ _ all refl
+framed_stays : (us : List ℕ) → list_all stays us ≡ true → list_all stays (framed us) ≡ true
+framed_stays us all = list_all-append stays us page_back ∙ and_from _ _ all refl
 
-front_whole : (with_body : Bool) (us : List ℕ)
-    → framed with_body us ≡ opening_text form_mark ++ codes "<html>" ++ body_text with_body ++ codes "<script>" ++ us ++ codes "</script></html>"
-front_whole true us = refl
-front_whole false us = refl
+front_whole : (us : List ℕ) → framed us ≡ mark_text form_page_mark ++ codes "<html>" ++ body_text false ++ codes "<script>" ++ us ++ codes "</script></html>"
+front_whole us = refl
 
 -- the text of a form page's script, in its frame
-pub is_framed : (with_body : Bool) (t : List ℕ) → IsUtf8 t → HasNoEndTag (utf16_of t) → list_all is_lined (utf16_of t) ≡ true
-    → IsFramePage (text_of (framed with_body t)) Form (utf16_of t ∷ [])
-is_framed with_body t u none lined =
+pub is_framed : (t : List ℕ) → IsUtf8 t → HasNoEndTag (utf16_of t) → list_all is_lined (utf16_of t) ≡ true
+    → IsScriptPage (with_line_feeds (utf16_of (framed t))) false (utf16_of t)
+is_framed t u none lined =
     let units = utf16_of t in
-    let kept = framed_stays with_body units (all_stay units lined) in
-    let same = ap with_line_feeds (framed_units with_body t u) ∙ with_same (framed with_body units) kept in
+    let kept = framed_stays units (all_stay units lined) in
+    let same = ap with_line_feeds (framed_units t u) ∙ with_same (framed units) kept in
     record {
-      opening = form_mark;
-      of_kind = refl;
-      with_body = with_body;
-      inner = units;
-      whole = same ∙ front_whole with_body units;
-      one_script = no_end_tag units none;
-      no_zero = ap has_zero same ∙ zero_free (framed with_body units) kept;
-      only = refl;
+      mark = form_page_mark;
+      whole = same ∙ front_whole units;
+      no_end = no_end_tag units none;
+      no_zero = ap has_zero same ∙ zero_free (framed units) kept;
     }

@@ -22,7 +22,7 @@ use Rattle.js_grammar.specs.Symbols.{Lexeme, lexemes, symbol_of, text}
 use Rattle.js_lexer.specs.Directives.{IsStrict, is_text, is_text_of, is_use_strict, behind_statement}
 use Rattle.js_lexer.specs.Directives.IsStrict.{here, later}
 use Rattle.js_print.specs.ReadAgain.{begins_strict}
-use Rattle.page_check.specs.Accept.{ArePageScripts}
+use Rattle.page_check.specs.Accept.{ArePageScripts, texts_of}
 use Rattle.printed_pages.specs.Printed.{AcceptedScriptsBeginStrict}
 use Rattle.printed_pages.proofs.StrictStatements.{Ends, directive_ends, directive_read, then_reads}
 
@@ -140,9 +140,9 @@ read_begins_strict tokens script strict e =
         subst (λ (s : tree.Stmts). begins_strict s ≡ true) (ap stmts_of (sym front.1) ∙ script_is) front.2
 
 pub accepted_scripts_begin_strict : ((tokens : List Token) (script : tree.Stmts) → ScriptOf height_limit tokens script → read_script height_limit tokens ≡ Some script) → AcceptedScriptsBeginStrict
-accepted_scripts_begin_strict complete bytes kind scripts is = all_strict is.texts scripts is.read
+accepted_scripts_begin_strict complete bytes page is = all_strict (texts_of is.texts) page.scripts is.read
   where
-    all_strict : (texts : List (List ℕ)) (scripts : List tree.Stmts) → ArePageScripts kind texts scripts → All (λ script. begins_strict script ≡ true) scripts
+    all_strict : (texts : List (List ℕ)) (scripts : List tree.Stmts) → ArePageScripts page.kind texts scripts → All (λ script. begins_strict script ≡ true) scripts
     all_strict [] [] read = All-nil (λ script. begins_strict script ≡ true)
     all_strict (one_text ∷ texts) (script ∷ scripts) read =
         let strict = read.0.low.orderly.strict in

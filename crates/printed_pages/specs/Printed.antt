@@ -1,44 +1,64 @@
--- That a printed script in the frame of a form page is accepted as that page, and that the scripts of accepted pages can be printed.
-use Rattle.std.specs.Prelude.{◌≡◌, ℕ, Bool, true, IsTrue, List, [], ◌∷◌, ◌++◌, codes}
+-- That printed scripts in the places of a page's scripts are accepted, that a script in the frame of a saved page is, and which trees the
+-- scripts of accepted pages are.
+use Rattle.std.specs.Prelude.{◌≡◌, ℕ, true, false, IsTrue, List, [], ◌∷◌, ◌++◌, codes, length, map}
 use Rattle.std.specs.List.{All}
+use Rattle.dom_tree.specs.Node.{Nodes}
 use Rattle.js_core.specs.Tree as tree
 use Rattle.js_grammar.specs.Syntax.{IsSyntax}
 use Rattle.js_print.specs.Lined.{LinedAgain}
 use Rattle.js_print.specs.Printing.{script_text}
 use Rattle.js_print.specs.ReadAgain.{begins_strict}
-use Rattle.page_check.specs.Accept.{IsAcceptedAs}
-use Rattle.page_check.specs.Frame.{body_text}
-use Rattle.page_check.specs.declared.page.Kind.{Kind}
+use Rattle.page_check.specs.Accept.{IsAccepted}
+use Rattle.page_check.specs.Rules.{Page}
 use Rattle.page_check.specs.declared.page.Kind.TheVariants.{Form}
-use Rattle.scope_analysis.specs.FormScripts.{IsFormPageScript}
+use Rattle.page_reader.specs.declared.page.ScriptText.{ScriptText}
+use Rattle.page_reader.specs.Bytes.{IsPageOf}
+use Rattle.page_reader.specs.Laws.{script_page}
+use Rattle.page_reader.specs.Replacing.{as_form_page, form_mark, places_of}
+use Rattle.script_rules.specs.FormScripts.{IsFormPageScript}
 
--- what stands before the text of a form page's script, with an empty body or none, and what stands behind it
-abbrev pub page_front : Bool → List ℕ
-page_front with_body = codes "<!--imagen 1--><html>" ++ (body_text with_body ++ codes "<script>")
+-- ---- in the places of a page's scripts
+
+-- the form page with these nodes and scripts
+abbrev pub form_page : Nodes → List tree.Stmts → Page
+form_page nodes scripts = record { kind = Form; nodes = nodes; scripts = scripts }
+
+-- where there are as many scripts as a page has, and each keeps the rules on trees and what a form page asks, and begins with the strict
+-- directive, the page with their printed texts in place of its own is accepted as a form page with the same nodes and these scripts
+abbrev pub PrintedPagesAreAccepted : Type 0
+PrintedPagesAreAccepted =
+    (bytes : List ℕ) (nodes : Nodes) (texts : List ScriptText) (scripts : List tree.Stmts) → IsPageOf bytes nodes texts → length scripts ≡ length texts
+    → All IsSyntax scripts → All IsFormPageScript scripts → All (λ script. begins_strict script ≡ true) scripts
+    → IsAccepted (as_form_page bytes (places_of texts) (map script_text scripts)) (form_page nodes scripts)
+
+-- ---- in the frame of a saved page
+
+-- what stands before the text of its script, and what stands after it
+abbrev pub page_front : List ℕ
+page_front = form_mark ++ codes "<html><script>"
 
 abbrev pub page_back : List ℕ
 page_back = codes "</script></html>"
 
-abbrev pub framed : Bool → List ℕ → List ℕ
-framed with_body text = page_front with_body ++ (text ++ page_back)
+abbrev pub framed : List ℕ → List ℕ
+framed text = page_front ++ (text ++ page_back)
+
+-- the page that it is with this script
+abbrev pub framed_page : tree.Stmts → Page
+framed_page script = form_page (script_page false) (script ∷ [])
 
 -- where the text is read again as what a form page asks of a script, and this begins with the strict directive, it is accepted in this frame
 abbrev pub FramedScriptsAreAccepted : Type 0
 FramedScriptsAreAccepted =
-    (with_body : Bool) (script : tree.Stmts) (text : List ℕ) → IsFormPageScript script → IsTrue (begins_strict script) → LinedAgain script text
-    → IsAcceptedAs (framed with_body text) Form (script ∷ [])
+    (script : tree.Stmts) (text : List ℕ) → IsFormPageScript script → IsTrue (begins_strict script) → LinedAgain script text
+    → IsAccepted (framed text) (framed_page script)
 
--- so is the text of each such script, as it is printed, that keeps the rules on trees
-abbrev pub PrintedScriptsAreAccepted : Type 0
-PrintedScriptsAreAccepted =
-    (with_body : Bool) (script : tree.Stmts) → IsSyntax script → IsFormPageScript script → IsTrue (begins_strict script)
-    → IsAcceptedAs (framed with_body (script_text script)) Form (script ∷ [])
+-- ---- the scripts of accepted pages
 
--- each script of an accepted page is a tree that some tokens have
+-- each is a tree that some tokens have
 abbrev pub AcceptedScriptsHaveSyntax : Type 0
-AcceptedScriptsHaveSyntax = (bytes : List ℕ) (kind : Kind) (scripts : List tree.Stmts) → IsAcceptedAs bytes kind scripts → All IsSyntax scripts
+AcceptedScriptsHaveSyntax = (bytes : List ℕ) (page : Page) → IsAccepted bytes page → All IsSyntax page.scripts
 
--- each script of an accepted page begins with string literals as statements, one of which is the strict directive
+-- each begins with string literals as statements, one of which is the strict directive
 abbrev pub AcceptedScriptsBeginStrict : Type 0
-AcceptedScriptsBeginStrict =
-    (bytes : List ℕ) (kind : Kind) (scripts : List tree.Stmts) → IsAcceptedAs bytes kind scripts → All (λ script. begins_strict script ≡ true) scripts
+AcceptedScriptsBeginStrict = (bytes : List ℕ) (page : Page) → IsAccepted bytes page → All (λ script. begins_strict script ≡ true) page.scripts

@@ -16,7 +16,7 @@ use Rattle.object_heap.specs.Property.{Props}
 use Rattle.object_heap.specs.declared.object.Class.{Class}
 use Rattle.object_heap.specs.declared.object.Class.TheVariants as class
 use Rattle.page_meaning.specs.Store.{Store}
-use Rattle.scope_analysis.specs.FreeUses.{needed_variables}
+use Rattle.scope_analysis.specs.Needs.{needed_variables}
 use Rattle.scope_analysis.specs.Names.{is_among}
 use Rattle.heap_relations.specs.Naming.{based, Named, named, World}
 use Rattle.heap_relations.specs.Related.{array, bound, ClassRel, Each, each, Entries, entry, fault, Maybe, no_entries, no_more, none, null, num, object, ObjectIds, ObjectRel, page, plain, PropRel, some, text, truth, undefined, ValueRel}

@@ -8,7 +8,7 @@ use Rattle.code_table.specs.Declarations as held
 use Rattle.object_heap.specs.Environment.{value_of}
 use Rattle.page_meaning.specs.Functions.{entry_names, function_names, with_arguments, with_names}
 use Rattle.scope_chains.proofs.Callers.{arguments_bound, names_bound, same_declarators, same_init, same_target}
-use Rattle.scope_analysis.specs.Form.{is_declaration}
+use Rattle.early_rules.specs.FormNodes.{is_declaration}
 use Rattle.scope_analysis.specs.Names as names
 use Rattle.scope_analysis.specs.Names.{declared_names, is_among}
 use Rattle.scope_analysis.specs.Nodes.{cases_any, catch_any, init_any, maybe_expr_any, maybe_stmts_any, stmt_any, stmts_any}

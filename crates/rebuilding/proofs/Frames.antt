@@ -7,9 +7,10 @@ use Rattle.js_core.specs.Tree.{code}
 use Rattle.js_values.specs.declared.ids.EnvId.{EnvId}
 use Rattle.heap_walker.specs.Still.{IsFunctionAtRest, other_names, wrapped}
 use Rattle.page_meaning.specs.Store.{Store}
-use Rattle.scope_analysis.specs.EarlyRules.{early_rule}
-use Rattle.scope_analysis.specs.Form.{in_form, is_declaration}
-use Rattle.scope_analysis.specs.FreeUses.{needed_variables}
+use Rattle.early_rules.specs.EarlyRules.{early_rule}
+use Rattle.script_rules.specs.Form.{in_form}
+use Rattle.early_rules.specs.FormNodes.{is_declaration}
+use Rattle.scope_analysis.specs.Needs.{needed_variables}
 use Rattle.scope_analysis.specs.Names.{bound_names, is_among, maybe_name}
 use Rattle.scope_analysis.specs.Nodes.{stmts_any}
 use Rattle.scope_analysis.specs.Uses.{Use, crossing, is_assigned, leaving_function, stmts_uses}

@@ -15,7 +15,7 @@ use Rattle.object_heap.specs.Heap.{first_bound, look_in, lookup}
 use Rattle.page_meaning.specs.Places.{at_place}
 use Rattle.page_meaning.specs.Store.{Store}
 use Rattle.rebuild_plan.specs.Compact.{moved_needs, moved_value}
-use Rattle.scope_analysis.specs.FreeUses.{needed_variables}
+use Rattle.scope_analysis.specs.Needs.{needed_variables}
 use Rattle.scope_analysis.specs.Identifiers.{is_reserved}
 use Rattle.scope_analysis.specs.Names.{is_among}
 use Rattle.rebuilding.specs.Frames.{is_own}

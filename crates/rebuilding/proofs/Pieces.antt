@@ -3,7 +3,7 @@ use Rattle.std.proofs.Common.{◌≡◌, refl, ℕ, Bool, true, false, true≢fa
 use Rattle.std.proofs.lemmas.Bool.{and_from}
 use Rattle.js_core.specs.Tree as tree
 use Rattle.js_core.specs.Tree.{name, num, text, bool, null, this, list, literal, func, member, index, call, construct, unary, update, binary, logical_and, logical_or, conditional, assign, comma, no_exprs, then_expr, no_expr, one_expr, no_holes, then_hole, no_fields, then_field, code, var, function, expr, empty, block, if_else, do_while, while, for, for_in, continue, break, return, throw, try, switch, no_stmts, then_stmt, no_body, one_body, no_declarators, then_declarator, no_init, init_var, init_expr, no_catch, one_catch, no_cases, then_case}
-use Rattle.scope_analysis.specs.Form.{is_declaration}
+use Rattle.early_rules.specs.FormNodes.{is_declaration}
 use Rattle.scope_analysis.specs.Nodes.{cases_any, catch_any, declarators_any, expr_any, exprs_any, fields_any, holes_any, init_any, maybe_expr_any, maybe_stmts_any, stmt_any, stmts_any}
 use Rattle.scope_analysis.specs.Uses.{cases_uses, catch_uses, declarator_uses, declarators_uses, expr_uses, exprs_uses, fields_uses, holes_uses, init_uses, maybe_expr_uses, maybe_stmts_uses, stmt_uses, stmts_uses, target_uses}
 use Rattle.heap_relations.specs.Naming.{Frame}

@@ -13,7 +13,7 @@ use Rattle.object_heap.specs.Heap.{Contents, first_bound, look_in, lookup}
 use Rattle.object_heap.proofs.Callers.{lookup_on}
 use Rattle.page_meaning.specs.Places.{at_place}
 use Rattle.page_meaning.specs.Store.{Store}
-use Rattle.scope_analysis.specs.FreeUses.{needed_variables}
+use Rattle.scope_analysis.specs.Needs.{needed_variables}
 use Rattle.scope_analysis.specs.Identifiers.{is_reserved}
 use Rattle.scope_analysis.specs.Names.{is_among}
 use Rattle.scope_analysis.specs.Uses.{expr_uses}

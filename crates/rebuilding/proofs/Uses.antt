@@ -5,7 +5,7 @@ use Rattle.std.proofs.lemmas.Bool.{and_from, and_parts, or_left, or_parts}
 use Rattle.std.proofs.lemmas.List.Folds.{list_all-append, list_any-append}
 use Rattle.js_core.specs.Tree as tree
 use Rattle.js_core.specs.Tree.{code}
-use Rattle.scope_analysis.specs.Form.{is_declaration}
+use Rattle.early_rules.specs.FormNodes.{is_declaration}
 use Rattle.scope_analysis.specs.Names.{bound_names, is_among, maybe_name}
 use Rattle.scope_analysis.specs.Nodes.{stmts_any}
 use Rattle.scope_analysis.specs.Uses.{Use, crossing, leaving_clause, leaving_function, stmts_uses}

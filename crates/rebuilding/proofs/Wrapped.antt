@@ -13,16 +13,17 @@ use Rattle.js_core.specs.Tree as tree
 use Rattle.js_core.specs.Tree.{code, func}
 use Rattle.page_writer.specs.Statements.{giving}
 use Rattle.heap_walker.specs.Still.{other_names, wrapped}
-use Rattle.scope_analysis.specs.EarlyRules.{assigns_maybe, assigns_own, breaks, early_rule, early_rules}
-use Rattle.scope_analysis.specs.Form.{has_inner_declaration, has_open_reserved, in_form, is_constant, is_declaration, is_opened, may_be_captured, scope_out_of_form}
-use Rattle.scope_analysis.specs.FreeUses.{needed_variables}
+use Rattle.early_rules.specs.EarlyRules.{assigns_maybe, assigns_own, breaks, early_rule, early_rules}
+use Rattle.script_rules.specs.Form.{has_inner_declaration, has_open_reserved, in_form, is_constant, is_opened, may_be_captured, scope_out_of_form}
+use Rattle.early_rules.specs.FormNodes.{is_declaration}
+use Rattle.scope_analysis.specs.Needs.{needed_variables}
 use Rattle.scope_analysis.specs.Identifiers.{is_reserved}
 use Rattle.scope_analysis.specs.Names.{bound_names, is_among, maybe_name}
 use Rattle.scope_analysis.specs.Nodes.{code_any, stmts_any}
 use Rattle.scope_analysis.specs.Scopes.{once_each}
 use Rattle.scope_analysis.specs.Uses.{Use, crossing, expr_uses, is_assigned, is_captured, leaving_function, stmts_uses}
-use Rattle.scope_analysis.specs.declared.early_rule.EarlyRule.{EarlyRule}
-use Rattle.scope_analysis.specs.declared.early_rule.EarlyRule.TheVariants as rule
+use Rattle.early_rules.specs.declared.early_rule.EarlyRule.{EarlyRule}
+use Rattle.early_rules.specs.declared.early_rule.EarlyRule.TheVariants as rule
 use Rattle.agreement.proofs.Callers.{all_names}
 use Rattle.rebuilding.specs.Frames.{is_own}
 

@@ -4,7 +4,7 @@ use Rattle.code_table.specs.Declarations.{name_of}
 use Rattle.heap_relations.specs.Naming.{Absent, Frame, Kept, Sealed, Unused}
 use Rattle.heap_walker.specs.Still.{other_names}
 use Rattle.js_core.specs.Tree.{Code}
-use Rattle.scope_analysis.specs.FreeUses.{needed_variables}
+use Rattle.scope_analysis.specs.Needs.{needed_variables}
 use Rattle.scope_analysis.specs.Names.{is_among}
 
 -- the name is the one that may be there

@@ -1,4 +1,3 @@
 -- What other crates cite.
-pub use Rattle.scope_analysis.proofs.KeptRules.{KeepsRules, none_is_broken, rules_are_kept}
-pub use Rattle.scope_analysis.proofs.LowFunctions.{expr_has_no_high_function, has_no_high_function}
 pub use Rattle.scope_analysis.proofs.Rests.{next_of}
+pub use Rattle.scope_analysis.proofs.UseTables.{any_reserved, needed_names, noted_append}

@@ -7,16 +7,15 @@ use Rattle.std.proofs.Math.Bool.{or-false, or_assoc}
 use Rattle.indexmap.specs.IndexMap.{insert_entry}
 use Rattle.indexmap.specs.IndexSet.{insert_all, insert_key}
 use Rattle.scope_analysis.specs.declared.use_table.NameUses.{NameUses}
-use Rattle.scope_analysis.specs.Form.{any_use_is_reserved, is_assigned_once}
+use Rattle.scope_analysis.specs.Uses.{Use, is_assigned, is_assigned_once, is_captured, leaving_clause, leaving_function, stmts_uses}
 use Rattle.scope_analysis.specs.Identifiers.{is_reserved}
 use Rattle.js_core.specs.Tree as tree
 use Rattle.js_core.specs.Tree.{code}
-use Rattle.scope_analysis.specs.FreeUses.{needed_variables}
+use Rattle.scope_analysis.specs.Needs.{needed_variables}
 use Rattle.scope_analysis.specs.Names.{bound_names, code_body, code_formals, is_among, maybe_name}
 use Rattle.scope_analysis.specs.Scopes.{once_each}
 use Rattle.scope_analysis.specs.UseTables.{Noted, and_more, joined, left_by, no_uses, noted, one_use, seen_from, table_of, uses_in, with_name}
-use Rattle.scope_analysis.specs.Uses.{Use, is_assigned, is_captured, leaving_clause, leaving_function, stmts_uses}
-use Rattle.scope_analysis.proofs.Sets.{same_symmetric}
+use Rattle.scope_analysis.proofs.SameNames.{same_symmetric}
 
 -- ---- truth values
 
@@ -390,7 +389,7 @@ any_noted p es (u ∷ us) =
     any_noted p (with_name es u.name (one_use u)) us ∙ ap (λ (b : Bool). b || list_any (λ v. p v.name) us) (any_name p es u.name (one_use u))
     ∙ or_assoc (list_any p (keys_of es)) (p u.name) (list_any (λ v. p v.name) us)
 
-pub any_reserved : (es : Noted) (us : List Use) → es ≡ table_of us → list_any is_reserved (keys_of es) ≡ any_use_is_reserved us
+pub any_reserved : (es : Noted) (us : List Use) → es ≡ table_of us → list_any is_reserved (keys_of es) ≡ list_any (λ u. is_reserved u.name) us
 any_reserved es us e = ap (λ (t : Noted). list_any is_reserved (keys_of t)) e ∙ any_noted is_reserved [] us
 
 keys_with : (es : Noted) (y : List ℕ) (m : NameUses) → keys_of (with_name es y m) ≡ insert_key bytes_eq (keys_of es) y

@@ -1,6 +1,6 @@
 -- The uses of names: where a name of a variable is read, assigned to, or taken by an operator (ECMA-262 5.1 sections
 -- 10.2.2.1 and 11.1.2), and which of them a function or a catch clause leaves to the scopes round it.
-use Rattle.std.specs.Prelude.{ℕ, Bool, true, false, ◌&&◌, List, [], ◌∷◌, ◌++◌, bytes_eq, if◌then◌else◌}
+use Rattle.std.specs.Prelude.{ℕ, Bool, true, false, not, ◌&&◌, List, [], ◌∷◌, ◌++◌, bytes_eq, if◌then◌else◌}
 use Rattle.std.specs.List.{list_any}
 use Rattle.js_core.specs.Tree as tree
 use Rattle.js_core.specs.Tree.{name, num, text, bool, null, this, list, literal, func, member, index, call, construct, unary, update, binary, logical_and, logical_or, conditional, assign, comma, no_exprs, then_expr, no_expr, one_expr, no_holes, then_hole, no_fields, then_field, code, var, function, expr, empty, block, if_else, do_while, while, for, for_in, continue, break, return, throw, try, switch, no_stmts, then_stmt, no_body, one_body, no_declarators, then_declarator, no_init, init_var, init_expr, no_catch, one_catch, no_cases, then_case}
@@ -141,3 +141,8 @@ is_captured x uses = list_any (λ u. u.crosses && bytes_eq u.name x) uses
 -- among these uses the name is assigned to
 abbrev pub is_assigned : List ℕ → List Use → Bool
 is_assigned x uses = list_any (λ u. u.assigns && bytes_eq u.name x) uses
+
+-- among these uses the name is assigned to once
+abbrev pub is_assigned_once : List ℕ → List Use → Bool
+is_assigned_once x [] = false
+is_assigned_once x (u ∷ us) = if u.assigns && bytes_eq u.name x then not (is_assigned x us) else is_assigned_once x us

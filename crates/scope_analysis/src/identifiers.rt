@@ -45,12 +45,7 @@ pub fn statement_fits(test: NameTest, statement: &Stmt) -> bool
     match &statement.node {
         StmtNode::Var(declarators) => declarators_fit(test, declarators.as_slice()),
         StmtNode::Function(code) => function_fits(test, code),
-        StmtNode::For {
-            init,
-            test: _,
-            step: _,
-            body: _,
-        } => init_fits(test, init),
+        StmtNode::For(parts) => init_fits(test, &parts.init),
         _ => false,
     }
 }

@@ -61,18 +61,13 @@ fn push_statement_names(statement: &Stmt, out: &mut Vec<Units>) -> Result<(), Ou
         StmtNode::Block(body) | StmtNode::Do(body, _) | StmtNode::While(_, body) => {
             push_declared_names(body.as_slice(), out)
         }
-        StmtNode::If(_, first, second) => {
-            push_declared_names(first.as_slice(), out)?;
-            push_maybe_body_names(second, out)
+        StmtNode::If(parts) => {
+            push_declared_names(parts.first.as_slice(), out)?;
+            push_maybe_body_names(&parts.second, out)
         }
-        StmtNode::For {
-            init,
-            test: _,
-            step: _,
-            body,
-        } => {
-            push_init_names(init, out)?;
-            push_declared_names(body.as_slice(), out)
+        StmtNode::For(parts) => {
+            push_init_names(&parts.init, out)?;
+            push_declared_names(parts.body.as_slice(), out)
         }
         StmtNode::ForIn {
             declared,
@@ -83,10 +78,10 @@ fn push_statement_names(statement: &Stmt, out: &mut Vec<Units>) -> Result<(), Ou
             push_target_name(*declared, target, out)?;
             push_declared_names(body.as_slice(), out)
         }
-        StmtNode::Try { block, catch, last } => {
-            push_declared_names(block.as_slice(), out)?;
-            push_catch_names(catch, out)?;
-            push_maybe_body_names(last, out)
+        StmtNode::Try(parts) => {
+            push_declared_names(parts.block.as_slice(), out)?;
+            push_catch_names(&parts.catch, out)?;
+            push_maybe_body_names(&parts.last, out)
         }
         StmtNode::Switch(_, cases) => push_case_names(cases.as_slice(), out),
         StmtNode::Expr(_)

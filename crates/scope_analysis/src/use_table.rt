@@ -4,7 +4,6 @@ ghost use Rattle.std.specs.Prelude.{◌≡◌, ◌&&◌, not, ℕ, Bool, List, [
 ghost use Rattle.std.specs.List.{list_any};
 ghost use Rattle.std.specs.Map.{keys_of, lookup};
 ghost use Rattle.indexmap.specs.IndexSet.{contains};
-ghost use Rattle.scope_analysis.specs.Form as form;
 ghost use Rattle.scope_analysis.specs.Identifiers.{is_reserved};
 ghost use Rattle.scope_analysis.specs.Names.{bound_names, maybe_name};
 ghost use Rattle.scope_analysis.specs.UseTables.{joined, left_by, noted, table_of, uses_in, with_name};
@@ -86,7 +85,7 @@ impl UseTable {
     }
 
     /// What its memory is of.
-    pub(crate) fn alloc(&self) -> Global {
+    pub fn alloc(&self) -> Global {
         *self.table.allocator()
     }
 
@@ -110,16 +109,16 @@ impl UseTable {
     }
 
     /// Whether the name is assigned to.
-    pub(crate) fn is_assigned(&self, name: &Units) -> bool
+    pub fn is_assigned(&self, name: &Units) -> bool
         ensures { (us : List Use) → self.now ≡ table_of us → result ≡ uses.is_assigned name.now us }
     {
         self.uses_of(name).assigns
     }
 
     /// Whether the name is assigned to once.
-    pub(crate) fn is_assigned_once(&self, name: &Units) -> bool
+    pub fn is_assigned_once(&self, name: &Units) -> bool
         ensures { (us : List Use) → self.now ≡ table_of us
-            → result ≡ form.is_assigned_once name.now us }
+            → result ≡ uses.is_assigned_once name.now us }
     {
         self.uses_of(name).is_once()
     }
@@ -138,7 +137,7 @@ impl UseTable {
     }
 
     /// Whether a name that begins with `$$` is used.
-    pub(crate) fn has_reserved_name(&self) -> bool
+    pub fn has_reserved_name(&self) -> bool
         ensures { result ≡ list_any is_reserved (keys_of self.now) }
     {
         for name in self.table.keys() {
@@ -150,7 +149,7 @@ impl UseTable {
     }
 
     /// The names that are used and begin with `$$`.
-    pub(crate) fn reserved_names(&self, alloc: Global) -> Result<Vec<Units>, OutOfMemory>
+    pub fn reserved_names(&self, alloc: Global) -> Result<Vec<Units>, OutOfMemory>
         ensures { IfOk result (λ names. names.items ≡ filter is_reserved (keys_of self.now)) }
     {
         let mut names = Vec::new(alloc);
@@ -179,7 +178,7 @@ fn note_more(table: &mut IndexMap<Units, NameUses>, name: &Units, more: NameUses
 }
 
 /// Notes a use that no function stands round.
-pub(crate) fn note_use(assigns: bool, name: &Units, out: &mut UseTable) -> Result<(), OutOfMemory>
+pub fn note_use(assigns: bool, name: &Units, out: &mut UseTable) -> Result<(), OutOfMemory>
     ensures { OnOk result (out.new ≡ noted out.old (uses.use_of assigns name.now ∷ [])) }
 {
     let uses = NameUses {
@@ -192,7 +191,7 @@ pub(crate) fn note_use(assigns: bool, name: &Units, out: &mut UseTable) -> Resul
 
 /// Notes, of the uses of a function's body, those that the function leaves to the scopes round it, where this is the own
 /// name that it may have.
-pub(crate) fn note_leaving_function(
+pub fn note_leaving_function(
     own: &Option<Units>,
     code: &Code,
     inner: &UseTable,
@@ -207,7 +206,7 @@ pub(crate) fn note_leaving_function(
 }
 
 /// Notes, of the uses of a catch clause's block, those that are not of its parameter.
-pub(crate) fn note_leaving_clause(
+pub fn note_leaving_clause(
     parameter: &Units,
     inner: &UseTable,
     out: &mut UseTable,

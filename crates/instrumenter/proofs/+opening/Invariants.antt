@@ -6,7 +6,7 @@ use Rattle.js_core.specs.Height.{cases_height, declarators_height, exprs_height,
 use Rattle.js_core.specs.Sizes.{expr_size, exprs_size, maybe_expr_size, holes_size, fields_size, code_size, stmt_size, stmts_size, maybe_stmts_size, declarators_size, for_init_size, maybe_catch_size, cases_size}
 use Rattle.js_core.specs.Tree.{exprs_of, maybe_expr, holes_of, fields_of, stmts_of, maybe_stmts}
 use Rattle.js_core.specs.Views.{declarators_of, init_of, catch_of, cases_of}
-use Rattle.scope_analysis.specs.Limits.{plain_height_limit}
+use Rattle.early_rules.specs.Limits.{plain_height_limit}
 use Rattle.instrumenter.specs.Around.{append, as_statements, assignments}
 use Rattle.instrumenter.specs.Counting.{cases_scopes, declarators_scopes, exprs_scopes, fields_scopes, holes_scopes, stmts_scopes}
 use Rattle.instrumenter.specs.Levels.{around_of}

@@ -1,4 +1,4 @@
-use Rattle.scope_analysis.specs.EarlyRules.{rule_number}
+use Rattle.early_rules.specs.EarlyRules.{rule_number}
 use Rattle.command_line.proofs.Pieces.{note_second_ok, note_second_fault, note_front, early_pieces}
 use Rattle.command_line.proofs.notes.put_early.Goals as goal
 

@@ -7,3 +7,6 @@ returns-in-Ok-open_page-clause-ok c = record {
   opens = c.in-Ok-open_page.ensures.text;
   numbered = c.in-Ok-open_page.ensures.numbered;
 }
+
+pub returns-in-Ok-open_page-clause-bare : goal.returns-in-Ok-open_page-clause-bare
+returns-in-Ok-open_page-clause-bare c = record { page = c.in-Ok.accepted.page; accepted = c.in-Ok.ensures.ok.accepted; nodes = c.in-Ok.ensures.bare }

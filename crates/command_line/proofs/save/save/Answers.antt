@@ -12,8 +12,8 @@ use Rattle.command_line.proofs.save.save.Goals as goal
 pub returns-in-Err-read_events-clause-ends : goal.returns-in-Err-read_events-clause-ends
 returns-in-Err-read_events-clause-ends g c =
     let seen = seen_between (g.F.Files.seen c.args.files.now) (g.F.Files.seen c.read_events.new.files) (g.O.Sink.seen c.args.out.now) (g.O.Sink.seen c.args.out.now) in
-    save_events c.args.page.now c.args.events.now c.in-Err-read_events.status seen c.in-Ok.page c.in-Ok.ensures.ok
-    (subst (λ (w : Told). StopsAtEvents c.in-Err-read_events.status w) (c.read_page.ensures.same c.args.events.now) c.in-Err-read_events.ensures.stops) (search rules)
+    save_events c.args.page.now c.args.events.now c.in-Err-read_events.status seen c.in-Ok.page c.in-Ok.ensures.ok c.in-Ok.ensures.bare
+    (subst (λ (w : Told). StopsAtEvents c.in-Err-read_events.status w) (c.read_bare.ensures.same c.args.events.now) c.in-Err-read_events.ensures.stops) (search rules)
 
 pub returns-clause-ends : goal.returns-clause-ends
 returns-clause-ends g c =
@@ -21,9 +21,9 @@ returns-clause-ends g c =
     save_answers c.args.page.now c.args.events.now seen c.in-Ok.page c.in-Ok-read_events.list.items
     record {
       of_page = c.in-Ok.ensures.ok;
-      of_file = subst (λ (w : Told). Of w (λ file. IsEventFile file c.in-Ok-read_events.list.items)) (c.read_page.ensures.same c.args.events.now) c.in-Ok-read_events.ensures.ok;
+      of_file = subst (λ (w : Told). Of w (λ file. IsEventFile file c.in-Ok-read_events.list.items)) (c.read_bare.ensures.same c.args.events.now) c.in-Ok-read_events.ensures.ok;
     }
-    c.save_page.result
+    c.save_page.result c.in-Ok.ensures.bare
     (subst (λ (l : List _). IsAnswer (run_of (opened c.in-Ok.page) l) (g.O.Sink.seen c.args.out.now) (g.O.Sink.seen c.save_page.new.out) c.save_page.result) c.deref.ensures.value c.save_page.ensures.answer)
 
 pub returns-clause-puts : goal.returns-clause-puts
@@ -32,7 +32,7 @@ returns-clause-puts g c =
     save_puts c.args.page.now c.args.events.now seen c.in-Ok.page c.in-Ok-read_events.list.items
     record {
       of_page = c.in-Ok.ensures.ok;
-      of_file = subst (λ (w : Told). Of w (λ file. IsEventFile file c.in-Ok-read_events.list.items)) (c.read_page.ensures.same c.args.events.now) c.in-Ok-read_events.ensures.ok;
+      of_file = subst (λ (w : Told). Of w (λ file. IsEventFile file c.in-Ok-read_events.list.items)) (c.read_bare.ensures.same c.args.events.now) c.in-Ok-read_events.ensures.ok;
     }
     record {
       one = c.law_one_answer.ensures.accepted;

@@ -4,7 +4,7 @@ use Rattle.std.proofs.lemmas.List.Elements.{All-tail}
 use Rattle.js_core.specs.Height.{stmts_height}
 use Rattle.js_core.specs.Tree as tree
 use Rattle.scope_analysis.proofs.Callers.{next_of}
-use Rattle.scope_analysis.specs.Limits.{plain_height_limit}
+use Rattle.early_rules.specs.Limits.{plain_height_limit}
 use Rattle.instrumenter.proofs.Turns.{all_counted, counted_turn, scripts_turn}
 use Rattle.instrumenter.proofs.scripts.open_scopes.Goals as goal
 

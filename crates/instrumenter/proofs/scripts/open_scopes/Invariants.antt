@@ -1,6 +1,6 @@
 use Rattle.std.proofs.Common.{◌≡◌, ◌≤◌, ◌+◌, ◌++◌, All, length}
 use Rattle.js_core.specs.Height.{stmts_height}
-use Rattle.scope_analysis.specs.Limits.{plain_height_limit}
+use Rattle.early_rules.specs.Limits.{plain_height_limit}
 use Rattle.instrumenter.specs.Counting.{scripts_scopes}
 use Rattle.instrumenter.specs.Opening.{open_from, open_scripts}
 use Rattle.instrumenter.proofs.scripts.open_scopes.Given as goal

@@ -1,7 +1,7 @@
 use Rattle.std.proofs.Common.{◌≡◌, ◌≤◌, ◌+◌, true, length}
 use Rattle.js_core.specs.Height.{stmts_height}
 use Rattle.js_core.specs.Tree.{stmts_of}
-use Rattle.scope_analysis.specs.Limits.{plain_height_limit}
+use Rattle.early_rules.specs.Limits.{plain_height_limit}
 use Rattle.instrumenter.specs.Around.{append, top}
 use Rattle.instrumenter.specs.Counting.{stmts_scopes}
 use Rattle.instrumenter.specs.Opening.{open_tops}

@@ -1,0 +1,5 @@
+pub mod EarlyRules
+pub mod FormNodes
+pub mod Jumps
+pub mod Limits
+pub mod NodeTests

@@ -1,9 +1,0 @@
-use Rattle.std.proofs.Common.{◌≡◌, length}
-use Rattle.page_check.specs.Frame.{begins_in_any_case}
-use Rattle.page_check.proofs.frame.begins_in_any_case.Given as goal
-
-abbrev pub invariant-loop-codes : goal.invariant-loop-codes
-invariant-loop-codes l = begins_in_any_case l.codes l.text ≡ begins_in_any_case l.fn.codes l.fn.text
-
-abbrev pub decreases-loop-codes : goal.decreases-loop-codes
-decreases-loop-codes l = length l.codes

@@ -1,9 +1,0 @@
-use Rattle.std.proofs.Common.{◌≡◌, ◌++◌, length}
-use Rattle.page_check.specs.Frame.{with_line_feeds}
-use Rattle.page_check.proofs.frame.with_line_feeds.Given as goal
-
-abbrev pub invariant-loop-rest : goal.invariant-loop-rest
-invariant-loop-rest l = l.lines.items ++ with_line_feeds l.rest ≡ with_line_feeds l.text
-
-abbrev pub decreases-loop-rest : goal.decreases-loop-rest
-decreases-loop-rest l = length l.rest

@@ -1,0 +1,4 @@
+pub mod Callees
+pub mod Callers
+pub mod LowFunctions
+pub mod Steps

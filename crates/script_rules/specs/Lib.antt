@@ -1,0 +1,4 @@
+pub mod Form
+pub mod FormScripts
+pub mod ScopeTests
+pub mod Variables
