@@ -1,6 +1,6 @@
 //! Rows of listeners and events (DOM Level 2 Events, interfaces EventTarget, DocumentEvent and Event).
 
-use crate::tests::{callback, document, event, node, text};
+use crate::tests::{document, event, node, text};
 use js_core::Units;
 use js_values::{Throw, Value};
 use page_host::Listener;
@@ -55,7 +55,7 @@ fn listener_of(state: &mut State, this: &Value, args: &[Value]) -> Result<Listen
     let node = node(state, this)?;
     let kind = text(state, args, 0)?;
     let function = argument(args, 1)?;
-    let call = callback(state, &function)?;
+    let call = state.callback(&function)?;
     let capture = is_true(&argument(args, 2)?);
     Ok(Listener {
         node,

@@ -8,4 +8,3 @@ mod rows;
 mod tests;
 
 pub use rows::row;
-pub use tests::callback;

@@ -1,8 +1,7 @@
 //! Rows that move nodes, and those of the document (DOM Level 2 Core, interfaces Node and Document).
 
-use crate::tests::{document, event, node, text};
+use crate::tests::{document, node, text};
 use dom_tree::DomError;
-use js_core::{OutOfMemory, Units};
 use js_values::{NodeId, Throw, Value};
 use page_state::{Fault, State, argument};
 

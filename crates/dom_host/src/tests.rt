@@ -1,8 +1,5 @@
 //! What the rows ask of `this` and of arguments.
 
-ghost use Rattle.std.specs.Prelude.{◌≡◌};
-ghost use Rattle.page_meaning.specs.FunctionRows.{is_callable};
-
 use dom_tree::Kind;
 use js_core::Units;
 use js_values::{NodeId, ObjId, Throw, Value};
@@ -40,16 +37,6 @@ pub(crate) fn document(state: &mut State, value: &Value) -> Result<(), Fault> {
 pub(crate) fn event(state: &mut State, value: &Value) -> Result<ObjId, Fault> {
     if let Value::Object(at) = value {
         if state.event_parts(*at).is_some() {
-            return Ok(*at);
-        }
-    }
-    Err(state.raise(Throw::WrongArgument))
-}
-
-/// The function that a value is.
-pub fn callback(state: &mut State, value: &Value) -> Result<ObjId, Fault> {
-    if let Value::Object(at) = value {
-        if state.is_function(value) {
             return Ok(*at);
         }
     }

@@ -6,15 +6,33 @@ ghost use Rattle.page_meaning.specs.Dispatch as dispatch;
 ghost use Rattle.page_meaning.specs.Primitives.{changes_host};
 ghost use Rattle.page_state.specs.Does.{Does};
 
+use crate::fault::Fault;
 use crate::state::State;
-use js_core::OutOfMemory;
-use js_values::{NodeId, ObjId, Value};
-use page_host::{Listener, Place};
+use js_core::{OutOfMemory, Units};
+use js_values::{NodeId, ObjId, Throw, Value};
+use page_host::{HostName, Listener, Place};
 
 // No number of the language is greater.
 const TIME_LIMIT: u64 = 9_007_199_254_740_991;
 
 impl State {
+    /// The value of the node becomes the text, where it is an input or a textarea.
+    pub fn set_input(&mut self, node: NodeId, text: Units) {
+        if self.host.has_name(node, HostName::Value) {
+            self.host.set_value(node, text);
+        }
+    }
+
+    /// The function that a value is. Anything else is a wrong argument.
+    pub fn callback(&mut self, value: &Value) -> Result<ObjId, Fault> {
+        if let Value::Object(at) = value {
+            if self.is_function(value) {
+                return Ok(*at);
+            }
+        }
+        Err(self.raise(Throw::WrongArgument))
+    }
+
     /// A listener is added, where it is not there yet. What cannot be called is not.
     pub fn listen(&mut self, listener: Listener) -> Result<(), OutOfMemory>
         ensures { OnOk result (Does (λ _. changes_host (listens listener)) self.old tt self.new) }

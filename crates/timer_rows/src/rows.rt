@@ -4,8 +4,6 @@ ghost use Rattle.std.specs.Prelude.{◌≡◌};
 ghost use Rattle.page_meaning.specs.TimerRows as spec;
 ghost use Rattle.page_state.specs.Does.{Gives, itself};
 
-use dom_host::callback;
-use js_core::{OutOfMemory, Whole};
 use js_values::{BuiltIn, ObjId, Throw, Value};
 use page_state::{Fault, State, argument, index_value};
 
@@ -52,7 +50,7 @@ fn clear(state: &mut State, args: &[Value]) -> Result<Value, Fault> {
 // The function, and no more than so many arguments.
 fn function_of(state: &mut State, args: &[Value], most: usize) -> Result<ObjId, Fault> {
     let value = argument(args, 0)?;
-    let function = callback(state, &value)?;
+    let function = state.callback(&value)?;
     if args.len() <= most {
         Ok(function)
     } else {
