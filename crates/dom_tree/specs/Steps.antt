@@ -1,5 +1,5 @@
 -- What is done to nodes, one thing after another. What does not fit changes nothing, so that whatever is done keeps the nodes sound.
-use Rattle.std.specs.Prelude.{Bool, true, ◌&&◌, List, [], ◌∷◌, Option, length, is_none, nat_lt, if◌then◌else◌}
+use Rattle.std.specs.Prelude.{Bool, true, ◌&&◌, Option, length, is_none, nat_lt, if◌then◌else◌}
 use Rattle.js_core.specs.Text.{Text}
 use Rattle.js_values.specs.declared.ids.NodeId.{NodeId}
 use Rattle.dom_tree.specs.declared.content.Content.{Content}
@@ -26,13 +26,13 @@ pub data NodeStep : Type 0 where
 abbrev pub is_there : Nodes → NodeId → Bool
 is_there t k = nat_lt k.0 (length t)
 
--- whether it fits: the child is there and not refused; the node is of a kind that has such a part
+-- whether it fits: the node is there, and is not refused or is of a kind that has such a part
 abbrev pub fits : Nodes → NodeStep → Bool
 fits t (inserts p c before) = is_there t c && is_none (insertion_error t p c before)
 fits t (replaces p c old) = is_there t c && is_none (replacement_error t p c old)
 fits t (takes_out c) = true
 fits t (empties k) = true
-fits t (sets_text k x) = has_text (kind_at t k.0)
+fits t (sets_text k x) = is_there t k && has_text (kind_at t k.0)
 fits t (sets_value k x) = takes_value (kind_at t k.0)
 fits t (sets_attribute k name x) = is_element (kind_at t k.0) && is_name name
 fits t (drops_attribute k name) = is_element (kind_at t k.0)

@@ -113,6 +113,7 @@ impl Dom {
         ensures { self.new ≡ all_taken_out self.old (children_at self.old node.0) }
     {
         while let Some(child) = self.first_child(node) {
+            self.recall_sound();
             self.take_out(child);
         }
     }

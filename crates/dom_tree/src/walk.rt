@@ -113,7 +113,8 @@ impl Dom {
     {
         let mut nodes = Vec::new(alloc);
         let mut at = self.parent(node);
-        for _ in 0..self.count() {
+        let count = self.count();
+        for step in 0..count {
             let Some(parent) = at else {
                 return Ok(nodes);
             };

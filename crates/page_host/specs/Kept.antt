@@ -10,6 +10,6 @@ abbrev pub host_of : Nodes → List ObjId → List Listener → List Live → �
 host_of t objects ls ts clock = record { nodes = t; objects = objects; listeners = ls; timers = ts; clock = clock }
 
 -- each node has an object, and no moment that is added to the clock is too late
-pub record IsKept (t : Nodes) (objects : List ObjId) (clock : ℕ) : Type 0 where
-  pub objects : length objects ≡ length t
-  pub early : clock < 2 ^ 60
+pub record IsKept (t : Nodes) (ats : List ObjId) (now : ℕ) : Type 0 where
+  pub objects : length ats ≡ length t
+  pub early : now < 2 ^ 60

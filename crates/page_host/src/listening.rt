@@ -123,9 +123,11 @@ fn push_falling(above: &[NodeId], places: &mut Vec<Place>) -> Result<(), OutOfMe
     ensures { OnOk result (places.new.items ≡ places.old.items
         ++ map (in_phase phase.Capturing) (reverse above.now)) }
 {
-    for node in above.iter().rev() {
+    let mut left = above.len();
+    while left > 0 {
+        left -= 1;
         places.push(Place {
-            node: *node,
+            node: above[left],
             phase: Phase::Capturing,
         })?;
     }

@@ -115,7 +115,7 @@ fn node_type(dom: &Dom, node: NodeId) -> Whole
 }
 
 fn text_or_null(text: Option<&Units>) -> Result<Value, OutOfMemory>
-    ensures { IfOk result (λ value. value ≡ text_or_null (option_copied text)) }
+    ensures { IfOk result (λ value. value ≡ text_or_null (option_copied text.entry)) }
 {
     match text {
         Some(text) => Ok(Value::Text(text.clone()?)),
