@@ -1,5 +1,11 @@
 //! Rows of listeners and events (DOM Level 2 Events, interfaces EventTarget, DocumentEvent and Event).
 
+ghost use Rattle.std.specs.Prelude.{◌≡◌, List};
+ghost use Rattle.js_values.specs.declared.built_in.BuiltIn.TheVariants as built_in;
+ghost use Rattle.js_values.specs.declared.value.Value.{Value};
+ghost use Rattle.page_meaning.specs.NodeRows.{node_row};
+ghost use Rattle.page_state.specs.Does.{Gives, itself};
+
 use crate::tests::{document, event, node, text};
 use js_core::Units;
 use js_values::{Throw, Value};
@@ -12,7 +18,10 @@ pub(crate) fn create_event(
     state: &mut State,
     this: &Value,
     args: &[Value],
-) -> Result<Value, Fault> {
+) -> Result<Value, Fault>
+    ensures { Gives itself (λ calls. node_row calls built_in.NodePrototypeCreateEvent this.now args.now)
+        state.old state.new result }
+{
     document(state, this)?;
     let kind = text(state, args, 0)?;
     if is_event_word(&kind) {
@@ -70,7 +79,10 @@ pub(crate) fn add_listener(
     state: &mut State,
     this: &Value,
     args: &[Value],
-) -> Result<Value, Fault> {
+) -> Result<Value, Fault>
+    ensures { Gives itself (λ calls. node_row calls built_in.NodePrototypeAddEventListener this.now args.now)
+        state.old state.new result }
+{
     let listener = listener_of(state, this, args)?;
     state.listen(listener)?;
     Ok(Value::Undefined)
@@ -81,14 +93,20 @@ pub(crate) fn remove_listener(
     state: &mut State,
     this: &Value,
     args: &[Value],
-) -> Result<Value, Fault> {
+) -> Result<Value, Fault>
+    ensures { Gives itself (λ calls. node_row calls built_in.NodePrototypeRemoveEventListener this.now args.now)
+        state.old state.new result }
+{
     let listener = listener_of(state, this, args)?;
     state.forget(&listener);
     Ok(Value::Undefined)
 }
 
 /// `initEvent`
-pub(crate) fn init_event(state: &mut State, this: &Value, args: &[Value]) -> Result<Value, Fault> {
+pub(crate) fn init_event(state: &mut State, this: &Value, args: &[Value]) -> Result<Value, Fault>
+    ensures { Gives itself (λ calls. node_row calls built_in.EventPrototypeInitEvent this.now args.now)
+        state.old state.new result }
+{
     let at = event(state, this)?;
     let kind = text(state, args, 0)?;
     let bubbles = is_true(&argument(args, 1)?);
@@ -98,14 +116,20 @@ pub(crate) fn init_event(state: &mut State, this: &Value, args: &[Value]) -> Res
 }
 
 /// `stopPropagation`
-pub(crate) fn stop_propagation(state: &mut State, this: &Value) -> Result<Value, Fault> {
+pub(crate) fn stop_propagation(state: &mut State, this: &Value) -> Result<Value, Fault>
+    ensures { (vs : List Value) → Gives itself (λ calls. node_row calls built_in.EventPrototypeStopPropagation this.now vs)
+        state.old state.new result }
+{
     let at = event(state, this)?;
     state.stop_propagation(at);
     Ok(Value::Undefined)
 }
 
 /// `preventDefault`
-pub(crate) fn prevent_default(state: &mut State, this: &Value) -> Result<Value, Fault> {
+pub(crate) fn prevent_default(state: &mut State, this: &Value) -> Result<Value, Fault>
+    ensures { (vs : List Value) → Gives itself (λ calls. node_row calls built_in.EventPrototypePreventDefault this.now vs)
+        state.old state.new result }
+{
     let at = event(state, this)?;
     state.prevent_default(at);
     Ok(Value::Undefined)

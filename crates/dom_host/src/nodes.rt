@@ -1,5 +1,11 @@
 //! Rows that move nodes, and those of the document (DOM Level 2 Core, interfaces Node and Document).
 
+ghost use Rattle.std.specs.Prelude.{◌≡◌, List};
+ghost use Rattle.js_values.specs.declared.built_in.BuiltIn.TheVariants as built_in;
+ghost use Rattle.js_values.specs.declared.value.Value.{Value};
+ghost use Rattle.page_meaning.specs.NodeRows.{node_row};
+ghost use Rattle.page_state.specs.Does.{Gives, itself};
+
 use crate::tests::{document, node, text};
 use dom_tree::DomError;
 use js_values::{NodeId, Throw, Value};
@@ -10,7 +16,10 @@ pub(crate) fn insert_before(
     state: &mut State,
     this: &Value,
     args: &[Value],
-) -> Result<Value, Fault> {
+) -> Result<Value, Fault>
+    ensures { Gives itself (λ calls. node_row calls built_in.NodePrototypeInsertBefore this.now args.now)
+        state.old state.new result }
+{
     let parent = node(state, this)?;
     let given = argument(args, 0)?;
     let child = node(state, &given)?;
@@ -22,7 +31,10 @@ pub(crate) fn insert_before(
 }
 
 /// `appendChild`
-pub(crate) fn append_child(state: &mut State, this: &Value, args: &[Value]) -> Result<Value, Fault> {
+pub(crate) fn append_child(state: &mut State, this: &Value, args: &[Value]) -> Result<Value, Fault>
+    ensures { Gives itself (λ calls. node_row calls built_in.NodePrototypeAppendChild this.now args.now)
+        state.old state.new result }
+{
     let parent = node(state, this)?;
     let given = argument(args, 0)?;
     let child = node(state, &given)?;
@@ -46,7 +58,10 @@ pub(crate) fn replace_child(
     state: &mut State,
     this: &Value,
     args: &[Value],
-) -> Result<Value, Fault> {
+) -> Result<Value, Fault>
+    ensures { Gives itself (λ calls. node_row calls built_in.NodePrototypeReplaceChild this.now args.now)
+        state.old state.new result }
+{
     let parent = node(state, this)?;
     let child = argument(args, 0)?;
     let child = node(state, &child)?;
@@ -57,7 +72,10 @@ pub(crate) fn replace_child(
 }
 
 /// `removeChild`
-pub(crate) fn remove_child(state: &mut State, this: &Value, args: &[Value]) -> Result<Value, Fault> {
+pub(crate) fn remove_child(state: &mut State, this: &Value, args: &[Value]) -> Result<Value, Fault>
+    ensures { Gives itself (λ calls. node_row calls built_in.NodePrototypeRemoveChild this.now args.now)
+        state.old state.new result }
+{
     let parent = node(state, this)?;
     let given = argument(args, 0)?;
     let child = node(state, &given)?;
@@ -66,7 +84,10 @@ pub(crate) fn remove_child(state: &mut State, this: &Value, args: &[Value]) -> R
 }
 
 /// `hasChildNodes`
-pub(crate) fn has_child_nodes(state: &mut State, this: &Value) -> Result<Value, Fault> {
+pub(crate) fn has_child_nodes(state: &mut State, this: &Value) -> Result<Value, Fault>
+    ensures { (vs : List Value) → Gives itself (λ calls. node_row calls built_in.NodePrototypeHasChildNodes this.now vs)
+        state.old state.new result }
+{
     let parent = node(state, this)?;
     Ok(Value::Bool(state.host().dom().first_child(parent).is_some()))
 }
@@ -86,7 +107,10 @@ fn unless_refused(
 }
 
 /// `getElementById`
-pub(crate) fn get_by_id(state: &mut State, this: &Value, args: &[Value]) -> Result<Value, Fault> {
+pub(crate) fn get_by_id(state: &mut State, this: &Value, args: &[Value]) -> Result<Value, Fault>
+    ensures { Gives itself (λ calls. node_row calls built_in.NodePrototypeGetElementById this.now args.now)
+        state.old state.new result }
+{
     document(state, this)?;
     let id = text(state, args, 0)?;
     match state.host().dom().find_id(&id) {
@@ -100,7 +124,10 @@ pub(crate) fn create_element(
     state: &mut State,
     this: &Value,
     args: &[Value],
-) -> Result<Value, Fault> {
+) -> Result<Value, Fault>
+    ensures { Gives itself (λ calls. node_row calls built_in.NodePrototypeCreateElement this.now args.now)
+        state.old state.new result }
+{
     document(state, this)?;
     let name = text(state, args, 0)?;
     match state.make_element(&name)? {
@@ -110,7 +137,10 @@ pub(crate) fn create_element(
 }
 
 /// `createTextNode`
-pub(crate) fn create_text(state: &mut State, this: &Value, args: &[Value]) -> Result<Value, Fault> {
+pub(crate) fn create_text(state: &mut State, this: &Value, args: &[Value]) -> Result<Value, Fault>
+    ensures { Gives itself (λ calls. node_row calls built_in.NodePrototypeCreateTextNode this.now args.now)
+        state.old state.new result }
+{
     document(state, this)?;
     let words = text(state, args, 0)?;
     Ok(Value::Object(state.make_text(&words)?))
@@ -121,7 +151,10 @@ pub(crate) fn create_comment(
     state: &mut State,
     this: &Value,
     args: &[Value],
-) -> Result<Value, Fault> {
+) -> Result<Value, Fault>
+    ensures { Gives itself (λ calls. node_row calls built_in.NodePrototypeCreateComment this.now args.now)
+        state.old state.new result }
+{
     document(state, this)?;
     let words = text(state, args, 0)?;
     Ok(Value::Object(state.make_comment(&words)?))

@@ -1,6 +1,7 @@
 pub mod CodedStore
 pub mod Does
 pub mod Entry
+pub mod Finding
 pub mod Functions
 pub mod Globals
 pub mod LineTexts

@@ -2,13 +2,16 @@
 
 ghost use Rattle.std.specs.Prelude.{◌≡◌, ◌<◌, IfOk, OnOk, length};
 ghost use Rattle.std.specs.Option.{option_copied};
-ghost use Rattle.page_meaning.specs.Classes.{class_of};
+ghost use Rattle.js_values.specs.declared.value.Value.TheVariants.{Object};
+ghost use Rattle.page_host.specs.Paths.{phase_number as spec_phase};
+ghost use Rattle.page_meaning.specs.Classes.{class_at, class_of, is_node_class};
 ghost use Rattle.page_meaning.specs.Dispatch as dispatch;
 ghost use Rattle.page_meaning.specs.Events as spec;
 ghost use Rattle.page_meaning.specs.NodeRows.{parts_in};
 ghost use Rattle.page_meaning.specs.Primitives.{changes_event, make_event as spec_make};
 ghost use Rattle.page_meaning.specs.Tasks.{settled};
 ghost use Rattle.page_state.specs.Does.{Does};
+ghost use Rattle.page_state.specs.Finding.{node_of as spec_node};
 
 use crate::places::EVENT_PROTOTYPE;
 use crate::state::State;
@@ -182,7 +185,8 @@ impl State {
         ensures { self.new ≡ settled self.old }
     {
         for index in 0..self.dispatches.len() {
-            self.rest(self.dispatches[index]);
+            let at = self.dispatches[index];
+            self.rest(at);
         }
         self.dispatches.clear();
     }
@@ -218,12 +222,16 @@ impl State {
     }
 
     /// Whether an object is that of a node that is there.
-    pub fn is_node(&self, at: ObjId) -> bool {
+    pub fn is_node(&self, at: ObjId) -> bool
+        ensures { result ≡ is_node_class self.now.host.nodes (class_at self.now at) }
+    {
         self.node_of(&Value::Object(at)).is_some()
     }
 
     /// The node that a value is, where it is there.
-    pub fn node_of(&self, value: &Value) -> Option<NodeId> {
+    pub fn node_of(&self, value: &Value) -> Option<NodeId>
+        ensures { result ≡ spec_node self.now value.now }
+    {
         let Value::Object(at) = value else {
             return None;
         };
@@ -258,7 +266,9 @@ fn is_stopped(phase: u8) -> bool
     (phase >= STOPPED && phase < PREVENTED) || phase >= STOPPED + PREVENTED
 }
 
-fn phase_number(phase: Phase) -> u8 {
+fn phase_number(phase: Phase) -> u8
+    ensures { result ≡ spec_phase phase }
+{
     match phase {
         Phase::Capturing => 1,
         Phase::AtTarget => 2,

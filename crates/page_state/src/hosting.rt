@@ -1,10 +1,13 @@
 //! Listeners, timers and the clock of a page.
 
-ghost use Rattle.std.specs.Prelude.{◌≡◌, ◌<◌, ◌^◌, IfOk, OnOk, option_map};
+ghost use Rattle.std.specs.Prelude.{◌≡◌, ◌<◌, ◌^◌, IfOk, OnOk, is_some, length, option_map};
+ghost use Rattle.page_host.specs.Paths.{event_path};
 ghost use Rattle.page_host.specs.Steps.{clears, clock_at, fires, forgets, listens, next_timer, starts};
 ghost use Rattle.page_meaning.specs.Dispatch as dispatch;
+ghost use Rattle.page_meaning.specs.Pages.{with_input};
 ghost use Rattle.page_meaning.specs.Primitives.{changes_host};
 ghost use Rattle.page_state.specs.Does.{Does};
+ghost use Rattle.page_state.specs.Finding.{Finds, function_of};
 
 use crate::fault::Fault;
 use crate::state::State;
@@ -17,14 +20,18 @@ const TIME_LIMIT: u64 = 9_007_199_254_740_991;
 
 impl State {
     /// The value of the node becomes the text, where it is an input or a textarea.
-    pub fn set_input(&mut self, node: NodeId, text: Units) {
+    pub fn set_input(&mut self, node: NodeId, text: Units)
+        ensures { self.new ≡ with_input text node self.old }
+    {
         if self.host.has_name(node, HostName::Value) {
             self.host.set_value(node, text);
         }
     }
 
     /// The function that a value is. Anything else is a wrong argument.
-    pub fn callback(&mut self, value: &Value) -> Result<ObjId, Fault> {
+    pub fn callback(&mut self, value: &Value) -> Result<ObjId, Fault>
+        ensures { Finds (function_of self.old value.now) self.old self.new result }
+    {
         if let Value::Object(at) = value {
             if self.is_function(value) {
                 return Ok(*at);
@@ -61,10 +68,11 @@ impl State {
     }
 
     /// The way of an event at the node.
-    pub fn path(&self, node: NodeId, bubbles: bool) -> Result<Vec<Place>, OutOfMemory> {
-        if node.0 >= self.host.dom().count() {
-            return Ok(Vec::new(self.alloc()));
-        }
+    pub fn path(&self, node: NodeId, bubbles: bool) -> Result<Vec<Place>, OutOfMemory>
+        requires { node.0 < length self.now.host.nodes }
+        ensures { IfOk result (λ places. places.items ≡ event_path self.now.host.nodes node
+            bubbles) }
+    {
         self.host.path(self.alloc(), node, bubbles)
     }
 
@@ -92,7 +100,9 @@ impl State {
     }
 
     /// Whether a timer is due up to the moment.
-    pub fn is_timer_due(&self, moment: u64) -> bool {
+    pub fn is_timer_due(&self, moment: u64) -> bool
+        ensures { result ≡ is_some (next_timer self.now.host moment) }
+    {
         self.host.timers().iter().any(|timer| timer.due <= moment)
     }
 

@@ -188,7 +188,7 @@ fn names_handler(name: &Units) -> bool
     ensures { result ≡ is_handler (folded name.now) }
 {
     match name.as_slice() {
-        [first, second, ..] => matches!(first, 0x4f | 0x6f) && matches!(second, 0x4e | 0x6e),
+        [first, second, ..] => matches!(*first, 0x4f | 0x6f) && matches!(*second, 0x4e | 0x6e),
         _ => false,
     }
 }

@@ -12,7 +12,6 @@ use crate::state::State;
 use dom_tree::Kind;
 use js_core::{OutOfMemory, Units};
 use js_values::{NodeId, ObjId, Throw, Value};
-use object_heap::Class;
 use page_host::HostName;
 
 // What a put to a host name of a node does first.
@@ -71,10 +70,9 @@ impl State {
 
     // An object takes a host name of its own.
     fn host_put(&mut self, at: ObjId, name: HostName, value: &Value) -> Result<(), Fault> {
-        let Class::Node(node) = self.class(at) else {
+        let Some(node) = self.node_of(&Value::Object(at)) else {
             return Err(self.raise(Throw::CannotSet));
         };
-        let node = *node;
         match self.taking(node, name) {
             Taking::Nothing => Ok(()),
             Taking::Refused => Err(self.raise(Throw::CannotSet)),

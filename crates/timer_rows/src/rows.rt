@@ -30,14 +30,14 @@ fn set_timeout(state: &mut State, args: &[Value]) -> Result<Value, Fault> {
 // An interval comes first after its period.
 fn set_interval(state: &mut State, args: &[Value]) -> Result<Value, Fault> {
     let function = function_of(state, args, 2)?;
-    let period = time(state, args, 1)?.max(1);
+    let period = at_least_one(time(state, args, 1)?);
     start(state, period, Some(period), function)
 }
 
 fn set_interval_from(state: &mut State, args: &[Value]) -> Result<Value, Fault> {
     let function = function_of(state, args, 3)?;
     let delay = time(state, args, 1)?;
-    let period = time(state, args, 2)?.max(1);
+    let period = at_least_one(time(state, args, 2)?);
     start(state, delay, Some(period), function)
 }
 
@@ -66,6 +66,11 @@ fn time(state: &mut State, args: &[Value], index: usize) -> Result<u64, Fault> {
         Some(n) => Ok(if n < 0 { 0 } else { n as u64 }),
         None => Ok(0),
     }
+}
+
+// A period is at least 1.
+fn at_least_one(period: u64) -> u64 {
+    if period < 1 { 1 } else { period }
 }
 
 // The timer starts and gives its id, where not as many are live as may be.
