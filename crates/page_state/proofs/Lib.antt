@@ -4,6 +4,7 @@ pub mod Callers
 pub mod Chains
 pub mod Does
 pub mod Entering
+pub mod Finding
 pub mod InTurn
 pub mod Joined
 pub mod LineTexts

@@ -13,7 +13,7 @@ use crate::fault::Fault;
 use crate::state::State;
 use js_core::{OutOfMemory, Units};
 use js_values::{NodeId, ObjId, Throw, Value};
-use page_host::{HostName, Listener, Place};
+use page_host::{HostName, Listener, Phase, Place};
 
 // No number of the language is greater.
 const TIME_LIMIT: u64 = 9_007_199_254_740_991;
@@ -69,11 +69,23 @@ impl State {
 
     /// The way of an event at the node.
     pub fn path(&self, node: NodeId, bubbles: bool) -> Result<Vec<Place>, OutOfMemory>
-        requires { node.0 < length self.now.host.nodes }
         ensures { IfOk result (λ places. places.items ≡ event_path self.now.host.nodes node
             bubbles) }
     {
+        if node.0 >= self.host.dom().count() {
+            return self.alone(node);
+        }
         self.host.path(self.alloc(), node, bubbles)
+    }
+
+    // The way to a node that is not there, which no node stands above.
+    fn alone(&self, node: NodeId) -> Result<Vec<Place>, OutOfMemory> {
+        let mut places = Vec::new(self.alloc());
+        places.push(Place {
+            node,
+            phase: Phase::AtTarget,
+        })?;
+        Ok(places)
     }
 
     /// Starts a timer and gives its id, or `None` exactly where as many are live as may be.
