@@ -1,7 +1,7 @@
 -- Meaning: the ages of the built-in objects. `window` comes first, then `Object.prototype`, then `Function.prototype`; the others get their
 -- ages by a walk that begins at `window`: it goes through the own properties of an object in order, and at once into each object that one
 -- of them holds, unless it was walked before.
-use Rattle.std.specs.Prelude.{◌≡◌, ℕ, zero, suc, Bool, not, List, [], ◌∷◌, ◌++◌, filter, length, nat_eq, nat_lt, if◌then◌else◌}
+use Rattle.std.specs.Prelude.{◌≡◌, ℕ, zero, suc, ◌+◌, Bool, not, List, [], ◌∷◌, ◌++◌, filter, length, nat_eq, nat_lt, if◌then◌else◌}
 use Rattle.std.specs.List.{list_any}
 use Rattle.js_values.specs.declared.built_in.BuiltIn.{BuiltIn}
 use Rattle.js_values.specs.declared.value.Value.{Value}

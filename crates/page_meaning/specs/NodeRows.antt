@@ -1,6 +1,6 @@
 -- Meaning: what the prototypes of nodes and events hold (DOM Level 2 Core and Events), but for dispatch. In each row `this` is tested first,
 -- then the nodes among the arguments from the left, then the arguments are converted from the left, and then all else.
-use Rattle.std.specs.Prelude.{ℕ, Bool, not, List, [], ◌∷◌, Option, Some, None, is_some, codes, bytes_eq}
+use Rattle.std.specs.Prelude.{ℕ, Bool, not, List, [], ◌∷◌, Option, Some, None, is_some, codes, bytes_eq, if◌then◌else◌}
 use Rattle.std.specs.List.{list_any}
 use Rattle.js_core.specs.Text.{Text}
 use Rattle.js_values.specs.declared.built_in.BuiltIn.{BuiltIn}

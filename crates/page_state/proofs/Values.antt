@@ -9,7 +9,8 @@ use Rattle.js_values.specs.declared.value.Value.TheVariants.{Undefined, Null, Bo
 use Rattle.page_meaning.specs.Act.{give}
 use Rattle.page_meaning.specs.Convert.{a_number, number_of, to_number, to_primitive}
 use Rattle.page_meaning.specs.Errors.{raise, settle}
-use Rattle.page_meaning.specs.Properties.{put_member, with_properties}
+use Rattle.page_meaning.specs.HostPuts.{put_member}
+use Rattle.page_meaning.specs.Properties.{with_properties}
 use Rattle.page_meaning.specs.Store.{Store}
 use Rattle.js_core.specs.declared.memory.Failure.{Failure}
 use Rattle.page_state.specs.Does.{Raises, itself}

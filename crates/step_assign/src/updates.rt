@@ -3,7 +3,8 @@
 ghost use Rattle.std.specs.Prelude.{◌≡◌};
 ghost use Rattle.page_meaning.specs.Act.{also};
 ghost use Rattle.page_meaning.specs.Operators.{update_with};
-ghost use Rattle.page_meaning.specs.Properties.{put_member, read_property};
+ghost use Rattle.page_meaning.specs.HostPuts.{put_member};
+ghost use Rattle.page_meaning.specs.Properties.{read_property};
 ghost use Rattle.page_frames.specs.RestProperties as spec;
 ghost use Rattle.page_state.specs.Does.{Gives, itself};
 
