@@ -1,16 +1,14 @@
 -- What holds of the host of a page between two things that are done to it.
-use Rattle.std.specs.Prelude.{◌≡◌, ℕ, ◌<◌, Bool, true, false, not, ◌&&◌, List, [], ◌∷◌, Option, Some, None, is_some, length, nat_lt, IsTrue}
-use Rattle.std.specs.List.{list_all, list_any}
-use Rattle.js_values.specs.declared.ids.NodeId.{NodeId}
+use Rattle.std.specs.Prelude.{◌≡◌, ℕ, ◌<◌, Bool, true, false, not, ◌&&◌, List, [], ◌∷◌, Option, Some, None, is_some, length, IsTrue}
+use Rattle.std.specs.List.{list_all}
 use Rattle.js_values.specs.declared.ids.ObjId.{ObjId}
-use Rattle.dom_tree.specs.Node.{Nodes}
 use Rattle.dom_tree.specs.Sound as nodes
 use Rattle.dom_tree.specs.Steps.{is_there}
 use Rattle.object_heap.specs.declared.object.Class.TheVariants.{Node}
 use Rattle.object_heap.specs.declared.object.EventParts.{EventParts}
 use Rattle.object_heap.specs.Object.{Object}
 use Rattle.timer_queue.specs.declared.timer.Live.{Live}
-use Rattle.timer_queue.specs.Timers.{IsIn, timer_limit}
+use Rattle.timer_queue.specs.Timers.{IsIn}
 use Rattle.timer_queue.specs.Timely.{AreTimely}
 use Rattle.page_host.specs.declared.listener.Listener.{Listener}
 use Rattle.page_host.specs.Host.{document_of, object_of_node}

@@ -1,5 +1,5 @@
 -- The shapes of objects: what each object of a page keeps from its maker on, whatever scripts do to it.
-use Rattle.std.specs.Prelude.{◌≡◌, ℕ, ◌-◌, ◌<◌, ◌≤◌, Bool, true, false, ◌∷◌, ◌++◌, Option, Some, None, is_none, length, IsTrue, ⊤}
+use Rattle.std.specs.Prelude.{◌≡◌, ℕ, ◌-◌, ◌<◌, Bool, true, false, ◌∷◌, ◌++◌, Option, Some, None, is_none, length, IsTrue, ⊤}
 use Rattle.std.specs.List.{list_all}
 use Rattle.code_table.specs.Declarations.{formals_of}
 use Rattle.js_values.specs.declared.ids.ObjId.{ObjId}

@@ -1,6 +1,4 @@
 -- What a dispatch that waits for a listener has yet to do (DOM Level 2 Events, section 1.2).
-use Rattle.std.specs.Prelude.{List}
-use Rattle.page_host.specs.declared.listener.Listener.{Listener}
 use Rattle.page_meaning.specs.declared.signal.Signal.{Signal}
 use Rattle.page_meaning.specs.Act.{Act, Calls, bind}
 use Rattle.page_meaning.specs.Dispatch.{run_listeners, visit_places}

@@ -1,5 +1,5 @@
 -- The built-in objects are by age, each function at its place.
-use Rattle.std.specs.Prelude.{◌≡◌, refl}
+use Rattle.std.specs.Prelude.{refl}
 use Rattle.js_values.specs.declared.built_in.BuiltIn.{BuiltIn}
 use Rattle.js_values.specs.declared.built_in.BuiltIn.TheVariants as built_in
 use Rattle.page_meaning.specs.Ages.{AreByAge, AreCounted, IsPlaced}

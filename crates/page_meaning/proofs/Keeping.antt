@@ -1,29 +1,28 @@
 -- What tasks and host events keep.
-use Rattle.std.specs.Prelude.{◌≡◌, refl, ℕ, zero, suc, List, [], ◌∷◌, ◌++◌, Option, Some, None, true, false, length}
+use Rattle.std.specs.Prelude.{◌≡◌, refl, ℕ, List, [], ◌∷◌, Option, Some, None, true, false, length}
 use Rattle.std.proofs.Common.{sym, ap, subst, ◌∙◌}
 use Rattle.js_core.specs.Text.{Text}
 use Rattle.js_core.specs.Tree as tree
 use Rattle.js_values.specs.declared.event.Event.{Event}
 use Rattle.js_values.specs.declared.event.Event.TheVariants as event
 use Rattle.js_values.specs.declared.ids.NodeId.{NodeId}
-use Rattle.js_values.specs.declared.line.Line.{Line}
-use Rattle.js_values.specs.declared.line.LineKind.TheVariants.{Uncaught, Stopped as StoppedLine, Dom, NoElement}
+use Rattle.js_values.specs.declared.line.LineKind.TheVariants.{Stopped as StoppedLine, Dom, NoElement}
 use Rattle.dom_tree.specs.DomText.{dom_text}
 use Rattle.dom_tree.specs.Trees.{find_id}
-use Rattle.object_heap.specs.Heap.{Contents, IsSound}
+use Rattle.object_heap.specs.Heap.{IsSound}
 use Rattle.object_heap.specs.Laws as heap
 use Rattle.object_heap.proofs.Callers.{kinds_steps, sound_steps}
 use Rattle.page_meaning.specs.declared.signal.Signal.{Signal}
 use Rattle.page_meaning.specs.declared.signal.Signal.TheVariants.{Value as Val, Thrown, Return, Break, Continue}
 use Rattle.page_meaning.specs.Act.{LeadsTo, Outcome, Ended, Stopped}
 use Rattle.page_meaning.specs.Calls.{calls_at}
-use Rattle.page_meaning.specs.Kept.{Keeps, keeps_all, keeps_on, one_step}
+use Rattle.page_meaning.specs.Kept.{Keeps, keeps_on, one_step}
 use Rattle.page_meaning.specs.Laws.{KeepsKinds, LinesGrow, LoadsSound, StaysSound, TasksKeep}
 use Rattle.dom_tree.specs.Steps.{sets_value}
 use Rattle.page_host.specs.Steps.{in_nodes}
-use Rattle.page_meaning.specs.Pages.{Page, after_scripts, at_element, do_event, document_node, with_input}
+use Rattle.page_meaning.specs.Pages.{after_scripts, at_element, do_event, document_node, with_input}
 use Rattle.page_meaning.specs.Pristine.{pristine}
-use Rattle.page_meaning.specs.Steps.{Step, in_host, puts_out, after_step, after_steps}
+use Rattle.page_meaning.specs.Steps.{Step, in_host, puts_out, after_steps}
 use Rattle.page_meaning.specs.Store.{Store}
 use Rattle.page_meaning.proofs.Beginning.{pristine_sound}
 use Rattle.page_meaning.proofs.Stepping.{heap_of_steps, lines_of_steps}

@@ -3,7 +3,7 @@ use Rattle.std.specs.Prelude.{refl, ℕ, Bool, true, ◌||◌, List, [], ◌∷�
 use Rattle.std.specs.Option.{option_map}
 use Rattle.js_values.specs.declared.ids.ObjId.{ObjId}
 use Rattle.js_values.specs.declared.throw.Throw.{Throw}
-use Rattle.js_values.specs.declared.throw.Throw.TheVariants.{CannotDefine, WrongArgument}
+use Rattle.js_values.specs.declared.throw.Throw.TheVariants.{WrongArgument}
 use Rattle.js_values.specs.declared.value.Value.{Value}
 use Rattle.js_values.specs.declared.value.Value.TheVariants as value
 use Rattle.object_heap.specs.declared.object.Class.TheVariants.{Plain}
@@ -18,7 +18,7 @@ use Rattle.object_heap.proofs.Callers.{names_last, ordinary_fit, two_names}
 use Rattle.whole_ops.specs.Conversions.{is_true}
 use Rattle.page_meaning.specs.Act.{Act, bind, done, also, asking, choose}
 use Rattle.page_meaning.specs.Convert.{number_of}
-use Rattle.page_meaning.specs.Errors.{raise, settle, unless}
+use Rattle.page_meaning.specs.Errors.{settle, unless}
 use Rattle.page_meaning.specs.Functions.{object_of}
 use Rattle.page_meaning.specs.Places.{object_prototype}
 use Rattle.page_meaning.specs.Primitives.{define_at, make}

@@ -1,5 +1,5 @@
 -- Meaning: the dispatch of events (DOM Level 2 Events, section 1.2).
-use Rattle.std.specs.Prelude.{ℕ, Bool, not, List, [], ◌∷◌, Option, Some, None}
+use Rattle.std.specs.Prelude.{Bool, not, List, [], ◌∷◌, Option, Some, None}
 use Rattle.js_values.specs.declared.ids.NodeId.{NodeId}
 use Rattle.js_values.specs.declared.ids.ObjId.{ObjId}
 use Rattle.js_values.specs.declared.throw.Throw.TheVariants.{UnspecifiedEventType}

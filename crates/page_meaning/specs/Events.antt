@@ -1,5 +1,5 @@
 -- Meaning: what is done to the parts of an event (DOM Level 2 Events, section 1.4, interface Event).
-use Rattle.std.specs.Prelude.{ℕ, ◌+◌, Bool, true, false, not, ◌&&◌, ◌||◌, List, [], Option, Some, None, nat_le, if◌then◌else◌}
+use Rattle.std.specs.Prelude.{ℕ, ◌+◌, Bool, true, false, not, ◌&&◌, ◌||◌, [], Option, Some, None, nat_le, if◌then◌else◌}
 use Rattle.js_core.specs.Text.{Text}
 use Rattle.js_values.specs.declared.ids.ObjId.{ObjId}
 use Rattle.object_heap.specs.declared.object.EventParts.{EventParts}

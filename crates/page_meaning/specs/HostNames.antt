@@ -1,5 +1,5 @@
 -- Meaning: the host names of objects (DOM Level 2 Core and Events), which nodes and events answer themselves, and what they read there.
-use Rattle.std.specs.Prelude.{ℕ, pos, ◌%◌, Bool, true, false, ◌||◌, List, Option, Some, None, option_map, Result, Ok, if◌then◌else◌}
+use Rattle.std.specs.Prelude.{ℕ, pos, ◌%◌, Bool, false, ◌||◌, List, Option, Some, None, option_map, Result, Ok, if◌then◌else◌}
 use Rattle.js_core.specs.Text.{Text}
 use Rattle.js_values.specs.declared.ids.ObjId.{ObjId}
 use Rattle.js_values.specs.declared.throw.Throw.{Throw}

@@ -1,5 +1,5 @@
 -- Meaning: puts to references (section 8.7.2), and to host names (DOM Level 2 Core).
-use Rattle.std.specs.Prelude.{ℕ, Bool, List, [], ◌∷◌, Option, Some, None, length}
+use Rattle.std.specs.Prelude.{[], ◌∷◌, Option, Some, None, length}
 use Rattle.js_core.specs.Text.{Text}
 use Rattle.js_values.specs.declared.ids.NodeId.{NodeId}
 use Rattle.js_values.specs.declared.ids.ObjId.{ObjId}
@@ -24,7 +24,6 @@ use Rattle.page_meaning.specs.HostNames.{Seen, hosted, has_host_name}
 use Rattle.page_meaning.specs.Primitives.{changes_nodes, make_node}
 use Rattle.page_meaning.specs.Properties.{put_in}
 use Rattle.page_meaning.specs.Reading.{seen_at}
-use Rattle.page_meaning.specs.Store.{Store}
 
 -- the nodes change so, which gives nothing
 abbrev pub stepped : NodeStep → Act

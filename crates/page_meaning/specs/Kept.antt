@@ -1,5 +1,5 @@
 -- Meaning: what no part of a script undoes.
-use Rattle.std.specs.Prelude.{◌≡◌, refl, true, List, [], ◌∷◌, ◌++◌, map}
+use Rattle.std.specs.Prelude.{◌≡◌, refl, true, List, [], ◌∷◌, ◌++◌}
 use Rattle.std.proofs.Common.{sym, ap, ◌∙◌}
 use Rattle.object_heap.specs.Laws as heap
 use Rattle.page_meaning.specs.Steps.{Step, adds_no_name, in_heap, after_step, after_steps}

@@ -10,7 +10,6 @@ use Rattle.page_meaning.specs.Calls.{calls_at}
 use Rattle.page_meaning.specs.Pages.{Page, do_event, load_of}
 use Rattle.page_meaning.specs.Store.{Store}
 use Rattle.page_meaning.specs.Tasks.{Task, after_task, task_of}
-use Rattle.js_core.specs.Tree as tree
 
 -- whatever a task does, steps fall, lines stay, and the heap changes by its own calls alone
 abbrev pub TasksKeep : Type 0

@@ -38,7 +38,6 @@ use Rattle.page_meaning.specs.Functions.{object_of}
 use Rattle.page_meaning.specs.HostPuts.{stepped}
 use Rattle.page_meaning.specs.ObjectRows.{argument}
 use Rattle.page_meaning.specs.Primitives.{changes_event, changes_host, changes_nodes, make_event, make_node}
-use Rattle.page_meaning.specs.Store.{Store}
 
 -- ---- what the rows test
 

@@ -1,12 +1,12 @@
 -- Meaning: operators on values (sections 11.4 to 11.9). Where both sides are converted, the left comes first.
-use Rattle.std.specs.Prelude.{ℕ, zero, suc, ℤ, pos, nat_le, nat_eq, Bool, true, false, not, List, ◌++◌, ◌^◌, length, Option, Some, None, Result, Ok, Err, codes, if◌then◌else◌}
+use Rattle.std.specs.Prelude.{ℕ, zero, suc, ℤ, pos, nat_eq, Bool, true, false, not, List, ◌++◌, Option, Some, None, Result, Ok, Err, codes, if◌then◌else◌}
 use Rattle.js_core.specs.declared.operators.BinaryOp.{BinaryOp}
 use Rattle.js_core.specs.declared.operators.BinaryOp.TheVariants.{Mul, Div, Rem, Add, Sub, Shl, Shr, Ushr, Less, Greater, LessEq, GreaterEq, InstanceOf, Within, Equal, Unequal, Same, NotSame, BitAnd, BitXor, BitOr}
 use Rattle.js_core.specs.declared.operators.UnaryOp.{UnaryOp}
 use Rattle.js_core.specs.declared.operators.UnaryOp.TheVariants.{Delete, Void, Typeof, Plus, Minus, BitNot, Not}
 use Rattle.js_values.specs.declared.ids.ObjId.{ObjId}
 use Rattle.js_values.specs.declared.throw.Throw.{Throw}
-use Rattle.js_values.specs.declared.throw.Throw.TheVariants.{NotFunction, NotObject, OutOfRange, TextTooLong}
+use Rattle.js_values.specs.declared.throw.Throw.TheVariants.{NotFunction, NotObject, OutOfRange}
 use Rattle.js_values.specs.declared.value.Value.{Value}
 use Rattle.js_values.specs.declared.value.Value.TheVariants.{Undefined, Null, Bool as Truth, Num, Text, Object}
 use Rattle.object_heap.specs.declared.object.Class.{Class}
@@ -25,7 +25,7 @@ use Rattle.whole_ops.specs.Order.{text_less, whole_less}
 use Rattle.page_meaning.specs.Act.{Act, Calls, give, also, asking, choose, ◌>>=◌}
 use Rattle.page_meaning.specs.Convert.{a_number, text_of, text_in, number_in, as_number, number_of, operand_primitive, operand_number, operand_text}
 use Rattle.page_meaning.specs.Errors.{raise, settle}
-use Rattle.page_host.specs.HostNames.{text_limit, text_or_long}
+use Rattle.page_host.specs.HostNames.{text_or_long}
 use Rattle.page_meaning.specs.Properties.{has_member, class_of, is_function, get_at}
 use Rattle.page_meaning.specs.Store.{Store}
 

@@ -1,16 +1,11 @@
 -- Meaning: properties of values (sections 8.7, 8.12 and 11.2.1).
-use Rattle.std.specs.Prelude.{codes, take, ℕ, ◌&&◌, ◌||◌, Bool, true, false, List, [], ◌∷◌, length, Option, Some, None, Result, Ok, Err, is_some, slice_get, unwrap_or, bytes_eq, if◌then◌else◌}
-use Rattle.std.specs.Option.{option_map}
+use Rattle.std.specs.Prelude.{ℕ, ◌&&◌, Bool, true, List, Option, Some, None, is_some, bytes_eq}
 use Rattle.js_values.specs.declared.ids.ObjId.{ObjId}
-use Rattle.js_values.specs.declared.throw.Throw.{Throw}
-use Rattle.js_values.specs.declared.throw.Throw.TheVariants.{NoProperties, CannotSet, CannotDelete}
+use Rattle.js_values.specs.declared.throw.Throw.TheVariants.{NoProperties, CannotDelete}
 use Rattle.js_values.specs.declared.value.Value.{Value}
-use Rattle.js_values.specs.declared.value.Value.TheVariants.{Undefined, Null, Bool as Truth, Num, Text, Object}
-use Rattle.object_heap.specs.declared.object.Class.{Class}
-use Rattle.object_heap.specs.declared.object.Class.TheVariants.{Page, Native, Bound, Node}
-use Rattle.object_heap.specs.Chain.{get, get_property, object_at}
-use Rattle.object_heap.specs.Define.{length_name, number, whole_property}
-use Rattle.object_heap.specs.Index.{index_of}
+use Rattle.js_values.specs.declared.value.Value.TheVariants.{Undefined, Null, Bool as Truth, Text, Object}
+use Rattle.object_heap.specs.Chain.{get_property}
+use Rattle.object_heap.specs.Define.{length_name, whole_property}
 use Rattle.object_heap.specs.Object.{is_list}
 use Rattle.page_meaning.specs.Act.{Act, Calls, give, also, asking, choose}
 use Rattle.page_meaning.specs.Convert.{number_of, text_in, operand_text}
@@ -18,7 +13,6 @@ use Rattle.page_host.specs.declared.host_name.HostName.{HostName}
 use Rattle.page_host.specs.HostNames.{host_name}
 use Rattle.page_meaning.specs.Errors.{raise, settle, unless}
 use Rattle.page_meaning.specs.HostNames.{has_named_host}
-use Rattle.page_meaning.specs.Places.{string_prototype, number_prototype, boolean_prototype}
 use Rattle.page_meaning.specs.Primitives.{put_at, define_at, delete_at}
 pub use Rattle.page_meaning.specs.Classes.{class_at, class_of, is_function}
 pub use Rattle.page_meaning.specs.Reading.{unit_at, own_of_text, get_at, inherited, seen_value, seen_at, named_at, property_of, read_property, is_object}

@@ -1,11 +1,11 @@
 -- Meaning: what is read of values (sections 8.7.1, 8.12.2 and 8.12.3). It stands below the conversions, which will read methods.
-use Rattle.std.specs.Prelude.{ℕ, Bool, true, false, List, [], ◌∷◌, length, Option, Some, None, Result, Ok, Err, slice_get, unwrap_or, bytes_eq, if◌then◌else◌}
+use Rattle.std.specs.Prelude.{ℕ, Bool, true, false, List, [], ◌∷◌, length, Option, Some, None, Result, Ok, slice_get, unwrap_or, bytes_eq, if◌then◌else◌}
 use Rattle.std.specs.Option.{option_map}
 use Rattle.js_values.specs.declared.ids.ObjId.{ObjId}
 use Rattle.js_values.specs.declared.throw.Throw.{Throw}
 use Rattle.js_values.specs.declared.value.Value.{Value}
-use Rattle.js_values.specs.declared.value.Value.TheVariants.{Undefined, Null, Bool as Truth, Num, Text, Object}
-use Rattle.object_heap.specs.Chain.{get, object_at}
+use Rattle.js_values.specs.declared.value.Value.TheVariants.{Undefined, Bool as Truth, Num, Text, Object}
+use Rattle.object_heap.specs.Chain.{get}
 use Rattle.object_heap.specs.Define.{length_name, number}
 use Rattle.object_heap.specs.Index.{index_of}
 use Rattle.page_host.specs.declared.host_name.HostName.{HostName}

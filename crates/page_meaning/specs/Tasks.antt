@@ -1,5 +1,5 @@
 -- Meaning: scripts, calls by name, and what a page becomes by them (sections 10.4.1, 13.2.1 and 14; the host's own rules on lines).
-use Rattle.std.specs.Prelude.{ℕ, zero, suc, Bool, true, false, List, [], ◌∷◌, ◌++◌, length, None, codes}
+use Rattle.std.specs.Prelude.{ℕ, zero, suc, Bool, List, [], ◌∷◌, length, None}
 use Rattle.code_table.specs.Declarations.{functions_of, variables_of}
 use Rattle.js_core.specs.Tree as tree
 use Rattle.js_values.specs.declared.line.Line.{Line}

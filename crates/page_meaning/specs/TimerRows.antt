@@ -1,5 +1,5 @@
 -- Meaning: timers (HTML, timers), and time that passes.
-use Rattle.std.specs.Prelude.{ℕ, zero, suc, ◌+◌, max, ℤ, pos, negsuc, Bool, List, [], ◌∷◌, Option, Some, None, length, nat_le}
+use Rattle.std.specs.Prelude.{ℕ, zero, suc, ◌+◌, max, ℤ, pos, negsuc, List, [], Option, Some, None, length, nat_le}
 use Rattle.js_values.specs.declared.built_in.BuiltIn.{BuiltIn}
 use Rattle.js_values.specs.declared.built_in.BuiltIn.TheVariants as built_in
 use Rattle.js_values.specs.declared.ids.ObjId.{ObjId}
@@ -17,7 +17,6 @@ use Rattle.page_meaning.specs.NodeRows.{with_callback}
 use Rattle.page_meaning.specs.ObjectRows.{argument}
 use Rattle.page_meaning.specs.Places.{window}
 use Rattle.page_meaning.specs.Primitives.{changes_host, stop, take_step}
-use Rattle.page_meaning.specs.Store.{Store}
 
 -- a time: what is no number, and what is below 0, is 0
 abbrev pub time_in : Option ℤ → ℕ

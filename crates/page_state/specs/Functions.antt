@@ -3,7 +3,6 @@ use Rattle.std.specs.Prelude.{ℕ, List, [], ◌∷◌, Option, Some, None, code
 use Rattle.js_core.specs.Tree as tree
 use Rattle.js_values.specs.declared.ids.EnvId.{EnvId}
 use Rattle.js_values.specs.declared.ids.ObjId.{ObjId}
-use Rattle.js_values.specs.declared.value.Value.{Value}
 use Rattle.js_values.specs.declared.value.Value.TheVariants.{Undefined, Object}
 use Rattle.object_heap.specs.declared.object.Class.TheVariants.{Plain}
 use Rattle.object_heap.specs.Heap.{new_object}

@@ -3,13 +3,13 @@ use Rattle.std.specs.Prelude.{◌≡◌, ℕ, pos, true, false, List, [], ◌∷
 use Rattle.js_core.specs.Text.{Text}
 use Rattle.js_core.specs.declared.operators.BinaryOp.TheVariants as op
 use Rattle.js_core.specs.declared.operators.UnaryOp.TheVariants as un
-use Rattle.js_core.specs.Tree.{assign, binary, block, bool, break, call, code, comma, conditional, construct, continue, empty, expr, exprs_of, for, for_in, func, function, if_else, index, init_expr, init_var, list, literal, logical_and, logical_or, member, name, no_body, no_catch, no_declarators, no_expr, no_fields, no_holes, no_init, no_stmts, null, num, one_body, one_catch, one_expr, return, stmts_of, text, then_declarator, then_field, then_hole, this, throw, try, unary, update, var, while}
+use Rattle.js_core.specs.Tree.{assign, binary, bool, call, code, expr, exprs_of, for_in, func, function, list, literal, member, name, no_body, no_catch, no_declarators, no_expr, no_fields, no_holes, null, num, one_body, one_catch, one_expr, return, stmts_of, text, then_declarator, then_field, then_hole, this, throw, try, unary, var, while}
 use Rattle.js_values.specs.declared.event.Event.{Event}
 use Rattle.js_values.specs.declared.event.Event.TheVariants as event
 use Rattle.js_values.specs.declared.ids.NodeId.{NodeId}
 use Rattle.js_values.specs.declared.line.Line.{Line}
 use Rattle.js_values.specs.declared.line.LineKind.{LineKind}
-use Rattle.js_values.specs.declared.line.LineKind.TheVariants.{Alert, Dom, Log, NoElement, Stopped, Uncaught}
+use Rattle.js_values.specs.declared.line.LineKind.TheVariants.{Dom, Log, NoElement, Stopped, Uncaught}
 use Rattle.dom_tree.specs.declared.content.Kind.{Kind}
 use Rattle.dom_tree.specs.declared.content.Kind.TheVariants as kind
 use Rattle.dom_tree.specs.Attributes.{Pairs}
