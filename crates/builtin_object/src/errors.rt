@@ -18,8 +18,8 @@ use std::alloc::Global;
 
 // A new error without a message of its own.
 fn make_silent(state: &mut State, kind: ErrorKind) -> Result<ObjId, OutOfMemory>
-    ensures { IfOk result (λ at. Does (λ _. make (spec.silent_error kind) (spec.silent_fit kind) refl)
-        state.old at state.new) }
+    ensures { IfOk result (λ at. Does (λ _. make (spec.silent_error kind)
+        (spec.silent_fit kind) refl) state.old at state.new) }
 {
     let props = Properties::new(state.alloc());
     state.make(Class::Fault, Some(error_prototype(kind)), props)
@@ -60,7 +60,8 @@ fn error_saying(state: &mut State, kind: ErrorKind, message: Units) -> Result<Ob
 // A new error whose message is the text of the value.
 fn error_about(state: &mut State, kind: ErrorKind, value: &Value) -> Result<ObjId, Fault>
     ensures { Gives Object (λ calls. also (to_text calls value.now)
-        (λ t. bind (make (spec.error_saying kind (text_in t)) (spec.saying_fit kind (text_in t)) refl)
+        (λ t. bind (make (spec.error_saying kind (text_in t))
+        (spec.saying_fit kind (text_in t)) refl)
         object_of)) state.old state.new result }
 {
     let message = state.to_text(value)?;

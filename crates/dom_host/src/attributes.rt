@@ -11,8 +11,8 @@ use page_state::{Fault, State};
 
 /// `getAttribute`, which gives null where there is none.
 pub(crate) fn get(state: &mut State, this: &Value, args: &[Value]) -> Result<Value, Fault>
-    ensures { Gives itself (λ calls. node_row calls built_in.NodePrototypeGetAttribute this.now args.now)
-        state.old state.new result }
+    ensures { Gives itself (λ calls. node_row calls
+        built_in.NodePrototypeGetAttribute this.now args.now) state.old state.new result }
 {
     let node = element(state, this)?;
     let name = text(state, args, 0)?;
@@ -24,8 +24,8 @@ pub(crate) fn get(state: &mut State, this: &Value, args: &[Value]) -> Result<Val
 
 /// `setAttribute`
 pub(crate) fn set(state: &mut State, this: &Value, args: &[Value]) -> Result<Value, Fault>
-    ensures { Gives itself (λ calls. node_row calls built_in.NodePrototypeSetAttribute this.now args.now)
-        state.old state.new result }
+    ensures { Gives itself (λ calls. node_row calls
+        built_in.NodePrototypeSetAttribute this.now args.now) state.old state.new result }
 {
     let node = element(state, this)?;
     let name = text(state, args, 0)?;
@@ -38,8 +38,8 @@ pub(crate) fn set(state: &mut State, this: &Value, args: &[Value]) -> Result<Val
 
 /// `removeAttribute`
 pub(crate) fn remove(state: &mut State, this: &Value, args: &[Value]) -> Result<Value, Fault>
-    ensures { Gives itself (λ calls. node_row calls built_in.NodePrototypeRemoveAttribute this.now args.now)
-        state.old state.new result }
+    ensures { Gives itself (λ calls. node_row calls
+        built_in.NodePrototypeRemoveAttribute this.now args.now) state.old state.new result }
 {
     let node = element(state, this)?;
     let name = text(state, args, 0)?;
@@ -49,8 +49,8 @@ pub(crate) fn remove(state: &mut State, this: &Value, args: &[Value]) -> Result<
 
 /// `hasAttribute`
 pub(crate) fn has(state: &mut State, this: &Value, args: &[Value]) -> Result<Value, Fault>
-    ensures { Gives itself (λ calls. node_row calls built_in.NodePrototypeHasAttribute this.now args.now)
-        state.old state.new result }
+    ensures { Gives itself (λ calls. node_row calls
+        built_in.NodePrototypeHasAttribute this.now args.now) state.old state.new result }
 {
     let node = element(state, this)?;
     let name = text(state, args, 0)?;

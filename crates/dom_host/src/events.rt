@@ -19,8 +19,8 @@ pub(crate) fn create_event(
     this: &Value,
     args: &[Value],
 ) -> Result<Value, Fault>
-    ensures { Gives itself (λ calls. node_row calls built_in.NodePrototypeCreateEvent this.now args.now)
-        state.old state.new result }
+    ensures { Gives itself (λ calls. node_row calls
+        built_in.NodePrototypeCreateEvent this.now args.now) state.old state.new result }
 {
     document(state, this)?;
     let kind = text(state, args, 0)?;
@@ -80,8 +80,8 @@ pub(crate) fn add_listener(
     this: &Value,
     args: &[Value],
 ) -> Result<Value, Fault>
-    ensures { Gives itself (λ calls. node_row calls built_in.NodePrototypeAddEventListener this.now args.now)
-        state.old state.new result }
+    ensures { Gives itself (λ calls. node_row calls
+        built_in.NodePrototypeAddEventListener this.now args.now) state.old state.new result }
 {
     let listener = listener_of(state, this, args)?;
     state.listen(listener)?;
@@ -94,8 +94,8 @@ pub(crate) fn remove_listener(
     this: &Value,
     args: &[Value],
 ) -> Result<Value, Fault>
-    ensures { Gives itself (λ calls. node_row calls built_in.NodePrototypeRemoveEventListener this.now args.now)
-        state.old state.new result }
+    ensures { Gives itself (λ calls. node_row calls
+        built_in.NodePrototypeRemoveEventListener this.now args.now) state.old state.new result }
 {
     let listener = listener_of(state, this, args)?;
     state.forget(&listener);
@@ -104,8 +104,8 @@ pub(crate) fn remove_listener(
 
 /// `initEvent`
 pub(crate) fn init_event(state: &mut State, this: &Value, args: &[Value]) -> Result<Value, Fault>
-    ensures { Gives itself (λ calls. node_row calls built_in.EventPrototypeInitEvent this.now args.now)
-        state.old state.new result }
+    ensures { Gives itself (λ calls. node_row calls
+        built_in.EventPrototypeInitEvent this.now args.now) state.old state.new result }
 {
     let at = event(state, this)?;
     let kind = text(state, args, 0)?;
@@ -117,8 +117,8 @@ pub(crate) fn init_event(state: &mut State, this: &Value, args: &[Value]) -> Res
 
 /// `stopPropagation`
 pub(crate) fn stop_propagation(state: &mut State, this: &Value) -> Result<Value, Fault>
-    ensures { (vs : List Value) → Gives itself (λ calls. node_row calls built_in.EventPrototypeStopPropagation this.now vs)
-        state.old state.new result }
+    ensures { (vs : List Value) → Gives itself (λ calls. node_row calls
+        built_in.EventPrototypeStopPropagation this.now vs) state.old state.new result }
 {
     let at = event(state, this)?;
     state.stop_propagation(at);
@@ -127,8 +127,8 @@ pub(crate) fn stop_propagation(state: &mut State, this: &Value) -> Result<Value,
 
 /// `preventDefault`
 pub(crate) fn prevent_default(state: &mut State, this: &Value) -> Result<Value, Fault>
-    ensures { (vs : List Value) → Gives itself (λ calls. node_row calls built_in.EventPrototypePreventDefault this.now vs)
-        state.old state.new result }
+    ensures { (vs : List Value) → Gives itself (λ calls. node_row calls
+        built_in.EventPrototypePreventDefault this.now vs) state.old state.new result }
 {
     let at = event(state, this)?;
     state.prevent_default(at);

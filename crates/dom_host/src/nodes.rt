@@ -17,8 +17,8 @@ pub(crate) fn insert_before(
     this: &Value,
     args: &[Value],
 ) -> Result<Value, Fault>
-    ensures { Gives itself (λ calls. node_row calls built_in.NodePrototypeInsertBefore this.now args.now)
-        state.old state.new result }
+    ensures { Gives itself (λ calls. node_row calls
+        built_in.NodePrototypeInsertBefore this.now args.now) state.old state.new result }
 {
     let parent = node(state, this)?;
     let given = argument(args, 0)?;
@@ -32,8 +32,8 @@ pub(crate) fn insert_before(
 
 /// `appendChild`
 pub(crate) fn append_child(state: &mut State, this: &Value, args: &[Value]) -> Result<Value, Fault>
-    ensures { Gives itself (λ calls. node_row calls built_in.NodePrototypeAppendChild this.now args.now)
-        state.old state.new result }
+    ensures { Gives itself (λ calls. node_row calls
+        built_in.NodePrototypeAppendChild this.now args.now) state.old state.new result }
 {
     let parent = node(state, this)?;
     let given = argument(args, 0)?;
@@ -59,8 +59,8 @@ pub(crate) fn replace_child(
     this: &Value,
     args: &[Value],
 ) -> Result<Value, Fault>
-    ensures { Gives itself (λ calls. node_row calls built_in.NodePrototypeReplaceChild this.now args.now)
-        state.old state.new result }
+    ensures { Gives itself (λ calls. node_row calls
+        built_in.NodePrototypeReplaceChild this.now args.now) state.old state.new result }
 {
     let parent = node(state, this)?;
     let child = argument(args, 0)?;
@@ -73,8 +73,8 @@ pub(crate) fn replace_child(
 
 /// `removeChild`
 pub(crate) fn remove_child(state: &mut State, this: &Value, args: &[Value]) -> Result<Value, Fault>
-    ensures { Gives itself (λ calls. node_row calls built_in.NodePrototypeRemoveChild this.now args.now)
-        state.old state.new result }
+    ensures { Gives itself (λ calls. node_row calls
+        built_in.NodePrototypeRemoveChild this.now args.now) state.old state.new result }
 {
     let parent = node(state, this)?;
     let given = argument(args, 0)?;
@@ -85,8 +85,8 @@ pub(crate) fn remove_child(state: &mut State, this: &Value, args: &[Value]) -> R
 
 /// `hasChildNodes`
 pub(crate) fn has_child_nodes(state: &mut State, this: &Value) -> Result<Value, Fault>
-    ensures { (vs : List Value) → Gives itself (λ calls. node_row calls built_in.NodePrototypeHasChildNodes this.now vs)
-        state.old state.new result }
+    ensures { (vs : List Value) → Gives itself (λ calls. node_row calls
+        built_in.NodePrototypeHasChildNodes this.now vs) state.old state.new result }
 {
     let parent = node(state, this)?;
     Ok(Value::Bool(state.host().dom().first_child(parent).is_some()))
@@ -108,8 +108,8 @@ fn unless_refused(
 
 /// `getElementById`
 pub(crate) fn get_by_id(state: &mut State, this: &Value, args: &[Value]) -> Result<Value, Fault>
-    ensures { Gives itself (λ calls. node_row calls built_in.NodePrototypeGetElementById this.now args.now)
-        state.old state.new result }
+    ensures { Gives itself (λ calls. node_row calls
+        built_in.NodePrototypeGetElementById this.now args.now) state.old state.new result }
 {
     document(state, this)?;
     let id = text(state, args, 0)?;
@@ -125,8 +125,8 @@ pub(crate) fn create_element(
     this: &Value,
     args: &[Value],
 ) -> Result<Value, Fault>
-    ensures { Gives itself (λ calls. node_row calls built_in.NodePrototypeCreateElement this.now args.now)
-        state.old state.new result }
+    ensures { Gives itself (λ calls. node_row calls
+        built_in.NodePrototypeCreateElement this.now args.now) state.old state.new result }
 {
     document(state, this)?;
     let name = text(state, args, 0)?;
@@ -138,8 +138,8 @@ pub(crate) fn create_element(
 
 /// `createTextNode`
 pub(crate) fn create_text(state: &mut State, this: &Value, args: &[Value]) -> Result<Value, Fault>
-    ensures { Gives itself (λ calls. node_row calls built_in.NodePrototypeCreateTextNode this.now args.now)
-        state.old state.new result }
+    ensures { Gives itself (λ calls. node_row calls
+        built_in.NodePrototypeCreateTextNode this.now args.now) state.old state.new result }
 {
     document(state, this)?;
     let words = text(state, args, 0)?;
@@ -152,8 +152,8 @@ pub(crate) fn create_comment(
     this: &Value,
     args: &[Value],
 ) -> Result<Value, Fault>
-    ensures { Gives itself (λ calls. node_row calls built_in.NodePrototypeCreateComment this.now args.now)
-        state.old state.new result }
+    ensures { Gives itself (λ calls. node_row calls
+        built_in.NodePrototypeCreateComment this.now args.now) state.old state.new result }
 {
     document(state, this)?;
     let words = text(state, args, 0)?;

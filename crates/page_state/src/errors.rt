@@ -30,8 +30,8 @@ impl State {
 
     // A new error with its own properties.
     fn make_error(&mut self, what: &Throw) -> Result<ObjId, OutOfMemory>
-        ensures { IfOk result (λ at. Does (λ _. make (error_object what.now) (error_fit what.now) refl)
-            self.old at self.new) }
+        ensures { IfOk result (λ at. Does (λ _. make (error_object what.now)
+            (error_fit what.now) refl) self.old at self.new) }
     {
         let props = error_props(self.alloc(), what)?;
         let proto = error_prototype(what.kind());

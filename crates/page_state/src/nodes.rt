@@ -39,7 +39,8 @@ impl State {
 
     /// A new text, alone, and its object.
     pub fn make_text(&mut self, text: &Units) -> Result<ObjId, OutOfMemory>
-        ensures { IfOk result (λ at. Does (λ _. make_node (kind.Text text.now)) self.old at self.new) }
+        ensures { IfOk result (λ at. Does (λ _. make_node (kind.Text text.now)) self.old at
+            self.new) }
     {
         let at = ObjId(self.heap.count());
         let node = made(self.host.create_text(self.alloc(), text, at))?;

@@ -52,8 +52,8 @@ impl State {
         host: HostName,
         value: Value,
     ) -> Result<Value, Fault>
-        ensures { Gives itself (λ calls. spec.put_named calls at name.now value (Some host)) self.old
-            self.new result }
+        ensures { Gives itself (λ calls. spec.put_named calls at name.now value (Some host))
+            self.old self.new result }
     {
         match self.sight(at, name, host) {
             Sight::Nothing | Sight::Held => self.put_in(at, name, value),
@@ -111,7 +111,8 @@ impl State {
 
     // The text of what is put; null is the empty one.
     fn text_or_empty(&mut self, value: &Value) -> Result<Units, Fault>
-        ensures { Gives Text (λ calls. spec.text_or_empty calls value.now) self.old self.new result }
+        ensures { Gives Text (λ calls. spec.text_or_empty calls value.now) self.old self.new
+            result }
     {
         match value {
             Value::Null => Ok(Units::of(self.alloc(), &[])?),

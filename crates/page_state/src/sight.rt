@@ -68,7 +68,8 @@ impl State {
         name: HostName,
     ) -> Result<Result<Value, Throw>, OutOfMemory>
         requires { has_host_name self.now.host.nodes (class_at self.now at) name ≡ true }
-        ensures { IfOk result (λ read. read ≡ host_reads self.now.host (class_at self.now at) name) }
+        ensures { IfOk result (λ read. read ≡ host_reads self.now.host (class_at self.now at)
+            name) }
     {
         match self.class(at) {
             Class::Node(node) => self.host.read(self.alloc(), *node, name),

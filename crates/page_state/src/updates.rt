@@ -119,8 +119,8 @@ impl State {
         name: &Units,
         old: Whole,
     ) -> Result<Value, Fault>
-        ensures { Gives itself (λ calls. changed up prefix (spec_put calls base.now name.now) (Num old))
-            self.old self.new result }
+        ensures { Gives itself (λ calls. changed up prefix (spec_put calls base.now name.now)
+            (Num old)) self.old self.new result }
     {
         let new = self.one_more(up, old)?;
         self.put_back_member(prefix, base, name, old, new)
@@ -135,8 +135,8 @@ impl State {
         old: Whole,
         new: Whole,
     ) -> Result<Value, Fault>
-        ensures { Gives itself (λ calls. put_back prefix (spec_put calls base.now name.now) (Num old)
-            (Num new)) self.old self.new result }
+        ensures { Gives itself (λ calls. put_back prefix (spec_put calls base.now name.now)
+            (Num old) (Num new)) self.old self.new result }
     {
         let _put = self.put_member(base, name, Value::Num(new))?;
         Ok(updated(prefix, old, new))

@@ -43,7 +43,10 @@ impl Model for Session {
 
 /// The page once its scripts have run, in document order.
 pub fn load(alloc: Global, page: CheckedPage) -> Result<Session, OutOfMemory>
-    ensures page { IfOk result (λ s. s.page ≡ load_of (record { nodes = page.nodes; scripts = page.scripts })) }
+    ensures page { IfOk result (λ s. s.page ≡ load_of (record {
+      nodes = page.nodes;
+      scripts = page.scripts;
+    })) }
     ensures fresh { IfOk result (λ s. s.is_spent ≡ false) }
 {
     let (dom, scripts) = page.into_parts();

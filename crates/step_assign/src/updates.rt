@@ -51,7 +51,8 @@ fn update_named(
     name: &Units,
 ) -> Result<Value, Fault>
     ensures { Gives itself (λ calls. also (read_property base.now name.now)
-        (update_with calls up prefix (put_member calls base.now name.now))) state.old state.new result }
+        (update_with calls up prefix (put_member calls base.now name.now))) state.old
+        state.new result }
 {
     let old = state.read_property(base, name)?;
     state.update_member(up, prefix, base, name, &old)
