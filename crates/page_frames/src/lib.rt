@@ -11,7 +11,7 @@ pub use frame::{
     Begin, BoxedCall, BoxedFrame, CallFrame, CalledFrame, CaseFrame, DeliverFrame, EachFrame,
     ExprFrame, Frame, Listed, NameFrame, StmtFrame, TargetFrame, VisitFrame, Visited,
 };
-pub use laws::{law_loops, law_stacks, law_starts, law_weights};
+pub use laws::{law_dispatches, law_loops, law_stacks, law_starts, law_weights};
 pub use meter::{Meter, Next};
 pub use rounds::{Places, Round};
 pub use spot::Spot;
