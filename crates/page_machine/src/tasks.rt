@@ -118,14 +118,22 @@ fn fire(
     cancelable: bool,
     node: NodeId,
     meter: &mut Meter,
-) -> Result<End, OutOfMemory> {
+) -> Result<End, OutOfMemory>
+    ensures { IfOk result (λ end. outcome_of end state.new meter.new.steps
+        ≡ (spec.task_of (calls_at meter.old.depth) (spec.Fires kind bubbles cancelable node)).run
+        state.old meter.old.steps) }
+{
     let event = state.make_event()?;
     state.init_event(event, kind, bubbles, cancelable);
     run(state, Begin::Deliver(event, node), meter)
 }
 
 // Time passes up to a moment: timers fire one after another, and last the clock is there. Past 2 ^ 59 it wants memory.
-fn pass(state: &mut State, time: u64, meter: &mut Meter) -> Result<End, OutOfMemory> {
+fn pass(state: &mut State, time: u64, meter: &mut Meter) -> Result<End, OutOfMemory>
+    ensures { IfOk result (λ end. outcome_of end state.new meter.new.steps
+        ≡ (spec.task_of (calls_at meter.old.depth) (spec.Passes time)).run state.old
+        meter.old.steps) }
+{
     let clock = state.host().clock();
     if time > CLOCK_LIMIT || clock > CLOCK_LIMIT - time {
         return Err(OutOfMemory);
