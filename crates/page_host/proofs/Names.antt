@@ -1,9 +1,8 @@
 -- Host names by their lengths.
-use Rattle.std.proofs.Common.{◌≡◌, ℕ, List, ◌∷◌, [], Bool, true, false, Option, Some, None, length, nat_eq, bytes_eq, if◌then◌else◌, refl, sym, ap, ◌∙◌, rules, arith}
+use Rattle.std.proofs.Common.{◌≡◌, ℕ, ◌∷◌, [], Bool, true, false, None, length, nat_eq, bytes_eq, refl, sym, ap, ◌∙◌, arith}
 use Rattle.std.proofs.lemmas.Bool.Decides.{nat_tests}
 use Rattle.std.proofs.lemmas.Slice.Eq.{bytes_eq-Decides}
 use Rattle.js_core.specs.Text.{Text}
-use Rattle.page_host.specs.declared.host_name.HostName.{HostName}
 use Rattle.page_host.specs.HostNames.{Named, host_name, host_names, name_among, of_length}
 
 unlike : (n k : ℕ) → (n ≡ k → ⊥) → nat_eq n k ≡ false

@@ -4,4 +4,5 @@ pub mod HostNames
 pub mod Kept
 pub mod Listeners
 pub mod Paths
+pub mod Sound
 pub mod Steps

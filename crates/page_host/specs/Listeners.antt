@@ -1,5 +1,5 @@
 -- Listeners in the order in which they were added (DOM Level 2 Events, section 1.3, interface EventTarget).
-use Rattle.std.specs.Prelude.{ℕ, Bool, ◌&&◌, not, List, [], ◌∷◌, ◌++◌, filter, bytes_eq, nat_eq, if◌then◌else◌}
+use Rattle.std.specs.Prelude.{Bool, ◌&&◌, not, List, [], ◌∷◌, ◌++◌, filter, bytes_eq, nat_eq, if◌then◌else◌}
 use Rattle.std.specs.List.{list_any}
 use Rattle.js_core.specs.Text.{Text}
 use Rattle.page_host.specs.declared.listener.Listener.{Listener}

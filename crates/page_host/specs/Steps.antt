@@ -1,6 +1,5 @@
 -- What is done to a host, one thing after another. What does not fit changes nothing, so that whatever is done keeps a host sound.
 use Rattle.std.specs.Prelude.{ℕ, Bool, true, ◌&&◌, not, Option, Some, None, length, is_none, nat_le, nat_lt, if◌then◌else◌}
-use Rattle.js_values.specs.declared.ids.NodeId.{NodeId}
 use Rattle.js_values.specs.declared.ids.ObjId.{ObjId}
 use Rattle.dom_tree.specs.declared.content.Kind.{Kind}
 use Rattle.dom_tree.specs.Content.{new_content}

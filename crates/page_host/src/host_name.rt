@@ -199,7 +199,7 @@ fn is_document(kind: &Kind) -> bool
     matches!(kind, Kind::Document)
 }
 
-fn has_text(kind: &Kind) -> bool
+pub(crate) fn has_text(kind: &Kind) -> bool
     ensures { result ≡ has_text kind.now }
 {
     matches!(kind, Kind::Text(_) | Kind::Comment(_))

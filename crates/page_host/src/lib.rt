@@ -3,6 +3,7 @@
 
 mod host;
 mod host_name;
+mod laws;
 mod listener;
 mod listening;
 mod making;
@@ -10,8 +11,11 @@ mod nodes;
 mod path;
 mod reading;
 mod timing;
+mod writing;
 
 pub use host::PageHost;
 pub use host_name::HostName;
+pub use laws::law_hosts_stay_sound;
 pub use listener::Listener;
 pub use path::{Phase, Place};
+pub use writing::{folds_to_handler, is_handler};

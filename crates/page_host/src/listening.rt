@@ -1,6 +1,6 @@
 //! Listeners of a page, and the way of an event.
 
-ghost use Rattle.std.specs.Prelude.{◌≡◌, ◌<◌, ◌++◌, filter, length, map, reverse, IfOk, OnOk, OnErr};
+ghost use Rattle.std.specs.Prelude.{◌≡◌, ◌<◌, ◌++◌, length, map, reverse, IfOk, OnOk, OnErr};
 ghost use Rattle.page_host.specs.Listeners as spec;
 ghost use Rattle.page_host.specs.Paths.{event_path, in_phase};
 ghost use Rattle.page_host.specs.Steps.{after_host, forgets, listens};

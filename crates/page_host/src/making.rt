@@ -3,12 +3,13 @@
 ghost use Rattle.std.specs.Prelude.{◌≡◌, length, IfErr, IfOk, OnErr, OnOk, true};
 ghost use Rattle.dom_tree.specs.Content.{IsNameFault};
 ghost use Rattle.dom_tree.specs.Name.{folded, is_name};
+ghost use Rattle.dom_tree.specs.Sound.{IsSound};
 ghost use Rattle.dom_tree.specs.declared.content.Kind.TheVariants as kind;
 ghost use Rattle.js_core.specs.declared.memory.Failure.TheVariants as fault;
 ghost use Rattle.page_host.specs.Steps.{with_new_node};
 
 use crate::host::PageHost;
-use dom_tree::{DomError, DomFault, is_name};
+use dom_tree::{Dom, DomError, DomFault, is_name};
 use js_core::Units;
 use js_values::{NodeId, ObjId};
 use std::alloc::Global;
@@ -34,6 +35,7 @@ impl PageHost {
         }
         self.objects.reserve(1)?;
         let node = self.dom.create_element(alloc, name)?;
+        recall_sound(&self.dom);
         self.objects.push_reserved(object);
         Ok(node)
     }
@@ -46,7 +48,8 @@ impl PageHost {
         object: ObjId,
     ) -> Result<NodeId, DomFault>
         ensures id { IfOk result (λ at. at.0 ≡ length self.old.nodes) }
-        ensures ok { OnOk result (self.new ≡ with_new_node self.old (kind.Text text.now) object) }
+        ensures ok { OnOk result (self.new ≡ with_new_node self.old
+            (kind.Text text.now) object) }
         ensures err { IfErr result (λ e. e ≡ fault.OutOfMemory) }
         ensures kept { OnErr result (self.new ≡ self.old) }
     {
@@ -64,7 +67,8 @@ impl PageHost {
         object: ObjId,
     ) -> Result<NodeId, DomFault>
         ensures id { IfOk result (λ at. at.0 ≡ length self.old.nodes) }
-        ensures ok { OnOk result (self.new ≡ with_new_node self.old (kind.Comment text.now) object) }
+        ensures ok { OnOk result (self.new ≡ with_new_node self.old
+            (kind.Comment text.now) object) }
         ensures err { IfErr result (λ e. e ≡ fault.OutOfMemory) }
         ensures kept { OnErr result (self.new ≡ self.old) }
     {
@@ -73,4 +77,11 @@ impl PageHost {
         self.objects.push_reserved(object);
         Ok(node)
     }
+}
+
+// Recalls in proofs what always holds of nodes.
+fn recall_sound(dom: &Dom)
+    ensures { IsSound dom.now }
+{
+    let _ = dom.count();
 }

@@ -1,6 +1,6 @@
 //! What is done to the nodes of a page.
 
-ghost use Rattle.std.specs.Prelude.{◌≡◌, ◌<◌, length, IfErr, IfOk, IsTrue, OnOk, OnErr, false, true};
+ghost use Rattle.std.specs.Prelude.{◌≡◌, ◌<◌, length, IfErr, IsTrue, OnOk, OnErr, false, true};
 ghost use Rattle.std.specs.Option.{ForSome};
 ghost use Rattle.dom_tree.specs.Change.{insertion_error, removal_error, replacement_error};
 ghost use Rattle.dom_tree.specs.Content.{IsNameFault, has_text};
@@ -8,11 +8,9 @@ ghost use Rattle.dom_tree.specs.Name.{folded, is_name};
 ghost use Rattle.dom_tree.specs.Node.{is_element, kind_at};
 ghost use Rattle.dom_tree.specs.Sound.{takes_value};
 ghost use Rattle.dom_tree.specs.Steps.{drops_attribute, empties, inserts, replaces, sets_attribute, sets_text, sets_value, takes_out};
-ghost use Rattle.dom_tree.specs.declared.content.Kind.TheVariants as kind;
-ghost use Rattle.js_core.specs.declared.memory.Failure.TheVariants as fault;
 ghost use Rattle.page_host.specs.Answers.{answer_of};
 ghost use Rattle.page_host.specs.HostNames.{is_handler};
-ghost use Rattle.page_host.specs.Steps.{after_host, in_nodes, with_new_node};
+ghost use Rattle.page_host.specs.Steps.{after_host, in_nodes};
 
 use crate::host::PageHost;
 use dom_tree::{DomError, DomFault};

@@ -1,13 +1,14 @@
 //! Timers of a page, and its clock.
 
-ghost use Rattle.std.specs.Prelude.{◌≡◌, ◌<◌, ◌≤◌, ◌^◌, length, nat_le, option_map, true, IfOk, OnOk, OnErr};
-ghost use Rattle.timer_queue.specs.Timers.{least_free, timer_limit};
-ghost use Rattle.page_host.specs.Answers.{falls_due};
+ghost use Rattle.std.specs.Prelude.{◌≡◌, ◌&&◌, ◌<◌, ◌≤◌, ◌^◌, is_none, length, nat_le, not, option_map, true, IfOk, OnOk, OnErr};
+ghost use Rattle.std.specs.List.{list_any};
+ghost use Rattle.timer_queue.specs.Timers.{due_timers, first, is_due, least_free, timer_limit};
 ghost use Rattle.page_host.specs.Steps.{after_host, clears, clock_at, fires, is_period, next_timer, starts, time_limit};
 
 use crate::host::PageHost;
 use js_core::{OutOfMemory, TIMER_LIMIT};
 use js_values::ObjId;
+use timer_queue::Live;
 
 impl PageHost {
     /// Whether as many timers are live as may be.
@@ -42,6 +43,14 @@ impl PageHost {
         self.queue.clear(id);
     }
 
+    /// Whether a timer is due at or before the moment.
+    #[tactic(auto, using(crate::proofs::Times::none_due_first))]
+    pub fn is_due(&self, moment: u64) -> bool
+        ensures { is_none (next_timer self.now moment) ≡ not result }
+    {
+        has_due(self.queue.live(), moment)
+    }
+
     /// The first timer that is due at or before the moment comes due: a timeout is removed, an interval is put at the end,
     /// due one period later, and the clock becomes the due time, where that is later. The answer is its function, or `None` exactly where
     /// no timer is due; then nothing has changed. No memory.
@@ -58,18 +67,23 @@ impl PageHost {
         requires { moment < 2 ^ 60 }
         ensures { self.new ≡ after_host self.old (clock_at moment) }
     {
-        if self.clock <= moment && !is_due(self.queue.next_due(), moment) {
+        if may_pass(self.queue.live(), self.clock, moment) {
             self.clock = moment;
         }
     }
 }
 
-// Whether the timer that is due next is due by the moment.
-fn is_due(next: Option<(u32, u64)>, moment: u64) -> bool
-    ensures { result ≡ falls_due next moment }
+// Whether the moment is not before the clock, and no timer is due by then.
+#[tactic(auto, using(crate::proofs::Times::none_due_first))]
+fn may_pass(timers: &[Live], clock: u64, moment: u64) -> bool
+    ensures { result ≡ (nat_le clock moment && is_none (first (due_timers timers.now moment))) }
 {
-    match next {
-        Some((_, due)) => due <= moment,
-        None => false,
-    }
+    clock <= moment && !has_due(timers, moment)
+}
+
+// Whether one of the timers is due at or before the moment.
+fn has_due(timers: &[Live], moment: u64) -> bool
+    ensures { result ≡ list_any (is_due moment) timers.now }
+{
+    timers.iter().any(|timer| timer.due <= moment)
 }
