@@ -17,9 +17,9 @@ trees_same t f g (c ∷ l) same =
     ap (λ z. tree c (node_at t c.0) z (trees_over t f l)) (same c (has_head c l)) ∙ ap (λ z. tree c (node_at t c.0) (g c) z) (trees_same t f g l (λ d i. same d (has_tail d c l i)))
 
 -- so many generations are enough for the nodes of the list
-record Deep (t : Nodes) (n : ℕ) (l : List NodeId) : Type 0 where
-  there : (c : NodeId) → has c.0 l ≡ true → c.0 < length t
-  deep : (c : NodeId) → has c.0 l ≡ true → (r : Rooted t c.0) → length t ≤ n + depth r
+pub record Deep (t : Nodes) (n : ℕ) (l : List NodeId) : Type 0 where
+  pub there : (c : NodeId) → has c.0 l ≡ true → c.0 < length t
+  pub deep : (c : NodeId) → has c.0 l ≡ true → (r : Rooted t c.0) → length t ≤ n + depth r
 
 child_depth : (t : Nodes) → AreTrees t → (p c : ℕ) → has c (children_at t p) ≡ true → (r : Rooted t p) (s : Rooted t c) → depth s ≡ suc (depth r)
 child_depth t a p c i r s = same_depth s (under {p = id_of p} (parent_of_child t a p c i) r) refl
@@ -37,7 +37,7 @@ not_deep t a c l d =
     let high : length t ≤ 0 + depth r = d.deep c (has_head c l) r in
     omega (arith, low, high)
 
-stable : (t : Nodes) → AreTrees t → (n m : ℕ) (l : List NodeId) → Deep t n l → Deep t m l → trees_within t n l ≡ trees_within t m l
+pub stable : (t : Nodes) → AreTrees t → (n m : ℕ) (l : List NodeId) → Deep t n l → Deep t m l → trees_within t n l ≡ trees_within t m l
 stable t a zero zero l d e = refl
 stable t a zero (suc m) [] d e = refl
 stable t a zero (suc m) (c ∷ l) d e = absurd (not_deep t a c l d)

@@ -38,7 +38,7 @@ pub one_at_most : (o : Option NodeId) → length (option_to_list o) ≤ 1
 one_at_most None = omega arith
 one_at_most (Some c) = omega arith
 
-same_trees : (t u : Nodes) → ((k : ℕ) → children_at u k ≡ children_at t k) → ((k : ℕ) → parent_at u k ≡ parent_at t k) → AreTrees t → AreTrees u
+pub same_trees : (t u : Nodes) → ((k : ℕ) → children_at u k ≡ children_at t k) → ((k : ℕ) → parent_at u k ≡ parent_at t k) → AreTrees t → AreTrees u
 same_trees t u kids up a = record {
   agree = λ p c. ap (has c) (kids p) ∙ a.agree p c ∙ ap (is_this p) (sym (up c));
   distinct = λ p. ap is_distinct (kids p) ∙ a.distinct p;
@@ -83,14 +83,14 @@ module _ (t : Nodes) (k : NodeId) (new : Content) (k_in : k.0 < length t) where
   at_content : (j : ℕ) → node_at (with_content t k new) j ≡ cond (nat_eq k.0 j) (record { content = new; parent = parent_at t k.0; children = children_at t k.0 }) (node_at t j)
   at_content j = at_set t k.0 j (record { content = new; parent = parent_at t k.0; children = children_at t k.0 }) k_in
 
-  content_kids : (j : ℕ) → children_at (with_content t k new) j ≡ children_at t j
+  pub content_kids : (j : ℕ) → children_at (with_content t k new) j ≡ children_at t j
   content_kids j = ap (λ (n : Node). n.children) (at_content j) ∙ go (nat_eq k.0 j) refl
     where
       go : (b : Bool) → nat_eq k.0 j ≡ b → (cond b (record { content = new; parent = parent_at t k.0; children = children_at t k.0 }) (node_at t j)).children ≡ children_at t j
       go true e = ap (children_at t) (eqb-true k.0 j e)
       go false e = refl
 
-  content_up : (j : ℕ) → parent_at (with_content t k new) j ≡ parent_at t j
+  pub content_up : (j : ℕ) → parent_at (with_content t k new) j ≡ parent_at t j
   content_up j = ap (λ (n : Node). n.parent) (at_content j) ∙ go (nat_eq k.0 j) refl
     where
       go : (b : Bool) → nat_eq k.0 j ≡ b → (cond b (record { content = new; parent = parent_at t k.0; children = children_at t k.0 }) (node_at t j)).parent ≡ parent_at t j
@@ -117,7 +117,7 @@ module _ (t : Nodes) (k : NodeId) (new : Content) (k_in : k.0 < length t) where
       ap (filter (λ c. is_element (kind_at (with_content t k new) c.0))) (content_kids 0)
       ∙ filter_same (λ c. is_element (kind_at (with_content t k new) c.0)) (λ c. is_element (kind_at t c.0)) (children_at t 0) (λ c i. kind_same is_element same c.0)
 
-  content_sound : IsSound t → StaysKind (node_at t k.0).content new → IsSound (with_content t k new)
+  pub content_sound : IsSound t → StaysKind (node_at t k.0).content new → IsSound (with_content t k new)
   content_sound s w = record {
     trees = same_trees t (with_content t k new) content_kids content_up s.trees;
     proper = λ j. ap is_proper (content_at j) ∙ proper j (nat_eq k.0 j);
@@ -202,7 +202,7 @@ module _ (t : Nodes) (new : Content) where
   abbrev alone_node : Node
   alone_node = record { content = new; parent = None; children = [] }
 
-  new_kids : (k : ℕ) → children_at (with_new t new) k ≡ children_at t k
+  pub new_kids : (k : ℕ) → children_at (with_new t new) k ≡ children_at t k
   new_kids k = by (at_push t alone_node no_node k)
     where
       by : ((k < length t) × (node_at (with_new t new) k ≡ node_at t k)) ⊎ (((k ≡ length t) × (node_at (with_new t new) k ≡ alone_node) × (node_at t k ≡ no_node)) ⊎ ((length t < k) × (node_at (with_new t new) k ≡ node_at t k))) → children_at (with_new t new) k ≡ children_at t k
@@ -210,7 +210,7 @@ module _ (t : Nodes) (new : Content) where
       by (inr (inl (h, e, f))) = ap (λ (n : Node). n.children) e ∙ sym (ap (λ (n : Node). n.children) f)
       by (inr (inr (l, e))) = ap (λ (n : Node). n.children) e
 
-  new_up : (k : ℕ) → parent_at (with_new t new) k ≡ parent_at t k
+  pub new_up : (k : ℕ) → parent_at (with_new t new) k ≡ parent_at t k
   new_up k = by (at_push t alone_node no_node k)
     where
       by : ((k < length t) × (node_at (with_new t new) k ≡ node_at t k)) ⊎ (((k ≡ length t) × (node_at (with_new t new) k ≡ alone_node) × (node_at t k ≡ no_node)) ⊎ ((length t < k) × (node_at (with_new t new) k ≡ node_at t k))) → parent_at (with_new t new) k ≡ parent_at t k
@@ -226,7 +226,7 @@ module _ (t : Nodes) (new : Content) where
       ap (filter (λ c. is_element (kind_at (with_new t new) c.0))) (new_kids 0)
       ∙ filter_same (λ c. is_element (kind_at (with_new t new) c.0)) (λ c. is_element (kind_at t c.0)) (children_at t 0) (λ c i. ap is_element (new_kind c.0 (child_in t a 0 c.0 i)))
 
-  new_sound : 0 < length t → IsSound t → is_proper new ≡ true → is_document new.kind ≡ false → IsSound (with_new t new)
+  pub new_sound : 0 < length t → IsSound t → is_proper new ≡ true → is_document new.kind ≡ false → IsSound (with_new t new)
   new_sound some s proper not_document = record {
     trees = same_trees t (with_new t new) new_kids new_up s.trees;
     proper = λ k. good k (at_push t alone_node no_node k);

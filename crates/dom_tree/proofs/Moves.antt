@@ -2,13 +2,13 @@
 use Rattle.std.proofs.Common.{◌≡◌, refl, sym, ap, subst, ◌∙◌, ℕ, zero, suc, ◌+◌, ◌-◌, ◌<◌, ◌≤◌, Bool, true, false, cond, ◌&&◌, ◌||◌, not, nat_eq, List, [], ◌∷◌, Option, Some, None, filter, length, arith}
 use Rattle.std.proofs.lemmas.Bool.{and_right, both_ways, eqb-true, not-false, or_parts}
 use Rattle.std.specs.List.{list_all, list_any}
-use Rattle.std.specs.Option.{is_none, option_to_list}
+use Rattle.std.specs.Option.{ForSome, is_none, option_to_list}
 use Rattle.std.proofs.Math.Bool.{or-false}
 use Rattle.js_values.specs.declared.ids.NodeId.{NodeId}
 use Rattle.dom_tree.specs.declared.content.Content.{Content}
 use Rattle.dom_tree.specs.declared.content.Kind.{Kind}
 use Rattle.dom_tree.specs.declared.links.Linked.{Linked}
-use Rattle.dom_tree.specs.Change.{breaks_hierarchy, has_other_element, is_above, is_above_within, is_misplaced, is_missing, of_parent, put_before, taken_from, taken_out, without}
+use Rattle.dom_tree.specs.Change.{breaks_hierarchy, has_other_element, has_third_element, is_above, is_above_within, is_misplaced, is_missing, of_parent, put_before, taken_from, taken_out, without}
 use Rattle.dom_tree.specs.Links.{AreLinked, Shows, backward, beside, forward, linked_in, linked_out, nodes_of, place_of}
 use Rattle.dom_tree.specs.Node.{Nodes, children_at, first_of, has, is_document, is_element, is_text, is_this, kind_at, may_have_children, parent_at}
 use Rattle.dom_tree.specs.Sound.{AreTrees, IsSound, elements_of, is_proper}
@@ -16,7 +16,7 @@ use Rattle.dom_tree.specs.Fits.{Fits, IsReady, in_or_end, top_with, top_without}
 use Rattle.dom_tree.proofs.Chains.{not_self_back, not_self_forth}
 use Rattle.dom_tree.proofs.Kept.{filter_same, linked, all_same, one_at_most}
 use Rattle.dom_tree.proofs.Linking.{is_linked_in, is_linked_out}
-use Rattle.dom_tree.proofs.Lists.{all_put, all_without, any_without, eq_refl, eq_sym, has_without_other, id_of, id_of, filter_put_alone, filter_put_skip, filter_without, gone, none_left, not_in_filter}
+use Rattle.dom_tree.proofs.Lists.{all_put, all_without, any_without, eq_refl, eq_sym, has_without_other, id_of, filter_put_alone, filter_put_skip, filter_without, gone, has_head, none_left, not_in_filter}
 use Rattle.dom_tree.proofs.Shown.{back_in, forth_in, not_beside, put_shows, place_one, range_of, take_shows}
 use Rattle.dom_tree.proofs.Trees.{Moved, child_in, child_of_parent, moved, parent_in, put_trees, take_trees}
 
@@ -104,33 +104,30 @@ module _ (t : Nodes) (p x : NodeId) where
       there None f = refl
       there (Some c) f = not-false (has c.0 (children_at t p.0)) f
 
-module _ (ns : List Linked) (t : Nodes) (top : Option NodeId) (p x : NodeId) (s : Shows ns t) (sound : IsSound t) (e : elements_of t ≡ option_to_list top) where
+-- nodes that are sound, with the element under the document
+pub record AreSoundWith (t : Nodes) (top : Option NodeId) : Type 0 where
+  pub sound : IsSound t
+  pub element : elements_of t ≡ option_to_list top
+
+module _ (t : Nodes) (top : Option NodeId) (p x : NodeId) (sound : IsSound t) (e : elements_of t ≡ option_to_list top) where
   abbrev less : List NodeId
   less = without x.0 (children_at t p.0)
 
-  -- the nodes after one is taken out, and what the links tell then
-  pub took_out : (u : Nodes) → Moved t u p x less None → parent_at t x.0 ≡ Some p → (nodes_of (linked_out ns p.0 x) ≡ u) × AreLinked (linked_out ns p.0 x) (top_without x.0 top)
-  took_out u m up =
-      let a : AreTrees t = sound.trees in
-      let i : has x.0 (children_at t p.0) ≡ true = child_of_parent t a x.0 p up in
-      let p_in : p.0 < length t = parent_in t a x.0 p up in
-      let x_in : x.0 < length t = child_in t a p.0 x.0 i in
-      let q_end : in_or_end (backward ns (beside x)) (children_at t p.0) ≡ true = back_in ns p.0 (Some x) (children_at t p.0) (s.rows p.0) i in
-      let r_end : in_or_end (forward ns (beside x)) (children_at t p.0) ≡ true = forth_in ns p.0 x (children_at t p.0) (s.rows p.0) i in
-      let x_here : x.0 < length ns = omega (arith, x_in, s.long) in
-      let w = is_linked_out ns p.0 x (range_of ns t p.0 (backward ns (beside x)) s a p_in q_end) x_here (range_of ns t p.0 (forward ns (beside x)) s a p_in r_end) (apart_back i) (apart_forth i) in
-      let elements : elements_of u ≡ option_to_list (top_without x.0 top) = elements_same t u p x less None m (children_at u 0) ∙ elements_less m up ∙ ap (without x.0) e ∙ without_top x.0 top in
-      let trees : AreTrees u = take_trees t u p x m up a in
-      linked (linked_out ns p.0 x) u (top_without x.0 top) (take_shows ns (linked_out ns p.0 x) t u p x (backward ns (beside x)) (forward ns (beside x)) s a m w refl refl i)
-      (moved_sound t u p x less None m (top_without x.0 top) sound trees (has_parent_not_first t sound x.0 p up) leaf
-      (λ z. all_without (λ c. not (is_text (kind_at t c.0))) x.0 (children_at t p.0) (ap (λ k. list_all (λ c. not (is_text (kind_at t c.0))) (children_at t k)) (eqb-true p.0 0 z) ∙ sound.no_text)) elements)
-      elements
+  -- the nodes after one is taken out
+  pub sound_out : (u : Nodes) → Moved t u p x less None → parent_at t x.0 ≡ Some p → AreSoundWith u (top_without x.0 top)
+  sound_out u m up =
+      let elements : elements_of u ≡ option_to_list (top_without x.0 top) = elements_same t u p x less None m (children_at u 0) ∙ elements_less m ∙ ap (without x.0) e ∙ without_top x.0 top in
+      record {
+        sound = moved_sound t u p x less None m (top_without x.0 top) sound (take_trees t u p x m up sound.trees) (has_parent_not_first t sound x.0 p up) leaf
+            (λ z. all_without (λ c. not (is_text (kind_at t c.0))) x.0 (children_at t p.0) (ap (λ k. list_all (λ c. not (is_text (kind_at t c.0))) (children_at t k)) (eqb-true p.0 0 z) ∙ sound.no_text)) elements;
+        element = elements;
+      }
     where
       leaf : may_have_children (kind_at t p.0) ≡ false → less ≡ []
       leaf h = ap (without x.0) (sound.leaves p.0 h)
 
-      elements_less : Moved t u p x less None → parent_at t x.0 ≡ Some p → filter (λ c. is_element (kind_at t c.0)) (children_at u 0) ≡ without x.0 (elements_of t)
-      elements_less m up = first_kids t u p x less None m (filter (λ c. is_element (kind_at t c.0))) (without x.0 (elements_of t)) here other
+      elements_less : Moved t u p x less None → filter (λ c. is_element (kind_at t c.0)) (children_at u 0) ≡ without x.0 (elements_of t)
+      elements_less m = first_kids t u p x less None m (filter (λ c. is_element (kind_at t c.0))) (without x.0 (elements_of t)) here other
         where
           here : nat_eq p.0 0 ≡ true → filter (λ c. is_element (kind_at t c.0)) less ≡ without x.0 (elements_of t)
           here z =
@@ -142,49 +139,35 @@ module _ (ns : List Linked) (t : Nodes) (top : Option NodeId) (p x : NodeId) (s 
               let out : has x.0 (children_at t 0) ≡ false = sound.trees.agree 0 x.0 ∙ ap (is_this 0) up ∙ eq_sym 0 p.0 ∙ z in
               sym (gone x.0 (elements_of t) (not_in_filter (λ c. is_element (kind_at t c.0)) x.0 (children_at t 0) out))
 
-      apart_back : has x.0 (children_at t p.0) ≡ true → place_of p.0 (backward ns (beside x)) ≡ beside x → ⊥
-      apart_back i f =
-          not_self_back (λ z. forward ns (place_of p.0 z)) (λ z. backward ns (place_of p.0 z)) None x (children_at t p.0) (s.rows p.0) i (sound.trees.distinct p.0) refl (place_one p.0 (backward ns (beside x)) (Some x) f)
-
-      apart_forth : has x.0 (children_at t p.0) ≡ true → place_of p.0 (forward ns (beside x)) ≡ beside x → ⊥
-      apart_forth i f =
-          not_self_forth (λ z. forward ns (place_of p.0 z)) (λ z. backward ns (place_of p.0 z)) None x (children_at t p.0) (s.rows p.0) i (sound.trees.distinct p.0) (place_one p.0 (forward ns (beside x)) (Some x) f)
-
   abbrev more : Option NodeId → List NodeId
   more r = put_before r x (children_at t p.0)
 
   abbrev get_top : Option NodeId
   get_top = top_with x (is_document (kind_at t p.0) && is_element (kind_at t x.0)) top
 
-  -- where a node that is alone is put in
-  pub put_it : (u : Nodes) (r : Option NodeId) → Moved t u p x (more r) (Some p) → p.0 < length t → x.0 < length t → parent_at t x.0 ≡ None → Fits t p x r
-      → (nodes_of (linked_in ns p.0 (backward ns (place_of p.0 r)) x r) ≡ u) × AreLinked (linked_in ns p.0 (backward ns (place_of p.0 r)) x r) get_top
-  put_it u r m p_in x_in alone f =
-      let a : AreTrees t = sound.trees in
-      let q_end : in_or_end (backward ns (place_of p.0 r)) (children_at t p.0) ≡ true = back_in ns p.0 r (children_at t p.0) (s.rows p.0) f.there in
-      let x_here : x.0 < length ns = omega (arith, x_in, s.long) in
-      let w = is_linked_in ns p.0 (backward ns (place_of p.0 r)) x r (range_of ns t p.0 (backward ns (place_of p.0 r)) s a p_in q_end) x_here (range_of ns t p.0 r s a p_in f.there)
-      (not_beside p.0 (backward ns (place_of p.0 r)) (children_at t p.0) x q_end x_out) (not_beside p.0 r (children_at t p.0) x f.there x_out)
-      in
-      let elements : elements_of u ≡ option_to_list get_top = elements_same t u p x (more r) (Some p) m (children_at u 0) ∙ elements_more m in
-      let trees : AreTrees u = put_trees t u p x r m alone p_in f.not_above a in
-      linked (linked_in ns p.0 (backward ns (place_of p.0 r)) x r) u get_top (put_shows ns (linked_in ns p.0 (backward ns (place_of p.0 r)) x r) t u p x r (backward ns (place_of p.0 r)) s a m w refl f.there alone)
-      (moved_sound t u p x (more r) (Some p) m get_top sound trees (not_first t sound x.0 f.no_document)
-      (λ h. absurd (both_ways (may_have_children (kind_at t p.0)) h f.holds))
-      (λ z. all_put (λ c. not (is_text (kind_at t c.0))) r x (children_at t p.0) (ap not (f.no_text (sound.document p.0 ∙ z)))
-      (ap (λ k. list_all (λ c. not (is_text (kind_at t c.0))) (children_at t k)) (eqb-true p.0 0 z) ∙ sound.no_text)) elements)
-      elements
-    where
-      x_out : has x.0 (children_at t p.0) ≡ false
-      x_out = sound.trees.agree p.0 x.0 ∙ ap (is_this p.0) alone
+  -- a node that is alone is no child yet
+  not_in : parent_at t x.0 ≡ None → has x.0 (children_at t p.0) ≡ false
+  not_in alone = sound.trees.agree p.0 x.0 ∙ ap (is_this p.0) alone
 
+  -- the nodes after one that is alone is put in
+  pub sound_in : (u : Nodes) (r : Option NodeId) → Moved t u p x (more r) (Some p) → p.0 < length t → parent_at t x.0 ≡ None → Fits t p x r → AreSoundWith u get_top
+  sound_in u r m p_in alone f =
+      let elements : elements_of u ≡ option_to_list get_top = elements_same t u p x (more r) (Some p) m (children_at u 0) ∙ elements_more in
+      record {
+        sound = moved_sound t u p x (more r) (Some p) m get_top sound (put_trees t u p x r m alone p_in f.not_above sound.trees) (not_first t sound x.0 f.no_document)
+            (λ h. absurd (both_ways (may_have_children (kind_at t p.0)) h f.holds))
+            (λ z. all_put (λ c. not (is_text (kind_at t c.0))) r x (children_at t p.0) (ap not (f.no_text (sound.document p.0 ∙ z)))
+            (ap (λ k. list_all (λ c. not (is_text (kind_at t c.0))) (children_at t k)) (eqb-true p.0 0 z) ∙ sound.no_text)) elements;
+        element = elements;
+      }
+    where
       kids_first : nat_eq p.0 0 ≡ true → filter (λ c. is_element (kind_at t c.0)) (children_at t p.0) ≡ elements_of t
       kids_first z = ap (λ k. filter (λ c. is_element (kind_at t c.0)) (children_at t k)) (eqb-true p.0 0 z)
 
       here : nat_eq p.0 0 ≡ true → (b : Bool) → is_element (kind_at t x.0) ≡ b → filter (λ c. is_element (kind_at t c.0)) (more r) ≡ option_to_list get_top
       here z true g =
           let d : is_document (kind_at t p.0) ≡ true = sound.document p.0 ∙ z in
-          filter_put_alone (λ c. is_element (kind_at t c.0)) r x (children_at t p.0) g (none_left (λ c. is_element (kind_at t c.0)) x.0 (children_at t p.0) (ap (λ k. list_any (λ c. is_element (kind_at t c.0) && not (nat_eq x.0 c.0)) (children_at t k)) (eqb-true p.0 0 z) ∙ f.no_other d g) x_out)
+          filter_put_alone (λ c. is_element (kind_at t c.0)) r x (children_at t p.0) g (none_left (λ c. is_element (kind_at t c.0)) x.0 (children_at t p.0) (ap (λ k. list_any (λ c. is_element (kind_at t c.0) && not (nat_eq x.0 c.0)) (children_at t k)) (eqb-true p.0 0 z) ∙ f.no_other d g) (not_in alone))
           ∙ rw (d, g) refl
       here z false g =
           let d : is_document (kind_at t p.0) ≡ true = sound.document p.0 ∙ z in
@@ -195,8 +178,45 @@ module _ (ns : List Linked) (t : Nodes) (top : Option NodeId) (p x : NodeId) (s 
           let d : is_document (kind_at t p.0) ≡ false = sound.document p.0 ∙ z in
           e ∙ rw d refl
 
-      elements_more : Moved t u p x (more r) (Some p) → filter (λ c. is_element (kind_at t c.0)) (children_at u 0) ≡ option_to_list get_top
-      elements_more m = first_kids t u p x (more r) (Some p) m (filter (λ c. is_element (kind_at t c.0))) (option_to_list get_top) (λ z. here z (is_element (kind_at t x.0)) refl) other
+      elements_more : filter (λ c. is_element (kind_at t c.0)) (children_at u 0) ≡ option_to_list get_top
+      elements_more = first_kids t u p x (more r) (Some p) m (filter (λ c. is_element (kind_at t c.0))) (option_to_list get_top) (λ z. here z (is_element (kind_at t x.0)) refl) other
+
+module _ (ns : List Linked) (t : Nodes) (top : Option NodeId) (p x : NodeId) (s : Shows ns t) (sound : IsSound t) (e : elements_of t ≡ option_to_list top) where
+  -- what the links tell after a node is taken out
+  pub took_out : (u : Nodes) → Moved t u p x (less t top p x sound e) None → parent_at t x.0 ≡ Some p → (nodes_of (linked_out ns p.0 x) ≡ u) × AreLinked (linked_out ns p.0 x) (top_without x.0 top)
+  took_out u m up =
+      let a : AreTrees t = sound.trees in
+      let i : has x.0 (children_at t p.0) ≡ true = child_of_parent t a x.0 p up in
+      let p_in : p.0 < length t = parent_in t a x.0 p up in
+      let x_in : x.0 < length t = child_in t a p.0 x.0 i in
+      let q_end : in_or_end (backward ns (beside x)) (children_at t p.0) ≡ true = back_in ns p.0 (Some x) (children_at t p.0) (s.rows p.0) i in
+      let r_end : in_or_end (forward ns (beside x)) (children_at t p.0) ≡ true = forth_in ns p.0 x (children_at t p.0) (s.rows p.0) i in
+      let x_here : x.0 < length ns = omega (arith, x_in, s.long) in
+      let w = is_linked_out ns p.0 x (range_of ns t p.0 (backward ns (beside x)) s a p_in q_end) x_here (range_of ns t p.0 (forward ns (beside x)) s a p_in r_end) (apart_back i) (apart_forth i) in
+      let fine : AreSoundWith u (top_without x.0 top) = sound_out t top p x sound e u m up in
+      linked (linked_out ns p.0 x) u (top_without x.0 top) (take_shows ns (linked_out ns p.0 x) t u p x (backward ns (beside x)) (forward ns (beside x)) s a m w refl refl i) fine.sound fine.element
+    where
+      apart_back : has x.0 (children_at t p.0) ≡ true → place_of p.0 (backward ns (beside x)) ≡ beside x → ⊥
+      apart_back i f =
+          not_self_back (λ z. forward ns (place_of p.0 z)) (λ z. backward ns (place_of p.0 z)) None x (children_at t p.0) (s.rows p.0) i (sound.trees.distinct p.0) refl (place_one p.0 (backward ns (beside x)) (Some x) f)
+
+      apart_forth : has x.0 (children_at t p.0) ≡ true → place_of p.0 (forward ns (beside x)) ≡ beside x → ⊥
+      apart_forth i f =
+          not_self_forth (λ z. forward ns (place_of p.0 z)) (λ z. backward ns (place_of p.0 z)) None x (children_at t p.0) (s.rows p.0) i (sound.trees.distinct p.0) (place_one p.0 (forward ns (beside x)) (Some x) f)
+
+  -- and after one that is alone is put in
+  pub put_it : (u : Nodes) (r : Option NodeId) → Moved t u p x (more t top p x sound e r) (Some p) → p.0 < length t → x.0 < length t → parent_at t x.0 ≡ None → Fits t p x r
+      → (nodes_of (linked_in ns p.0 (backward ns (place_of p.0 r)) x r) ≡ u) × AreLinked (linked_in ns p.0 (backward ns (place_of p.0 r)) x r) (get_top t top p x sound e)
+  put_it u r m p_in x_in alone f =
+      let a : AreTrees t = sound.trees in
+      let q_end : in_or_end (backward ns (place_of p.0 r)) (children_at t p.0) ≡ true = back_in ns p.0 r (children_at t p.0) (s.rows p.0) f.there in
+      let x_here : x.0 < length ns = omega (arith, x_in, s.long) in
+      let x_out : has x.0 (children_at t p.0) ≡ false = not_in t top p x sound e alone in
+      let w = is_linked_in ns p.0 (backward ns (place_of p.0 r)) x r (range_of ns t p.0 (backward ns (place_of p.0 r)) s a p_in q_end) x_here (range_of ns t p.0 r s a p_in f.there)
+      (not_beside p.0 (backward ns (place_of p.0 r)) (children_at t p.0) x q_end x_out) (not_beside p.0 r (children_at t p.0) x f.there x_out)
+      in
+      let fine : AreSoundWith u (get_top t top p x sound e) = sound_in t top p x sound e u r m p_in alone f in
+      linked (linked_in ns p.0 (backward ns (place_of p.0 r)) x r) u (get_top t top p x sound e) (put_shows ns (linked_in ns p.0 (backward ns (place_of p.0 r)) x r) t u p x r (backward ns (place_of p.0 r)) s a m w refl f.there alone) fine.sound fine.element
 
 -- the tests of an insertion give the same after the node is taken out
 above_at : (o : Option NodeId) (f g : ℕ → Bool) → ((k : ℕ) → f k ≡ g k) → of_parent o f ≡ of_parent o g
@@ -213,7 +233,7 @@ module _ (t u : Nodes) (p x : NodeId) (l : List NodeId) (o : Option NodeId) (m :
       by true e h = refl
       by false e h = ap (λ z. of_parent z (λ z. is_above_within u n x.0 z)) (m.parent_other k e) ∙ h
 
-any_same : (f g : NodeId → Bool) (l : List NodeId) → ((c : NodeId) → f c ≡ g c) → list_any f l ≡ list_any g l
+pub any_same : (f g : NodeId → Bool) (l : List NodeId) → ((c : NodeId) → f c ≡ g c) → list_any f l ≡ list_any g l
 any_same f g [] same = refl
 any_same f g (c ∷ l) same = rw (same c, any_same f g l same) refl
 
@@ -302,6 +322,28 @@ any_filter f g (c ∷ l) = by (f c) (any_filter f g l)
 
 pub other_element : (t : Nodes) (c : ℕ) (o : Option NodeId) → elements_of t ≡ option_to_list o → has_other_element t c ≡ list_any (λ e. not (nat_eq c e.0)) (option_to_list o)
 other_element t c o e = any_filter (λ d. is_element (kind_at t d.0)) (λ d. not (nat_eq c d.0)) (children_at t 0) ∙ ap (list_any (λ d. not (nat_eq c d.0))) e
+
+and_assoc : (a b c : Bool) → a && b && c ≡ a && (b && c)
+and_assoc true b c = refl
+and_assoc false b c = refl
+
+pub third_element : (t : Nodes) (c old : ℕ) (o : Option NodeId) → elements_of t ≡ option_to_list o → has_third_element t c old ≡ list_any (λ e. not (nat_eq c e.0) && not (nat_eq old e.0)) (option_to_list o)
+third_element t c old o e =
+    any_same (λ d. is_element (kind_at t d.0) && not (nat_eq c d.0) && not (nat_eq old d.0)) (λ d. is_element (kind_at t d.0) && (not (nat_eq c d.0) && not (nat_eq old d.0))) (children_at t 0)
+    (λ d. and_assoc (is_element (kind_at t d.0)) (not (nat_eq c d.0)) (not (nat_eq old d.0)))
+    ∙ any_filter (λ d. is_element (kind_at t d.0)) (λ d. not (nat_eq c d.0) && not (nat_eq old d.0)) (children_at t 0)
+    ∙ ap (list_any (λ d. not (nat_eq c d.0) && not (nat_eq old d.0))) e
+
+-- the element of the document is a node
+pub top_there : (t : Nodes) → AreTrees t → (o : Option NodeId) → elements_of t ≡ option_to_list o → ForSome o (λ k. k.0 < length t)
+top_there t a o e k f = child_in t a 0 k.0 (by (has k.0 (children_at t 0)) refl)
+  where
+    among : has k.0 (elements_of t) ≡ true
+    among = ap (has k.0) (e ∙ ap option_to_list f) ∙ has_head k []
+
+    by : (b : Bool) → has k.0 (children_at t 0) ≡ b → b ≡ true
+    by true i = refl
+    by false i = absurd (both_ways (has k.0 (elements_of t)) (not_in_filter (λ c. is_element (kind_at t c.0)) k.0 (children_at t 0) i) among)
 
 -- the steps of the way up
 pub above_here : (t : Nodes) (n i x k : ℕ) → i < n → nat_eq x k ≡ true → is_above_within t (n - i) x k ≡ true

@@ -11,7 +11,7 @@ use Rattle.dom_tree.proofs.Chains.{chain_first, chain_last, chain_next, chain_pr
 use Rattle.dom_tree.proofs.Lists.{has_head, has_tail}
 use Rattle.dom_tree.proofs.Trees.{child_in, child_of_parent, parent_in}
 
-first_has : (l : List NodeId) (c : NodeId) → first_of l ≡ Some c → has c.0 l ≡ true
+pub first_has : (l : List NodeId) (c : NodeId) → first_of l ≡ Some c → has c.0 l ≡ true
 first_has [] c e = cc
 first_has (d ∷ l) c e =
     let same : d ≡ c = cc in
@@ -25,7 +25,7 @@ last_has (d ∷ l) u c e = by (last_has l (Some d) c e)
     by (inl f) = let same : d ≡ c = cc in inr (subst (λ z. has z.0 (d ∷ l) ≡ true) same (has_head d l))
     by (inr h) = inr (has_tail c d l h)
 
-rest_has : (k : ℕ) (l : List NodeId) (c : NodeId) → has c.0 (rest_after k l) ≡ true → has c.0 l ≡ true
+pub rest_has : (k : ℕ) (l : List NodeId) (c : NodeId) → has c.0 (rest_after k l) ≡ true → has c.0 l ≡ true
 rest_has k [] c h = h
 rest_has k (d ∷ l) c h = by (nat_eq k d.0) h (rest_has k l c)
   where

@@ -14,7 +14,7 @@ use Rattle.dom_tree.specs.Attributes.{Pairs, with_value_of, without_value_of}
 use Rattle.dom_tree.specs.Content.{has_text, kind_with_text, new_content, with_attribute, with_value, without_attribute}
 use Rattle.dom_tree.specs.Name.{folded, is_folded_name, is_name, is_name_part, is_name_start}
 use Rattle.dom_tree.specs.Node.{is_document, is_element, is_text}
-use Rattle.dom_tree.specs.Sound.{is_named, is_proper, takes_value}
+use Rattle.dom_tree.specs.Sound.{has_folded_name, is_proper, takes_value}
 
 lower_start : (u : ℕ) → is_name_start u ≡ true → is_name_start (to_ascii_lowercase u) ≡ true
 lower_start u h = grind (arith, nat_tests)
@@ -50,16 +50,16 @@ element_proper name h = rw (folded_name name h) (or_right (takes_value (Element 
 
 -- the parts of a proper content
 record Parts (c : Content) : Type 0 where
-  named : is_named c.kind ≡ true
+  named : has_folded_name c.kind ≡ true
   attributes : list_all (λ a. is_folded_name a.0) c.attributes ≡ true
   only_elements : is_element c.kind || nat_eq (length c.attributes) 0 ≡ true
   only_inputs : takes_value c.kind || is_none c.value ≡ true
 
 parts : (c : Content) → is_proper c ≡ true → Parts c
 parts c h =
-    let x = and_parts (is_named c.kind && list_all (λ a. is_folded_name a.0) c.attributes && (is_element c.kind || nat_eq (length c.attributes) 0)) (takes_value c.kind || is_none c.value) h in
-    let y = and_parts (is_named c.kind && list_all (λ a. is_folded_name a.0) c.attributes) (is_element c.kind || nat_eq (length c.attributes) 0) x.0 in
-    let z = and_parts (is_named c.kind) (list_all (λ a. is_folded_name a.0) c.attributes) y.0 in
+    let x = and_parts (has_folded_name c.kind && list_all (λ a. is_folded_name a.0) c.attributes && (is_element c.kind || nat_eq (length c.attributes) 0)) (takes_value c.kind || is_none c.value) h in
+    let y = and_parts (has_folded_name c.kind && list_all (λ a. is_folded_name a.0) c.attributes) (is_element c.kind || nat_eq (length c.attributes) 0) x.0 in
+    let z = and_parts (has_folded_name c.kind) (list_all (λ a. is_folded_name a.0) c.attributes) y.0 in
     record { named = z.0; attributes = z.1; only_elements = y.1; only_inputs = x.1 }
 
 together : (c : Content) → Parts c → is_proper c ≡ true

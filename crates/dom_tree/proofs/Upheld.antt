@@ -16,16 +16,17 @@ use Rattle.dom_tree.proofs.Generations.{parent_depth, trees_are}
 use Rattle.dom_tree.proofs.Kept.{has_first}
 use Rattle.dom_tree.proofs.Lists.{eq_refl, eq_sym, gone, has_put, has_without_same}
 use Rattle.dom_tree.proofs.Moves.{fits, ready}
+use Rattle.dom_tree.proofs.Taken.{Left, left}
 use Rattle.dom_tree.proofs.Trees.{Moved, depth, moved, parent_in, same_depth}
 
 -- an accepted insertion passes its tests
-no_fault : (a b : Bool) → (if a then Some Hierarchy else (if b then Some NotFound else None)) ≡ None → (a ≡ false) × (b ≡ false)
+pub no_fault : (a b : Bool) → (if a then Some Hierarchy else (if b then Some NotFound else None)) ≡ None → (a ≡ false) × (b ≡ false)
 no_fault true b h = cc
 no_fault false true h = cc
 no_fault false false h = (refl, refl)
 
 -- the one directly after a node that was put in
-after_put : (before : Option NodeId) (c : NodeId) (l : List NodeId) → in_or_end before l ≡ true → has c.0 l ≡ false → first_of (rest_after c.0 (put_before before c l)) ≡ before
+pub after_put : (before : Option NodeId) (c : NodeId) (l : List NodeId) → in_or_end before l ≡ true → has c.0 l ≡ false → first_of (rest_after c.0 (put_before before c l)) ≡ before
 after_put None c [] i out = ap (λ b. first_of (cond b [] [])) (eq_refl c.0)
 after_put (Some r) c [] i out = cc
 after_put before c (d ∷ l) i out =
@@ -51,31 +52,6 @@ without_put before c (d ∷ l) out =
     by true more ne = ap (λ b. cond b (d ∷ l) (c ∷ without c.0 (d ∷ l))) (eq_refl c.0)
     by false more ne = ap (λ b. cond b (put_before before c l) (d ∷ without c.0 (put_before before c l))) ne ∙ ap (λ r. d ∷ r) more
 
--- what taking a node out leaves
-record Left (t u : Nodes) (c : NodeId) : Type 0 where
-  content : (k : ℕ) → (node_at u k).content ≡ (node_at t k).content
-  parent : (k : ℕ) → nat_eq c.0 k ≡ false → parent_at u k ≡ parent_at t k
-  children : (q : ℕ) → children_at u q ≡ without c.0 (children_at t q)
-  alone : parent_at u c.0 ≡ None
-  long : length u ≡ length t
-
-left : (t : Nodes) (c : NodeId) → AreTrees t → c.0 < length t → (o : Option NodeId) → parent_at t c.0 ≡ o → Left t (taken_from t c o) c
-left t c a c_in None up = record {
-  content = λ k. refl;
-  parent = λ k ne. refl;
-  children = λ q. sym (gone c.0 (children_at t q) (a.agree q c.0 ∙ ap (is_this q) up));
-  alone = up;
-  long = refl;
-}
-left t c a c_in (Some p) up = record { content = m.content; parent = m.parent_other; children = λ q. children q (nat_eq p.0 q) refl; alone = m.parent_here; long = m.long }
-  where
-    m : Moved t (taken_from t c (Some p)) p c (without c.0 (children_at t p.0)) None
-    m = moved t p c (without c.0 (children_at t p.0)) None (parent_in t a c.0 p up) c_in
-
-    children : (q : ℕ) (b : Bool) → nat_eq p.0 q ≡ b → children_at (taken_from t c (Some p)) q ≡ without c.0 (children_at t q)
-    children q true e = ap (children_at (taken_from t c (Some p))) (sym (eqb-true p.0 q e)) ∙ m.children_here ∙ ap (λ z. without c.0 (children_at t z)) (eqb-true p.0 q e)
-    children q false e = m.children_other q e ∙ sym (gone c.0 (children_at t q) (a.agree q c.0 ∙ ap (is_this q) up ∙ eq_sym q p.0 ∙ e))
-
 -- what an accepted insertion makes
 record Stands (t u : Nodes) (p c : NodeId) (before : Option NodeId) : Type 0 where
   content : (k : ℕ) → (node_at u k).content ≡ (node_at t k).content
@@ -90,7 +66,7 @@ stands t p c before h =
     let a : AreTrees t = h.sound.trees in
     let tests = no_fault (breaks_hierarchy t p.0 c.0) (is_missing t p.0 before) h.accepted in
     let ok : IsReady (taken_out t c) p c before (length t) = ready t p c before a h.child h.apart (fits t p c before tests.0 tests.1) in
-    let w : Left t (taken_out t c) c = left t c a h.child (parent_at t c.0) refl in
+    let w : Left t (taken_out t c) c = left t c a in
     let v : Nodes = taken_out t c in
     let m : Moved v (put_under v p c before) p c (put_before before c (children_at v p.0)) (Some p) =
     moved v p c (put_before before c (children_at v p.0)) (Some p) (omega (arith, h.parent, w.long)) (omega (arith, h.child, w.long))

@@ -1,10 +1,10 @@
--- How nodes are put under others and taken out (DOM Level 2 Core, `insertBefore` and `removeChild`).
+-- How nodes are put under others, taken out and replaced (DOM Level 2 Core, `insertBefore`, `removeChild` and `replaceChild`).
 use Rattle.std.specs.Prelude.{◌≡◌, ℕ, zero, suc, Bool, false, ◌&&◌, ◌||◌, not, cond, List, [], ◌∷◌, Option, Some, None, Result, Ok, Err, length, nat_eq, if◌then◌else◌}
 use Rattle.std.specs.List.{list_any}
 use Rattle.js_values.specs.declared.ids.NodeId.{NodeId}
 use Rattle.dom_tree.specs.declared.fault.DomError.{DomError}
 use Rattle.dom_tree.specs.declared.fault.DomError.TheVariants.{Hierarchy, NotFound}
-use Rattle.dom_tree.specs.Node.{Nodes, children_at, has, is_document, is_element, is_text, is_this, kind_at, may_have_children, parent_at, with_children, with_parent}
+use Rattle.dom_tree.specs.Node.{Nodes, children_at, has, is_document, is_element, is_text, is_this, kind_at, may_have_children, next_of, parent_at, with_children, with_parent}
 
 -- the list without the node
 abbrev pub without : ℕ → List NodeId → List NodeId
@@ -52,10 +52,13 @@ is_misplaced t c = is_text (kind_at t c) || (is_element (kind_at t c) && has_oth
 
 -- HIERARCHY_REQUEST_ERR: the parent may have no children, the child is the document or is the parent or above it, or it
 -- may not stand under the document
-abbrev pub breaks_hierarchy : Nodes → ℕ → ℕ → Bool
-breaks_hierarchy t p c =
+abbrev pub breaks_hierarchy_where : Nodes → ℕ → ℕ → Bool → Bool
+breaks_hierarchy_where t p c misplaced =
     not (may_have_children (kind_at t p)) || is_document (kind_at t c) || is_above t c p
-    || (is_document (kind_at t p) && is_misplaced t c)
+    || (is_document (kind_at t p) && misplaced)
+
+abbrev pub breaks_hierarchy : Nodes → ℕ → ℕ → Bool
+breaks_hierarchy t p c = breaks_hierarchy_where t p c (is_misplaced t c)
 
 -- NOT_FOUND_ERR: there is a reference, and it is no child of the parent
 abbrev pub is_missing : Nodes → ℕ → Option NodeId → Bool
@@ -70,6 +73,33 @@ insertion_error t p c before =
 -- a node that is in a tree is taken out before it is inserted; a node before itself changes nothing
 abbrev pub inserted : Nodes → NodeId → NodeId → Option NodeId → Nodes
 inserted t p c before = if is_this c.0 before then t else put_under (taken_out t c) p c before
+
+-- whether an element but these two is among the children of the document
+abbrev pub has_third_element : Nodes → ℕ → ℕ → Bool
+has_third_element t c old =
+    list_any (λ e. is_element (kind_at t e.0) && not (nat_eq c e.0) && not (nat_eq old e.0)) (children_at t 0)
+
+abbrev pub is_misplaced_for : Nodes → ℕ → ℕ → Bool
+is_misplaced_for t c old = is_text (kind_at t c) || (is_element (kind_at t c) && has_third_element t c old)
+
+-- the error of a replacement: that of an insertion before the old node, which does not count as the element of the document
+abbrev pub replacement_error : Nodes → NodeId → NodeId → NodeId → Option DomError
+replacement_error t p c old =
+    if breaks_hierarchy_where t p.0 c.0 (is_misplaced_for t c.0 old.0) then Some Hierarchy
+    else (if has old.0 (children_at t p.0) then None else Some NotFound)
+
+-- the node, which has no parent, is put where the old one stands, which is taken out
+abbrev pub put_for : Nodes → NodeId → NodeId → NodeId → Nodes
+put_for t p c old = put_under (taken_out t old) p c (next_of t old.0)
+
+-- a node that is in a tree is taken out before; a node in place of itself changes nothing
+abbrev pub replaced : Nodes → NodeId → NodeId → NodeId → Nodes
+replaced t p c old = if nat_eq c.0 old.0 then t else put_for (taken_out t c) p c old
+
+-- each of them is taken out
+abbrev pub all_taken_out : Nodes → List NodeId → Nodes
+all_taken_out t [] = t
+all_taken_out t (c ∷ cs) = all_taken_out (taken_out t c) cs
 
 -- the error of a removal, if there is one
 abbrev pub removal_error : Nodes → NodeId → NodeId → Option DomError

@@ -1,5 +1,5 @@
 -- What changes of a node without its place.
-use Rattle.std.specs.Prelude.{◌≡◌, ℕ, Bool, true, false, [], Option, Some, None}
+use Rattle.std.specs.Prelude.{◌≡◌, ℕ, Bool, true, false, [], Option, Some, None, bytes_eq}
 use Rattle.js_core.specs.Text.{Text}
 use Rattle.dom_tree.specs.declared.content.Content.{Content}
 use Rattle.dom_tree.specs.declared.content.Kind.{Kind}
@@ -38,11 +38,16 @@ with_attribute c name v = with_attributes c (with_value_of (folded name) v c.att
 abbrev pub without_attribute : Content → Text → Content
 without_attribute c name = with_attributes c (without_value_of (folded name) c.attributes)
 
--- the name of an element, and the text of a text or comment
+-- the name of an element, and whether it is this one
 abbrev pub name_of : Kind → Option Text
 name_of (Element name) = Some name
 name_of k = None
 
+abbrev pub is_named : Text → Kind → Bool
+is_named x (Element name) = bytes_eq name x
+is_named x k = false
+
+-- the text of a text or comment
 abbrev pub text_of : Kind → Option Text
 text_of (kind.Text text) = Some text
 text_of (Comment text) = Some text

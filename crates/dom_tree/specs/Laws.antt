@@ -1,13 +1,17 @@
 -- What calls on nodes keep, in the words of the subject.
-use Rattle.std.specs.Prelude.{◌≡◌, ℕ, ◌<◌, false, [], ◌∷◌, ◌++◌, Option, Some, None, length, nat_eq, codes}
+use Rattle.std.specs.Prelude.{◌≡◌, ℕ, ◌<◌, ◌≤◌, true, false, List, [], ◌∷◌, ◌++◌, Option, Some, None, length, nat_eq, codes}
 use Rattle.std.specs.List.{flat_map}
 use Rattle.js_core.specs.Text.{Text}
 use Rattle.js_values.specs.declared.ids.NodeId.{NodeId}
 use Rattle.dom_tree.specs.declared.content.Kind.TheVariants as kind
-use Rattle.dom_tree.specs.Change.{inserted, insertion_error, is_above, without}
+use Rattle.dom_tree.specs.declared.content.Kind.{Kind}
+use Rattle.dom_tree.specs.Change.{all_taken_out, inserted, insertion_error, is_above, is_above_within, replaced, replacement_error, taken_out, without}
+use Rattle.dom_tree.specs.Content.{new_content}
 use Rattle.dom_tree.specs.DomText.{closing_of, dom_text, opening_of, own_text, text_content, text_unit}
-use Rattle.dom_tree.specs.Node.{Nodes, children_at, has, is_this, kind_at, next_of, node_at, parent_at}
-use Rattle.dom_tree.specs.Sound.{IsSound}
+use Rattle.dom_tree.specs.Node.{Nodes, above_within, children_at, has, is_document, is_this, kind_at, next_of, node_at, nodes_above, parent_at, with_new}
+use Rattle.dom_tree.specs.Sound.{AreTrees, IsSound, has_folded_name}
+use Rattle.dom_tree.specs.Steps.{NodeStep, after_node}
+use Rattle.dom_tree.specs.Trees.{trees_of, trees_within}
 
 -- an insertion that is not refused, of a node that is not itself the reference
 pub record Inserts (t : Nodes) (p c : NodeId) (before : Option NodeId) : Type 0 where
@@ -31,6 +35,57 @@ OthersStay =
     → let u = inserted t p c before in
     ((k : ℕ) → (node_at u k).content ≡ (node_at t k).content) × ((k : ℕ) → nat_eq c.0 k ≡ false → parent_at u k ≡ parent_at t k)
     × ((q : ℕ) → without c.0 (children_at u q) ≡ without c.0 (children_at t q))
+
+-- a replacement that is not refused, by another node
+pub record Replaces (t : Nodes) (p c old : NodeId) : Type 0 where
+  pub sound : IsSound t
+  pub child : c.0 < length t
+  pub accepted : replacement_error t p c old ≡ None
+  pub apart : nat_eq c.0 old.0 ≡ false
+
+-- the child stands where the old one stood, before what stands there after the old one once the child is taken out, and
+-- the old one stands nowhere
+abbrev pub StandsInPlace : Type 0
+StandsInPlace =
+    (t : Nodes) (p c old : NodeId) → Replaces t p c old
+    → let u = replaced t p c old in
+    (parent_at u c.0 ≡ Some p) × (next_of u c.0 ≡ next_of (taken_out t c) old.0)
+    × ((q : ℕ) → has c.0 (children_at u q) ≡ nat_eq q p.0) × (parent_at u old.0 ≡ None) × ((q : ℕ) → has old.0 (children_at u q) ≡ false)
+
+-- all children of a node are out, and nothing else moves
+abbrev pub AllStandAlone : Type 0
+AllStandAlone =
+    (t : Nodes) (k : NodeId) → IsSound t
+    → let u = all_taken_out t (children_at t k.0) in
+    (children_at u k.0 ≡ []) × ((c : ℕ) → has c (children_at t k.0) ≡ true → parent_at u c ≡ None)
+    × ((c : ℕ) → has c (children_at t k.0) ≡ false → parent_at u c ≡ parent_at t c)
+    × ((q : ℕ) → nat_eq k.0 q ≡ false → children_at u q ≡ children_at t q)
+
+-- whatever is done to nodes, they stay trees, and sound, and as many
+pub record Stays (t : Nodes) (g : NodeStep) : Type 0 where
+  pub trees : AreTrees t → AreTrees (after_node t g)
+  pub sound : IsSound t → IsSound (after_node t g)
+  pub long : length (after_node t g) ≡ length t
+
+abbrev pub StepsStaySound : Type 0
+StepsStaySound = (t : Nodes) (g : NodeStep) → Stays t g
+
+-- so they do where a node is made; they stay sound where its name is folded and it is no document
+pub record MakesSound (t : Nodes) (k : Kind) : Type 0 where
+  pub trees : AreTrees t → AreTrees (with_new t (new_content k))
+  pub sound : IsSound t → has_folded_name k ≡ true → is_document k ≡ false → IsSound (with_new t (new_content k))
+
+abbrev pub NewNodesStaySound : Type 0
+NewNodesStaySound = (t : Nodes) (k : Kind) → MakesSound t k
+
+-- more generations than there are nodes change nothing: of trees, of what stands above a node, and of the nodes above it
+pub record NoMoreGenerations (t : Nodes) (n : ℕ) : Type 0 where
+  pub trees : (l : List NodeId) → ((c : NodeId) → has c.0 l ≡ true → c.0 < length t) → trees_within t n l ≡ trees_of t l
+  pub is_above : (x k : ℕ) → k < length t → is_above_within t n x k ≡ is_above t x k
+  pub above : (k : NodeId) → k.0 < length t → above_within t n (parent_at t k.0) ≡ nodes_above t k
+
+abbrev pub GenerationsAreEnough : Type 0
+GenerationsAreEnough = (t : Nodes) (n : ℕ) → AreTrees t → length t ≤ n → NoMoreGenerations t n
 
 -- no node stands above its parent
 abbrev pub NoOwnAncestor : Type 0

@@ -9,5 +9,6 @@ pub mod Name
 pub mod Node
 pub mod Pieces
 pub mod Sound
+pub mod Steps
 pub mod Trees
 pub mod Visits

@@ -1,5 +1,5 @@
 -- The nodes of a document as a list by age.
-use Rattle.std.specs.Prelude.{ℕ, Bool, true, false, ◌&&◌, ◌||◌, not, cond, List, [], ◌∷◌, ◌++◌, Option, Some, None, slice_index_or, slice_set, nat_eq}
+use Rattle.std.specs.Prelude.{◌≡◌, ℕ, ◌<◌, zero, suc, Bool, true, false, ◌&&◌, ◌||◌, not, cond, List, [], ◌∷◌, ◌++◌, Option, Some, None, length, slice_index_or, slice_set, nat_eq}
 use Rattle.js_values.specs.declared.ids.NodeId.{NodeId}
 use Rattle.dom_tree.specs.declared.content.Content.{Content}
 use Rattle.dom_tree.specs.declared.content.Kind.{Kind}
@@ -97,6 +97,19 @@ with_parent t c p =
 
 abbrev pub with_content : Nodes → NodeId → Content → Nodes
 with_content t k new = slice_set t k.0 (record { content = new; parent = parent_at t k.0; children = children_at t k.0 })
+
+-- the nodes above, the nearest first, of which there are no more than nodes
+abbrev pub above_within : Nodes → ℕ → Option NodeId → List NodeId
+above_within t zero up = []
+above_within t (suc n) None = []
+above_within t (suc n) (Some p) = p ∷ above_within t n (parent_at t p.0)
+
+abbrev pub nodes_above : Nodes → NodeId → List NodeId
+nodes_above t k = above_within t (length t) (parent_at t k.0)
+
+-- all of them are there
+abbrev pub AreThere : Nodes → List NodeId → Type 0
+AreThere t l = (c : NodeId) → has c.0 l ≡ true → c.0 < length t
 
 -- the document, with no other node
 abbrev pub document_alone : Nodes

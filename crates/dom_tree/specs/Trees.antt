@@ -1,9 +1,10 @@
--- The trees that the nodes form, and their nodes in document order.
-use Rattle.std.specs.Prelude.{ℕ, zero, suc, Bool, false, List, [], ◌∷◌, ◌++◌, Option, Some, None, length, find, codes, bytes_eq}
+-- The trees that the nodes form, their nodes in document order, and what is looked for among nodes.
+use Rattle.std.specs.Prelude.{ℕ, zero, suc, Bool, false, List, [], ◌∷◌, ◌++◌, Option, Some, None, length, find, codes, bytes_eq, if◌then◌else◌}
 use Rattle.js_core.specs.Text.{Text}
 use Rattle.js_values.specs.declared.ids.NodeId.{NodeId}
 use Rattle.dom_tree.specs.Attributes.{value_of}
-use Rattle.dom_tree.specs.Node.{Node, Nodes, children_at, node_at}
+use Rattle.dom_tree.specs.Content.{is_named}
+use Rattle.dom_tree.specs.Node.{Node, Nodes, children_at, kind_at, node_at}
 
 -- a list of trees: the first of them is a node with the trees under it, and then come the others
 pub data Trees : Type 0 where
@@ -40,3 +41,8 @@ has_id t id k = is_text_in id (value_of (codes "id") (node_at t k.0).content.att
 -- the first node in document order, in the document, whose `id` is this
 abbrev pub find_id : Nodes → Text → Option NodeId
 find_id t id = find (has_id t id) (in_order (trees_of t (record { 0 = 0 } ∷ [])))
+
+-- the first of the nodes that is an element of this name
+abbrev pub first_named : Nodes → Text → List NodeId → Option NodeId
+first_named t name [] = None
+first_named t name (c ∷ l) = if is_named name (kind_at t c.0) then Some c else first_named t name l

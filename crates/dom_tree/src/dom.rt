@@ -31,7 +31,7 @@ ghost use Rattle.dom_tree.specs.Node.{
   with_content,
   with_new,
 };
-ghost use Rattle.dom_tree.specs.Sound.{IsSound, elements_of, is_proper, takes_value};
+ghost use Rattle.dom_tree.specs.Sound.{IsSound, document_element, elements_of, is_proper, takes_value};
 
 use crate::attributes::Attributes;
 use crate::content::{Content, Kind};
@@ -188,7 +188,9 @@ impl Dom {
 
     /// The element among the children of the document, of which there is at most one.
     pub fn document_element(&self) -> Option<NodeId>
-        ensures { elements_of self.now ≡ option_to_list result }
+        ensures only { elements_of self.now ≡ option_to_list result }
+        ensures first { result ≡ document_element self.now }
+        ensures there { ForSome result (λ k. k.0 < length self.now) }
     {
         self.top
     }

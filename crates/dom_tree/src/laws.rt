@@ -1,9 +1,14 @@
 //! What calls on nodes keep. A law is a function that says it and does nothing.
 
 ghost use Rattle.dom_tree.specs.Laws.{
+  AllStandAlone,
+  GenerationsAreEnough,
+  NewNodesStaySound,
   NoOwnAncestor,
   OthersStay,
   StandsBefore,
+  StandsInPlace,
+  StepsStaySound,
   TextIsEscaped,
   TextsOfChildren,
 };
@@ -16,10 +21,24 @@ pub fn law_insertion()
     ensures others_stay { OthersStay }
 {}
 
-/// The law of trees.
+/// The laws of replacement and of what has no child any more.
+pub fn law_replacement()
+    // The child stands where the old one stood, and the old one stands nowhere.
+    ensures stands_in_place { StandsInPlace }
+    // The children that a node had stand nowhere, and nothing else moves.
+    ensures all_stand_alone { AllStandAlone }
+{}
+
+/// The laws of trees.
 pub fn law_trees()
     // A node is never its own ancestor.
     ensures no_own_ancestor { NoOwnAncestor }
+    // Whatever is done to nodes, they stay trees, and sound.
+    ensures steps_stay_sound { StepsStaySound }
+    // So they do where a node is made.
+    ensures new_nodes_stay_sound { NewNodesStaySound }
+    // As many generations as nodes are enough.
+    ensures generations_are_enough { GenerationsAreEnough }
 {}
 
 /// The laws of texts.

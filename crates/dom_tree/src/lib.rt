@@ -17,6 +17,6 @@ pub use attributes::Attributes;
 pub use content::{Content, Kind};
 pub use dom::Dom;
 pub use fault::{DomError, DomFault};
-pub use laws::{law_insertion, law_texts, law_trees};
+pub use laws::{law_insertion, law_replacement, law_texts, law_trees};
 pub use names::is_name;
 pub use text::is_void;

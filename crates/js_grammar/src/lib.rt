@@ -16,7 +16,7 @@ mod laws;
 mod operators;
 mod sign;
 
-pub use ending::Ending;
+pub use ending::{Ending, is_right_brace};
 pub use laws::{
     law_derived_trees_are_syntax, law_examples_are_read, law_line_ends_are_harmless,
     law_one_script, law_operators_and_suffixes_go_on, law_reading_is_the_grammar,

@@ -1,18 +1,13 @@
 //! Where a statement ends, and where one more begins (ECMA-262 5.1 section 7.9).
 
-ghost use Rattle.std.specs.Prelude.{◌≡◌, true};
-ghost use Rattle.js_core.specs.declared.token.Punct.TheVariants as p;
-ghost use Rattle.js_grammar.specs.declared.sign.Sign.TheVariants.{Mark};
-ghost use Rattle.js_grammar.specs.Operators as operators;
-ghost use Rattle.js_grammar.specs.Symbols.{is_sign};
+ghost use Rattle.std.specs.Prelude.{◌≡◌};
 ghost use Rattle.js_grammar.specs.Endings as spec;
 ghost use Rattle.js_grammar.specs.StatementReader as reader;
 ghost use Rattle.expression_parser.specs.Reads.{Reads};
 
 use expression_parser::{Cursor, NotScript, ParseFault};
 use js_core::{Declarator, Keyword, Punct};
-use js_grammar::{Ending, Sign};
-use js_lexer::{punct_continues, word_continues};
+use js_grammar::{Ending, Sign, is_right_brace};
 
 /// How an expression that was read to its end goes on: it has taken each `(`, `[` and point already.
 pub const READ_EXPRESSION: Ending = Ending::AfterExpression(false);
@@ -40,58 +35,8 @@ pub fn may_end(tokens: &Cursor, ending: Ending) -> bool
 {
     match tokens.after_line() {
         None => true,
-        Some(after_line) => ends_before(ending, tokens.sign(), after_line),
+        Some(after_line) => ending.ends_before(tokens.sign(), after_line),
     }
-}
-
-fn ends_before(ending: Ending, sign: Option<Sign>, after_line: bool) -> bool
-    ensures { result ≡ spec.ends_before ending sign after_line }
-{
-    is_right_brace(sign) || after_line && !(is_semicolon(sign) || continues(ending, sign))
-}
-
-fn is_right_brace(sign: Option<Sign>) -> bool
-    ensures { result ≡ spec.is_right_brace sign }
-{
-    matches!(sign, Some(Sign::Mark(Punct::RightBrace)))
-}
-
-fn is_semicolon(sign: Option<Sign>) -> bool
-    ensures { result ≡ is_sign (Mark p.Semicolon) sign }
-{
-    matches!(sign, Some(Sign::Mark(Punct::Semicolon)))
-}
-
-/// Whether the sign goes on with the statement.
-fn continues(ending: Ending, sign: Option<Sign>) -> bool
-    ensures { result ≡ spec.continues ending sign }
-{
-    match ending {
-        Ending::AfterExpression(grows) => goes_on(sign) && (grows || !is_suffix(sign)),
-        Ending::AfterName => matches!(sign, Some(Sign::Mark(Punct::SimpleAssign | Punct::Comma))),
-        Ending::AfterAll => false,
-    }
-}
-
-/// Whether the sign goes on with an expression, as its token does in a directive prologue.
-fn goes_on(sign: Option<Sign>) -> bool
-    ensures { result ≡ spec.goes_on sign }
-{
-    match sign {
-        Some(Sign::Mark(mark)) => punct_continues(mark),
-        Some(Sign::Word(word)) => word_continues(Some(word)),
-        None => false,
-    }
-}
-
-/// Whether the sign is a point or an opening `(` or `[`.
-fn is_suffix(sign: Option<Sign>) -> bool
-    ensures { result ≡ operators.is_suffix true sign }
-{
-    matches!(
-        sign,
-        Some(Sign::Mark(Punct::Dot | Punct::LeftBracket | Punct::LeftParenthesis))
-    )
 }
 
 /// How a list of declarators ends: behind the last name, or behind its initialiser.

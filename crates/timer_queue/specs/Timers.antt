@@ -1,8 +1,17 @@
 -- Live timers in starting order (HTML, timers).
-use Rattle.std.specs.Prelude.{ℕ, zero, suc, ◌+◌, ◌==◌, Bool, not, List, [], ◌∷◌, ◌++◌, length, Option, Some, None, nat_le, filter, if◌then◌else◌}
+use Rattle.std.specs.Prelude.{◌≡◌, ◌⊎◌, ℕ, zero, suc, ◌+◌, ◌==◌, Bool, not, List, [], ◌∷◌, ◌++◌, length, Option, Some, None, max, nat_le, filter, if◌then◌else◌}
 use Rattle.std.specs.List.{list_any}
 use Rattle.js_values.specs.declared.ids.ObjId.{ObjId}
 use Rattle.timer_queue.specs.declared.timer.Live.{Live}
+
+-- so many timers may be live
+abbrev pub timer_limit : ℕ
+timer_limit = 65536
+
+-- the timer is one of these
+abbrev pub IsIn : List Live → Live → Type 0
+IsIn [] u = ⊥
+IsIn (t ∷ ts) u = (t ≡ u) ⊎ IsIn ts u
 
 -- the timer with this id
 abbrev pub has_id : ℕ → Live → Bool
@@ -69,6 +78,11 @@ after_taking ts t = cleared ts t.id ++ again t t.period
 abbrev pub after_first : List Live → Option Live → List Live
 after_first ts None = ts
 after_first ts (Some t) = after_taking ts t
+
+-- the clock after the timer fired, if there is one: its due time, where that is later
+abbrev pub clock_after : ℕ → Option Live → ℕ
+clock_after clock None = clock
+clock_after clock (Some t) = max clock t.due
 
 -- the timers after a new one was started
 abbrev pub started : List Live → ℕ → ℕ → Option ℕ → ObjId → List Live

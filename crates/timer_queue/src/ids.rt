@@ -1,38 +1,30 @@
-//! The least id that is free.
+//! Marks of ids: each says whether the id after its place is live.
 
-ghost use Rattle.std.specs.Prelude.{◌≡◌, ◌+◌, ◌<◌, length, IfOk};
-ghost use Rattle.timer_queue.specs.Marks.{AreMarks};
-ghost use Rattle.timer_queue.specs.Timers.{least_free};
+ghost use Rattle.std.specs.Prelude.{◌≡◌, ◌≤◌, length, List};
+ghost use Rattle.timer_queue.specs.Marks.{AreMarks, IsFirstFree};
+ghost use Rattle.timer_queue.specs.Timers.{cleared};
+ghost use Rattle.timer_queue.specs.declared.timer.Live.{Live};
 
-use crate::timer::Live;
-use js_core::OutOfMemory;
-use std::alloc::Global;
-
-// For each id that the least free one may be, and 0, whether it is live.
-fn marks(alloc: Global, timers: &[Live]) -> Result<Vec<bool>, OutOfMemory>
-    requires { length timers.now < 65536 }
-    ensures { IfOk result (λ marks. AreMarks timers.now marks.items (length timers.now + 1)) }
+/// The place of the first mark that is not set, where all before this place are.
+pub fn first_free(marks: &[bool], full: usize) -> usize
+    requires { full ≤ length marks.now }
+    ensures { IsFirstFree marks.now full result }
 {
-    let mut marks = Vec::new(alloc);
-    marks.resize(timers.len() + 1, false)?;
-    for timer in timers {
-        let id = timer.id as usize;
-        if id < marks.len() {
-            marks[id] = true;
-        }
+    let mut place = full;
+    while place < marks.len() && marks[place] {
+        place += 1;
     }
-    Ok(marks)
+    place
 }
 
-/// The least id above 0 that is not live.
-pub fn least_free(alloc: Global, timers: &[Live]) -> Result<u32, OutOfMemory>
-    requires { length timers.now < 65536 }
-    ensures { IfOk result (λ id. id ≡ least_free timers.now) }
+/// The id is live no longer. The answer is how many of the first marks are still known to be set.
+pub fn unmark(marks: &mut [bool], full: usize, id: u64) -> usize
+    ensures { (ts : List Live) → AreMarks ts marks.old full → AreMarks (cleared ts id) marks.new result }
 {
-    let marks = marks(alloc, timers)?;
-    let mut id = 1u32;
-    while (id as usize) < marks.len() && marks[id as usize] {
-        id += 1;
+    if id == 0 || id > marks.len() as u64 {
+        return full;
     }
-    Ok(id)
+    let place = (id - 1) as usize;
+    marks[place] = false;
+    full.min(place)
 }

@@ -2,6 +2,7 @@
 
 ghost use Rattle.std.specs.Prelude.{ℕ, List};
 ghost use Rattle.timer_queue.specs.Laws.{AreInOrder, IsLeastFree, KeepsDistinctIds, TakesTheFirings};
+ghost use Rattle.timer_queue.specs.Timely.{TimersStayTimely};
 ghost use Rattle.timer_queue.specs.Timers.{least_free};
 ghost use Rattle.timer_queue.specs.Worked.{IsWorked};
 ghost use Rattle.timer_queue.specs.declared.timer.Live.{Live};
@@ -20,6 +21,12 @@ pub fn law_takings_are_firings()
     ensures order { (ts : List Live) (moment : ℕ) → AreInOrder ts moment }
     // Taking until none is due takes each timer as often as it fires, in the order of time.
     ensures takings { (ts : List Live) (moment most : ℕ) → TakesTheFirings ts moment most }
+{}
+
+/// The law of times.
+pub fn law_timers_stay_timely()
+    // Due times are not before the clock, periods are at least 1, and ids from 1 to the limit, whatever is done.
+    ensures { TimersStayTimely }
 {}
 
 /// The worked queue is as it says after each call.

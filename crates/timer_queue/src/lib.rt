@@ -6,6 +6,8 @@ mod laws;
 mod queue;
 mod timer;
 
-pub use laws::{law_ids_are_distinct, law_takings_are_firings, law_worked_queue};
+pub use laws::{
+    law_ids_are_distinct, law_takings_are_firings, law_timers_stay_timely, law_worked_queue,
+};
 pub use queue::Queue;
 pub use timer::Live;

@@ -2,9 +2,10 @@
 
 ghost use Rattle.std.specs.Prelude.{◌≡◌, ◌<◌, ◌^◌, [], length, option_map, unwrap_or, vec_capacity, IfOk, OnOk, OnErr, Some, true};
 ghost use Rattle.timer_queue.specs.Laws.{HasDistinctIds};
+ghost use Rattle.timer_queue.specs.Sound.{AreInRange};
 ghost use Rattle.timer_queue.specs.Timers as spec;
 
-use crate::ids::least_free;
+use crate::ids::{first_free, unmark};
 use crate::timer::Live;
 use js_core::OutOfMemory;
 use js_values::ObjId;
@@ -15,6 +16,10 @@ use std::marker::Model;
 #[derive(Drop)]
 pub struct Queue {
     timers: Vec<Live>,
+    /// Whether the id after each place is live.
+    marks: Vec<bool>,
+    /// So many of the first ids are live.
+    full: usize,
 }
 
 impl Model for Queue {
@@ -26,7 +31,7 @@ impl Model for Queue {
 
     ghost view = { λ q. q.timers.items };
 
-    ghost invariant = { λ q. IsSound q.timers.items };
+    ghost invariant = { λ q. IsSound q.timers.items q.marks.items q.full };
 }
 
 // The first of the timers that are due first.
@@ -69,11 +74,11 @@ fn first_due(timers: &[Live], moment: u64) -> Option<Live>
 }
 
 // Removes the timer with this id.
-fn remove(timers: &mut Vec<Live>, id: u32)
+fn remove(timers: &mut Vec<Live>, id: u64)
     ensures removed { timers.new.items ≡ spec.cleared timers.old.items id }
     ensures capacity { vec_capacity timers.new ≡ vec_capacity timers.old }
 {
-    timers.retain(|timer| timer.id != id);
+    timers.retain(|timer| u64::from(timer.id) != id);
 }
 
 // Takes a timer out, and puts an interval at the end again.
@@ -83,7 +88,7 @@ fn take(timers: &mut Vec<Live>, timer: Live)
     requires period { unwrap_or timer.period 0 < 2 ^ 60 }
     ensures { timers.new.items ≡ spec.after_taking timers.old.items timer }
 {
-    remove(timers, timer.id);
+    remove(timers, u64::from(timer.id));
     match timer.period {
         Some(period) => timers.push_reserved(Live {
             due: timer.due + period,
@@ -100,13 +105,16 @@ impl Queue {
     {
         Queue {
             timers: Vec::new(alloc),
+            marks: Vec::new(alloc),
+            full: 0,
         }
     }
 
-    /// The live timers in starting order.
+    /// The live timers in starting order. Their ids are distinct and from 1 to 65,536, and periods are at least 1.
     pub fn live(&self) -> &[Live]
         ensures timers { result.now ≡ self.now }
         ensures distinct { HasDistinctIds self.now }
+        ensures in_range { AreInRange self.now }
     {
         self.timers.as_slice()
     }
@@ -115,36 +123,42 @@ impl Queue {
     /// answer is its id, the least above 0 that is not live. After an error nothing is started.
     pub fn start(
         &mut self,
-        alloc: Global,
         now: u64,
         delay: u64,
         period: Option<u64>,
         call: ObjId,
     ) -> Result<u32, OutOfMemory>
-        requires few { length self.old < 65536 }
+        requires few { length self.old < spec.timer_limit }
         requires now { now < 2 ^ 60 }
         requires delay { delay < 2 ^ 60 }
         requires period { unwrap_or period 0 < 2 ^ 60 }
+        requires long { 0 < unwrap_or period 1 }
         ensures id { IfOk result (λ id. id ≡ spec.least_free self.old) }
         ensures started { OnOk result (self.new ≡ spec.started self.old now delay period call) }
         ensures err { OnErr result (self.new ≡ self.old) }
     {
-        let id = least_free(alloc, self.timers.as_slice())?;
-        let timer = Live {
+        let place = first_free(self.marks.as_slice(), self.full);
+        if place == self.marks.len() {
+            self.marks.push(false)?;
+        }
+        let id = place as u32 + 1;
+        self.timers.push(Live {
             id,
             due: now + delay,
             period,
             call,
-        };
-        self.timers.push(timer)?;
+        })?;
+        self.marks[place] = true;
+        self.full = place + 1;
         Ok(id)
     }
 
     /// Removes the timer with this id; where none is live nothing changes.
-    pub fn clear(&mut self, id: u32)
+    pub fn clear(&mut self, id: u64)
         ensures { self.new ≡ spec.cleared self.old id }
     {
         remove(&mut self.timers, id);
+        self.full = unmark(self.marks.as_mut_slice(), self.full, id);
     }
 
     /// The id and the due time of the timer that is due first, the one started first where several are; None where no timer
@@ -170,7 +184,30 @@ impl Queue {
         match first_due(self.timers.as_slice(), until) {
             Some(timer) => {
                 take(&mut self.timers, timer);
+                if timer.period.is_none() {
+                    self.full = unmark(self.marks.as_mut_slice(), self.full, u64::from(timer.id));
+                }
                 Some((timer.id, timer.due, timer.call))
+            }
+            None => None,
+        }
+    }
+
+    /// The first timer that is due at or before the moment fires: it is taken, and the clock becomes its due time, where
+    /// that is later. The answer is its function; None where no timer is due, and then nothing changes.
+    pub fn fire(&mut self, clock: &mut u64, until: u64) -> Option<ObjId>
+        requires { until < 2 ^ 60 }
+        ensures fired { result ≡ option_map (λ t. t.call)
+            (spec.first (spec.due_timers self.old until)) }
+        ensures left { self.new ≡ spec.after_first self.old
+            (spec.first (spec.due_timers self.old until)) }
+        ensures clock { clock.new ≡ spec.clock_after clock.old
+            (spec.first (spec.due_timers self.old until)) }
+    {
+        match self.take_due(until) {
+            Some((_, due, call)) => {
+                *clock = due.max(*clock);
+                Some(call)
             }
             None => None,
         }
