@@ -1,5 +1,5 @@
+pub mod Callers
 mod Counts
-pub mod KeyOrder
 mod MemoryPuts
 mod MemoryReads
 mod RealReads

@@ -13,7 +13,7 @@ use Rattle.std.specs.List.{AllByRecursion}
 use Rattle.std.specs.List.Sorted.{IsStrictlySortedBy}
 use Rattle.page_io.specs.Table.{Key, key_cmp}
 use Rattle.page_io.specs.MemoryKeeperOf.{row_of, table_of}
-use Rattle.page_io.proofs.KeyOrder.{key_total, key_exact, tied}
+use Rattle.page_io.proofs.Callers.{key_total, key_exact, tied}
 
 -- ---- the stored rows
 

@@ -13,7 +13,7 @@ mod sink;
 mod tests;
 
 pub use files::{Files, ReadFault};
-pub use keeper::Keeper;
+pub use keeper::{Keeper, KeeperFault, KeptName};
 pub use memory_files::MemoryFiles;
 pub use memory_keeper::MemoryKeeper;
 pub use memory_sink::MemorySink;

@@ -1,4 +1,4 @@
--- The order of a keeper's keys, for callers too.
+-- What callers need of the order of a keeper's keys.
 use Rattle.std.proofs.Common.{◌≡◌, true, refl}
 use Rattle.std.specs.Ordering.{nat_cmp, eq_by_cmp, ordering_then}
 use Rattle.std.specs.Cmp.{IsTotalOrder, Equal-is}
