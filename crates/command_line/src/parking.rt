@@ -2,7 +2,7 @@
 
 ghost use Rattle.std.specs.Prelude.{◌≡◌, ◌≤◌, IfOk, IfErr, IfSome, OnOk, OnErr};
 ghost use Rattle.command_line.specs.Command as command;
-ghost use Rattle.command_line.specs.Keeping.{IsKept, IsNext, KeeperLasts, status_of_fault};
+ghost use Rattle.command_line.specs.Keeping.{IsKept, IsNext, status_of_fault};
 ghost use Rattle.command_line.specs.Parking.{greatest as greatest_of};
 ghost use Rattle.command_line.specs.Stages.{seen_between, unasked, unread, unwritten, Lasts};
 ghost use Rattle.command_line.specs.Texts.{Gives};

@@ -40,10 +40,10 @@ fn perform<F: Files, O: Sink, K: Keeper>(
     out: &mut O,
     keeper: &mut K,
 ) -> Status
-    ensures answers { Answers (view command) result
+    ensures answers { Answers (view command.entry) result
         (seen_between (F.seen files.old) (F.seen files.new) (K.seen keeper.old) (K.seen keeper.new)
             (O.seen out.old) (O.seen out.new)) }
-    ensures kept { Keeps (work_of (view command)) keeper.old keeper.new }
+    ensures kept { Keeps (work_of (view command.entry)) keeper.old keeper.new }
 {
     match command {
         Command::Check(page) => put_text(check(alloc, page, files), out),
