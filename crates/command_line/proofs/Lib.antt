@@ -1,5 +1,6 @@
 pub mod Answering
 pub mod Causes
+pub mod Drops
 pub mod Endings
 pub mod Judgement
 pub mod Moves

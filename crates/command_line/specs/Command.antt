@@ -38,9 +38,12 @@ is_letter c = (nat_le 65 c && nat_le c 90) || (nat_le 97 c && nat_le c 122)
 abbrev pub is_name_part : ℕ → Bool
 is_name_part c = is_letter c || is_digit c || nat_eq c 45 || nat_eq c 95
 
+abbrev pub is_name_length : ℕ → Bool
+is_name_length n = nat_le 1 n && nat_le n 64
+
 -- 1 to 64 of these
 abbrev pub is_session_name : List ℕ → Bool
-is_session_name word = nat_le 1 (length word) && nat_le (length word) 64 && list_all is_name_part word
+is_session_name word = is_name_length (length word) && list_all is_name_part word
 
 -- the number that is written in decimal by these digits after those of n, unless it passes the last version
 abbrev pub number_from : ℕ → List ℕ → Option ℕ

@@ -21,14 +21,19 @@ fn is_digit(byte: u8) -> bool
     matches!(byte, b'0'..=b'9')
 }
 
+// Whether a name may have so many letters.
+fn is_name_length(length: usize) -> bool
+    ensures { result ≡ spec.is_name_length length }
+{
+    1 <= length && length <= LONGEST_NAME
+}
+
 /// Whether a word names a session: it has 1 to 64 ASCII letters, digits, `-` or `_`.
 pub fn is_session_name(word: &str) -> bool
     ensures { result ≡ spec.is_session_name word.now }
 {
     let bytes = word.as_bytes();
-    1 <= bytes.len()
-        && bytes.len() <= LONGEST_NAME
-        && bytes.iter().all(|byte| is_name_part(*byte))
+    is_name_length(bytes.len()) && bytes.iter().all(|byte| is_name_part(*byte))
 }
 
 // The number that these digits write in decimal, unless it passes the last version.
