@@ -150,9 +150,6 @@ module _ (seen : Seen) (none_neither : NoneNeither) where
   abbrev IsHeld : List ℕ → List ℕ → Type 0
   IsHeld name bytes = seen.files_before.content name ≡ Some (Some bytes)
 
-  at_once : {g : Stage} {gs : List Stage} {s : Status} → Stops g s seen → EndsBy (g ∷ gs) s seen
-  at_once h = inl (inl h)
-
   next : (g : Stage) (gs : List Stage) → No (g ∷ gs) → Passes g seen → No gs
   next g gs never p s n (inl h) = never s n (inl (inr (p, h)))
   next g gs never p s n (inr h) = never s n (inr ((p, h.0), h.1))
@@ -162,18 +159,18 @@ module _ (seen : Seen) (none_neither : NoneNeither) where
 
   behind_page_file : (p : List ℕ) (gs : List Stage) → IsReadOrFailed seen p → No (page_file p ∷ gs)
       → ((bytes : List ℕ) → IsHeld p bytes → length bytes ≤ page_limit → No gs → ⊥) → ⊥
-  behind_page_file p gs (inr failed) never k = never status.ReadFault (λ e. cc) (at_once failed)
+  behind_page_file p gs (inr failed) never k = never status.ReadFault (λ e. cc) (inl (inl failed))
   behind_page_file p gs (inl held) never k = by_case (at_most_or_more (length held.0) page_limit)
     where
       by_case : (length held.0 ≤ page_limit) ⊎ (page_limit < length held.0) → ⊥
       by_case (inl few) = k held.0 held.1 few (next (page_file p) gs never (of_held _ held.0 (λ b. length b ≤ page_limit) held.1 few))
-      by_case (inr many) = never (status.PageRefused None) (λ e. cc) (at_once (of_held _ held.0 (λ b. page_limit < length b) held.1 many))
+      by_case (inr many) = never (status.PageRefused None) (λ e. cc) (inl (inl (of_held _ held.0 (λ b. page_limit < length b) held.1 many)))
 
   behind_acceptance : (p bytes : List ℕ) (gs : List Stage) → IsHeld p bytes → No (acceptance p ∷ gs)
       → ((page : Page) → IsAccepted bytes page → No gs → ⊥) → ⊥
   behind_acceptance p bytes gs held never k = none_neither bytes
       (λ page a. k page a (next (acceptance p) gs never (of_held _ bytes (λ b. (page : Page) × IsAccepted b page) held (page, a))))
-      (λ cause h. never (status.PageRefused (Some cause)) (λ e. cc) (at_once (of_held _ bytes (λ b. IsRefused b cause) held h)))
+      (λ cause h. never (status.PageRefused (Some cause)) (λ e. cc) (inl (inl (of_held _ bytes (λ b. IsRefused b cause) held h))))
 
   behind_bareness : (p bytes : List ℕ) (gs : List Stage) (page : Page) → IsHeld p bytes → IsAccepted bytes page → No (bareness p ∷ gs) → (No gs → ⊥) → ⊥
   behind_bareness p bytes gs page held a never k = by_nodes (is_bare page.nodes) refl
@@ -183,15 +180,15 @@ module _ (seen : Seen) (none_neither : NoneNeither) where
 
       by_nodes : (bare : Bool) → is_bare page.nodes ≡ bare → ⊥
       by_nodes true e = k (next (bareness p) gs never (bare_as true e))
-      by_nodes false e = never (status.PageRefused (Some NotPage)) (λ e. cc) (at_once (bare_as false e))
+      by_nodes false e = never (status.PageRefused (Some NotPage)) (λ e. cc) (inl (inl (bare_as false e)))
 
   behind_event_file : (n : List ℕ) (gs : List Stage) → IsReadOrFailed seen n → No (event_file n ∷ gs)
       → ((file : List ℕ) (events : List Event) → IsHeld n file → IsEventFile file events → No gs → ⊥) → ⊥
-  behind_event_file n gs (inr failed) never k = never status.ReadFault (λ e. cc) (at_once failed)
+  behind_event_file n gs (inr failed) never k = never status.ReadFault (λ e. cc) (inl (inl failed))
   behind_event_file n gs (inl held) never k = by_case (at_most_or_more (length held.0) event_file_limit)
     where
       refused : (i : ℕ) → IsNoEventFile held.0 i → ⊥
-      refused i h = never (status.EventsRefused i) (λ e. cc) (at_once (of_held _ held.0 (λ f. IsNoEventFile f i) held.1 h))
+      refused i h = never (status.EventsRefused i) (λ e. cc) (inl (inl (of_held _ held.0 (λ f. IsNoEventFile f i) held.1 h)))
 
       by_events : (found : Result (List Event) ℕ) → calls_of held.0 ≡ found → length held.0 ≤ event_file_limit → ⊥
       by_events (Ok es) e few =
@@ -208,13 +205,13 @@ module _ (seen : Seen) (none_neither : NoneNeither) where
       → IsHeld p bytes → IsHeld n file → IsPage bytes page → IsEventFile file events
       → No (moving p n ∷ gs) → (No gs → ⊥) → ⊥
   behind_moving p n bytes file gs page events held holds of_page of_file never k = some_outcome bytes file page events of_page of_file
-      (λ w large. never (status.TooLarge w) (λ e. cc) (at_once (both (λ b f. IsTooLarge b f w) large)))
+      (λ w large. never (status.TooLarge w) (λ e. cc) (inl (inl (both (λ b f. IsTooLarge b f w) large))))
       (λ movable. k (next (moving p n) gs never (both IsMovable movable)))
     where
       both : (P : List ℕ → List ℕ → Type 0) → P bytes file → Held seen p (λ b. Held seen n (P b))
       both P h = of_held _ bytes (λ b. Held seen n (P b)) held (of_held _ file (P bytes) holds h)
 
-  IsTable : Table → Type 0
+  abbrev IsTable : Table → Type 0
   IsTable t = seen.keeper_before.table ≡ Some t
 
   of_table : (t : Table) (P : Table → Type 0) → IsTable t → P t → IfSome seen.keeper_before.table P
@@ -224,14 +221,14 @@ module _ (seen : Seen) (none_neither : NoneNeither) where
   behind_next_row name gs t is never k = by_case (at_most_or_more last_version (greatest (utf16_of name) (listed t)))
     where
       by_case : (last_version ≤ greatest (utf16_of name) (listed t)) ⊎ (greatest (utf16_of name) (listed t) < last_version) → ⊥
-      by_case (inl used) = never status.VersionsUsed (λ e. cc) (at_once (of_table t (AreUsed name) is used))
+      by_case (inl used) = never status.VersionsUsed (λ e. cc) (inl (inl (of_table t (AreUsed name) is used)))
       by_case (inr left) = k (next (next_row name) gs never (of_table t (λ u. ¬ AreUsed name u) is (λ used. omega (arith, used, left))))
 
   behind_one_row : (name : List ℕ) (version : ℕ) (gs : List Stage) (t : Table) → IsTable t → No (one_row name version ∷ gs) → (No gs → ⊥) → ⊥
   behind_one_row name version gs t is never k = by_case (get t (name, version)) refl
     where
       by_case : (o : Option (List ℕ)) → get t (name, version) ≡ o → ⊥
-      by_case None e = never status.NoSession (λ e. cc) (at_once (of_table t (λ u. get u (name, version) ≡ None) is e))
+      by_case None e = never status.NoSession (λ e. cc) (inl (inl (of_table t (λ u. get u (name, version) ≡ None) is e)))
       by_case (Some bytes) e = k (next (one_row name version) gs never (of_table t (λ u. (bytes : List ℕ) × (get u (name, version) ≡ Some bytes)) is (bytes, e)))
 
   at_writing : No [] → ⊥
@@ -249,7 +246,7 @@ module _ (seen : Seen) (none_neither : NoneNeither) where
       k bytes file page events held holds (record { fits = fits; accepted = a }) of_file no4
 
   some_end : (command : Option Command) (t : Table) → All (IsReadOrFailed seen) (names_of command) → IsTable t → No (words command ∷ work_behind command) → ⊥
-  some_end None t reads is never = never status.Usage (λ e. cc) (at_once tt)
+  some_end None t reads is never = never status.Usage (λ e. cc) (inl (inl tt))
   some_end (Some (check p)) t reads is never =
       behind_page_file p (acceptance p ∷ []) (reads 0 [] (omega arith)) (behind_words (check p) never) λ bytes held fits no1.
       behind_acceptance p bytes [] held no1 λ page a no2.

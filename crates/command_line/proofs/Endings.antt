@@ -124,7 +124,7 @@ check_refuses p status seen h f k = (stops_at_page p status seen h f, k)
 
 pub check_gives : (p : List ℕ) (text : Vec ℕ Global) (seen : Seen) (page : Page) → Held seen p (λ b. IsPage b page) → Held seen p (λ b. Tells b text.items)
     → KeepsRows seen → Gives (check p) (Good text) seen
-check_gives p text seen page h t k = let both = told_accepted (seen.files_before.content p) page h in ((both.0, both.1, tt), t, k)
+check_gives p text seen page h t k = let both = told_accepted (seen.files_before.content p) page h in ((both.0, (both.1, tt)), t, k)
 
 -- ---- instrument
 
@@ -132,7 +132,7 @@ pub instrument_gives : (p : List ℕ) (r : Result (Vec ℕ Global) Status) (seen
     → IfOk r (λ _. Held seen p (λ b. IsBareAs b true)) → IfErr r (λ status. StopsAtPage IsNotRun status (seen.files_before.content p))
     → (r ≡ Err ReadFault → ReadFailed p seen.files_before seen.files_now) → KeepsRows seen → Gives (instrument p) r seen
 instrument_gives p (Good text) seen h bare s f k =
-    let both = told_opened (seen.files_before.content p) text.items h in ((both.0, both.1, bare, tt), h, k)
+    let both = told_opened (seen.files_before.content p) text.items h in ((both.0, (both.1, (bare, tt))), h, k)
 instrument_gives p (Err status) seen h bare s f k = (stops_at_bare p [] status seen s (λ e. f (ap Err e)), k)
 
 -- ---- a page and its events
@@ -147,7 +147,7 @@ stops_at_events e status seen h f = absurd h
 passes_bare : (p : List ℕ) (seen : Seen) (page : Page) → Held seen p (λ b. IsPage b page) → is_bare page.nodes ≡ true
     → PassesAll (page_file p ∷ acceptance p ∷ bareness p ∷ []) seen
 passes_bare p seen page h bare =
-    let both = told_accepted (seen.files_before.content p) page h in (both.0, both.1, told_bare (seen.files_before.content p) page bare h, tt)
+    let both = told_accepted (seen.files_before.content p) page h in (both.0, (both.1, (told_bare (seen.files_before.content p) page bare h, tt)))
 
 pub page_stops_reading : (p e : List ℕ) (status : Status) (seen : Seen) → StopsAtPage IsNotRun status (seen.files_before.content p)
     → (status ≡ ReadFault → ReadFailed p seen.files_before seen.files_now) → EndsAt (reading p e) status seen

@@ -1,5 +1,5 @@
 -- That keeping a page under the next version of a name is one row more.
-use Rattle.std.proofs.Common.{◌≡◌, ℕ, ◌+◌, ◌≤◌, ◌<◌, max, Bool, true, false, cond, if◌then◌else◌, List, [], ◌∷◌, ◌++◌, map, Option, Some, None, IfSome, Result, Ok as Good, Err, Vec, Global, bytes_eq, refl, sym, ap, subst, ◌∙◌, inl, inr, arith}
+use Rattle.std.proofs.Common.{◌≡◌, ℕ, ◌+◌, ◌≤◌, ◌<◌, max, Bool, true, false, cond, if◌then◌else◌, List, [], ◌∷◌, ◌++◌, map, Option, Some, None, IfSome, Result, Ok as Good, Err, Vec, Global, bytes_eq, refl, sym, ap, subst, ◌∙◌, inl, inr, arith, rules}
 use Rattle.std.specs.Option.{option_map}
 use Rattle.std.specs.Ordering.{eq_by_cmp}
 use Rattle.std.specs.FinMap.{entries, find, get, insert, get-entries}
@@ -33,7 +33,7 @@ same_bytes x = search rules
 
 above_all : (name : List ℕ) (v : ℕ) (es : List (Key × List ℕ)) → greatest (utf16_of name) (map kept_name es) < v → find key_cmp (name, v) es ≡ None
 above_all name v [] high = refl
-above_all name v (e ∷ es) high = by_case (eq_by_cmp key_cmp (name, v) e.0) refl
+above_all name v (e ∷ es) high = by_case (eq_by_cmp key_cmp (name, v) e.0) refl (above_all name v es rest)
   where
     rest : greatest (utf16_of name) (map kept_name es) < v
     rest = by_name (bytes_eq (utf16_of e.0.0) (utf16_of name)) high
@@ -50,9 +50,9 @@ above_all name v (e ∷ es) high = by_case (eq_by_cmp key_cmp (name, v) e.0) ref
         let high : max e.0.1 (greatest (utf16_of name) (map kept_name es)) < v = rw (named, same_bytes (utf16_of name)) at high in
         omega (arith, high, version)
 
-    by_case : (b : Bool) → eq_by_cmp key_cmp (name, v) e.0 ≡ b → cond b (Some e.1) (find key_cmp (name, v) es) ≡ None
-    by_case true is = absurd (same (tied (name, v) e.0 is))
-    by_case false is = above_all name v es rest
+    by_case : (b : Bool) → eq_by_cmp key_cmp (name, v) e.0 ≡ b → find key_cmp (name, v) es ≡ None → cond b (Some e.1) (find key_cmp (name, v) es) ≡ None
+    by_case true is none = absurd (same (tied (name, v) e.0 is))
+    by_case false is none = none
 
 next_is_new : (name : List ℕ) (t : Table) → get t (name, next_version name t) ≡ None
 next_is_new name t = get-entries t (name, next_version name t) ∙ above_all name (next_version name t) (entries t) (omega arith)
@@ -102,7 +102,7 @@ module _ (p e name : List ℕ) (files files_now : FilesSeen) (keeper keeper_now 
         → IsSaved (run_of (opened page) events) text → IsKept name text keeper keeper_now r → Gives (park p e name) r parking
     park_gives laws text (Good line) numbered saved kept = (
       passes_both (reading p e) (moving p e ∷ next_row name ∷ []) parking (passes_reading p e parking page events read)
-          (told_movable _ _ page events read saved.0 saved.1, told_left name kept.version keeper.table kept.next, tt),
+          (told_movable _ _ page events read saved.0 saved.1, (told_left name kept.version keeper.table kept.next, tt)),
       (kept.version, kept.said, told_version name kept.version keeper.table kept.next),
       record {
         text = text;

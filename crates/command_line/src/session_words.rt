@@ -1,6 +1,7 @@
 //! The names and versions of sessions, as words of the command line write them.
 
 ghost use Rattle.std.specs.Prelude.{◌≡◌};
+ghost use Rattle.std.specs.List.{list_all};
 ghost use Rattle.command_line.specs.Command as spec;
 
 /// The last version that a session may have.
@@ -28,12 +29,19 @@ fn is_name_length(length: usize) -> bool
     1 <= length && length <= LONGEST_NAME
 }
 
+// Whether a name may have these letters.
+fn are_name_parts(bytes: &[u8]) -> bool
+    ensures { result ≡ list_all spec.is_name_part bytes.now }
+{
+    bytes.iter().all(|byte| is_name_part(*byte))
+}
+
 /// Whether a word names a session: it has 1 to 64 ASCII letters, digits, `-` or `_`.
 pub fn is_session_name(word: &str) -> bool
     ensures { result ≡ spec.is_session_name word.now }
 {
     let bytes = word.as_bytes();
-    is_name_length(bytes.len()) && bytes.iter().all(|byte| is_name_part(*byte))
+    is_name_length(bytes.len()) && are_name_parts(bytes)
 }
 
 // The number that these digits write in decimal, unless it passes the last version.
