@@ -94,7 +94,7 @@ pub fn park<F: Files, K: Keeper>(
 ) -> Result<Vec<u8>, Status>
     ensures gives { Gives (command.park page.now events.now name.now) result
         (seen_between (F.seen files.old) (F.seen files.new)
-            (K.seen keeper.old) (K.seen keeper.new) unwritten unwritten) }
+        (K.seen keeper.old) (K.seen keeper.new) unwritten unwritten) }
     ensures lasts { Lasts (seen_between (F.seen files.old) (F.seen files.new)
         (K.seen keeper.old) (K.seen keeper.new) unwritten unwritten) }
 {

@@ -42,7 +42,7 @@ fn perform<F: Files, O: Sink, K: Keeper>(
 ) -> Status
     ensures answers { Answers (view command.entry) result
         (seen_between (F.seen files.old) (F.seen files.new) (K.seen keeper.old) (K.seen keeper.new)
-            (O.seen out.old) (O.seen out.new)) }
+        (O.seen out.old) (O.seen out.new)) }
     ensures kept { Keeps (work_of (view command.entry)) keeper.old keeper.new }
 {
     match command {
@@ -74,16 +74,16 @@ fn obey<F: Files, O: Sink, K: Keeper>(
         → (files.new ≡ files.old) × (out.new ≡ out.old) × (keeper.new ≡ keeper.old) }
     ensures ends { Ends (command_of (map string_bytes words.now)) result
         (seen_between (F.seen files.old) (F.seen files.new) (K.seen keeper.old) (K.seen keeper.new)
-            (O.seen out.old) (O.seen out.new)) }
+        (O.seen out.old) (O.seen out.new)) }
     ensures puts { Puts (command_of (map string_bytes words.now)) result
         (seen_between (F.seen files.old) (F.seen files.new) (K.seen keeper.old) (K.seen keeper.new)
-            (O.seen out.old) (O.seen out.new)) }
+        (O.seen out.old) (O.seen out.new)) }
     ensures rows { Rows (command_of (map string_bytes words.now)) result
         (seen_between (F.seen files.old) (F.seen files.new) (K.seen keeper.old) (K.seen keeper.new)
-            (O.seen out.old) (O.seen out.new)) }
+        (O.seen out.old) (O.seen out.new)) }
     ensures lasts { Lasts
         (seen_between (F.seen files.old) (F.seen files.new) (K.seen keeper.old) (K.seen keeper.new)
-            (O.seen out.old) (O.seen out.new)) }
+        (O.seen out.old) (O.seen out.new)) }
     ensures kept { Keeps (stages_of (command_of (map string_bytes words.now)))
         keeper.old keeper.new }
 {
@@ -109,16 +109,16 @@ pub fn run<F: Files, O: Sink, N: Sink, K: Keeper>(
         → (files.new ≡ files.old) × (out.new ≡ out.old) × (keeper.new ≡ keeper.old) }
     ensures ends { Ends (command_of (map string_bytes words.now)) result
         (seen_between (F.seen files.old) (F.seen files.new) (K.seen keeper.old) (K.seen keeper.new)
-            (O.seen out.old) (O.seen out.new)) }
+        (O.seen out.old) (O.seen out.new)) }
     ensures puts { Puts (command_of (map string_bytes words.now)) result
         (seen_between (F.seen files.old) (F.seen files.new) (K.seen keeper.old) (K.seen keeper.new)
-            (O.seen out.old) (O.seen out.new)) }
+        (O.seen out.old) (O.seen out.new)) }
     ensures rows { Rows (command_of (map string_bytes words.now)) result
         (seen_between (F.seen files.old) (F.seen files.new) (K.seen keeper.old) (K.seen keeper.new)
-            (O.seen out.old) (O.seen out.new)) }
+        (O.seen out.old) (O.seen out.new)) }
     ensures lasts { Lasts
         (seen_between (F.seen files.old) (F.seen files.new) (K.seen keeper.old) (K.seen keeper.new)
-            (O.seen out.old) (O.seen out.new)) }
+        (O.seen out.old) (O.seen out.new)) }
     ensures note { Noted (note_of result) (N.seen notes.old) (N.seen notes.new) }
     ensures silent { result ≡ Status.Ok → notes.new ≡ notes.old }
     ensures kept { Keeps (stages_of (command_of (map string_bytes words.now)))

@@ -26,7 +26,7 @@ pub fn save<F: Files, O: Sink>(
 ) -> Status
     ensures { Answers (session SaveWork page.now events.now) result
         (seen_between (F.seen files.old) (F.seen files.new) unasked unasked
-            (O.seen out.old) (O.seen out.new)) }
+        (O.seen out.old) (O.seen out.new)) }
 {
     law_one_answer();
     law_accepted_scripts_are_in_form();

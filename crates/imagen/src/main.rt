@@ -10,12 +10,7 @@ const SESSIONS: &str = "imagen.db";
 
 fn main(rt: HostRuntime) -> ExitCode {
     match String::from_str(rt.alloc(), SESSIONS) {
-        Ok(path) => run_on_system(
-            &rt,
-            rt.stdout(),
-            rt.stderr(),
-            SqliteKeeper::new(&rt, path),
-        ),
+        Ok(path) => run_on_system(&rt, rt.stdout(), rt.stderr(), SqliteKeeper::new(&rt, path)),
         Err(_) => ExitCode::from(7),
     }
 }

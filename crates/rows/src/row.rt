@@ -1,6 +1,6 @@
 //! Rows of examples.
 
-use crate::kept::{KeptRow, kept_at, keeper_of, kept_text};
+use crate::kept::{KeptRow, keeper_of, kept_at, kept_text};
 use crate::text::{malformed, number_at, numbers_at, pairs_at, text_at, text_of, words_at};
 use command_line::run;
 use js_core::OutOfMemory;
