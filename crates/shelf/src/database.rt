@@ -10,7 +10,9 @@ use std::alloc::Global;
 /// A database file that is open.
 pub type Database = Connection<FileStore<File>>;
 
-const TABLE: &str = "CREATE TABLE IF NOT EXISTS kept(name TEXT NOT NULL, version INTEGER NOT NULL, size INTEGER NOT NULL, bytes BLOB NOT NULL, PRIMARY KEY(name, version)) STRICT";
+const TABLE: &str = "CREATE TABLE IF NOT EXISTS kept(name TEXT NOT NULL, \
+    version INTEGER NOT NULL, size INTEGER NOT NULL, bytes BLOB NOT NULL, \
+    PRIMARY KEY(name, version)) STRICT";
 
 const PUT: &str = "INSERT OR REPLACE INTO kept(name, version, size, bytes) VALUES (?1, ?2, ?3, ?4)";
 
