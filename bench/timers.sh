@@ -1,7 +1,7 @@
 #!/bin/sh
-# Times 1,000 calls of `start`, `clear` and `take_due` each where 1,000, 10,000 and 65,536 timers are live: the best of five
-# runs, the nanoseconds for each call, and their ratio to the shortest queue's. The timers are intervals, so that a taking
-# leaves as many; each timer that is cleared is started again.
+# Times the starts of 1,000, 10,000 and 65,536 timers, and 1,000 calls of `start`, `clear` and `fire` each where so many are live: the
+# best of five runs, the nanoseconds for each call, and their ratio to the shortest queue's. The timers are intervals, so that a
+# firing leaves as many; each timer that is cleared is started again. `clear` and `fire` go over all live timers.
 . "$(dirname "$0")/frame.sh"
 repository timers_bench js_core js_values timer_queue
 cat >"$work/crates/timers_bench/src/main.rt" <<'END'
@@ -19,30 +19,31 @@ use timer_queue::Queue;
 const CALLS: u64 = 1000;
 
 // Starts an interval. Periods differ, so that due times mix.
-fn start(rt: &HostRuntime, queue: &mut Queue, number: u64) -> bool {
+fn start(queue: &mut Queue, number: u64) -> bool {
     if queue.live().len() >= TIMER_LIMIT {
         return false;
     }
     let period = number % 977 + 1;
-    queue.start(rt.alloc(), 0, period, Some(period), ObjId(0)).is_ok()
+    queue.start(0, period, Some(period), ObjId(0)).is_ok()
 }
 
 // The queue with so many live timers.
 fn filled(rt: &HostRuntime, count: u64) -> Queue {
     let mut queue = Queue::new(rt.alloc());
     for number in 0..count {
-        if !start(rt, &mut queue, number) {
+        if !start(&mut queue, number) {
             return queue;
         }
     }
     queue
 }
 
-// The time that the takings take.
-fn take(rt: &HostRuntime, queue: &mut Queue) -> io::Result<Duration> {
+// The time that the firings take.
+fn fire(rt: &HostRuntime, queue: &mut Queue) -> io::Result<Duration> {
     let begin = Instant::now(rt)?;
+    let mut clock = 0;
     for _ in 0..CALLS {
-        if queue.take_due(1_000_000).is_none() {
+        if queue.fire(&mut clock, 1_000_000).is_none() {
             return Ok(Duration::ZERO);
         }
     }
@@ -55,10 +56,10 @@ fn exchange(rt: &HostRuntime, queue: &mut Queue, count: u64, starts: bool) -> io
     for number in 0..CALLS {
         let id = number.wrapping_mul(7919) % count.max(1) + 1;
         let begin = Instant::now(rt)?;
-        queue.clear(id as u32);
+        queue.clear(id);
         let cleared = begin.elapsed(rt)?;
         let begin = Instant::now(rt)?;
-        if !start(rt, queue, number) {
+        if !start(queue, number) {
             return Ok(Duration::ZERO);
         }
         let started = begin.elapsed(rt)?;
@@ -70,9 +71,15 @@ fn exchange(rt: &HostRuntime, queue: &mut Queue, count: u64, starts: bool) -> io
 fn time_calls(rt: &HostRuntime, word: &str) -> io::Result<()> {
     let (call, number) = word.split_once('-').unwrap_or((word, ""));
     let count = number.parse::<u64>().unwrap_or(1);
+    let begin = Instant::now(rt)?;
     let mut queue = filled(rt, count);
+    let filling = begin.elapsed(rt)?;
+    if call == "fill" {
+        let count = queue.live().len();
+        return println!(rt; "{count} {}", filling.as_nanos());
+    }
     let spent = match call {
-        "take" => take(rt, &mut queue)?,
+        "fire" => fire(rt, &mut queue)?,
         "clear" => exchange(rt, &mut queue, count, false)?,
         _ => exchange(rt, &mut queue, count, true)?,
     };
@@ -86,8 +93,10 @@ fn main(rt: HostRuntime) -> io::Result<()> {
     Ok(())
 }
 END
-build take-10
-for call in start clear take; do
+build fire-10
+heading "Starts" start
+for count in 1000 10000 65536; do row "fill-$count"; done
+for call in start clear fire; do
     heading "Calls of $call" call "live timers"
     for count in 1000 10000 65536; do row "$call-$count" "$count"; done
 done

@@ -1,7 +1,7 @@
 #!/usr/bin/env python3
 """Runs the rows of crates/page_rows/data/nodes.rows on Python's minidom, and compares the text that is left. Prints the rows that
-differ and how many there are; the status is 1 where one differs. Minidom does not look for ancestors, so a step that is
-refused for them is left out, as is a node before itself."""
+differ and how many there are; the status is 1 where one differs. Minidom does not look for ancestors, so these are looked for here;
+a node before itself is left out."""
 import os
 import sys
 import xml.dom
@@ -26,8 +26,13 @@ def is_above(node, other):
 
 def place(verb, parent, child, before):
     try:
-        if verb == "cut":
+        if verb == "empty":
+            while parent.firstChild:
+                parent.removeChild(parent.firstChild)
+        elif verb == "cut":
             parent.removeChild(child)
+        elif verb == "swap":
+            return swap(parent, child, before)
         elif child is before:
             return None
         elif is_above(child, parent):
@@ -44,6 +49,25 @@ def place(verb, parent, child, before):
         return "hierarchy"
     except xml.dom.NotFoundErr:
         return "missing"
+
+
+def swap(parent, child, old):
+    """Replaces the old node by minidom's own call, once the rules on ancestors and on the document are judged, which it lacks."""
+    others = [it for it in parent.childNodes if it not in (child, old) and it.nodeType == it.ELEMENT_NODE]
+    misplaced = parent.nodeType == parent.DOCUMENT_NODE and child.nodeType == child.ELEMENT_NODE and others
+    if child.nodeType not in getattr(parent, "_child_node_types", ()) or is_above(child, parent) or misplaced:
+        return "hierarchy"
+    if old.parentNode is not parent:
+        # Minidom takes the child out before it looks for the old node.
+        return "missing"
+    parent.replaceChild(child, old)
+    return "ok"
+
+
+def line_of(node):
+    """The numbers of the nodes above, with commas after them."""
+    up = node.parentNode
+    return "." if up is None else "%d,%s" % (up.number, line_of(up))
 
 
 def found(document, id):
@@ -80,8 +104,13 @@ def step(document, nodes, line):
         return found(document, rest)
     if verb == "text":
         return text_of(nodes[int(rest)])
+    if verb == "line":
+        return line_of(nodes[int(rest)])
+    if verb == "child":
+        named = [it for it in nodes[int(words[0])].childNodes if it.nodeName == words[1]]
+        return str(named[0].number) if named else "none"
     before = None if words[2] in ("-", "") else nodes[int(words[2])]
-    return place(verb, nodes[int(words[0])], nodes[int(words[1])], before)
+    return place(verb, nodes[int(words[0])], nodes[int(words[1] or 0)], before)
 
 
 def shown(node):
@@ -102,6 +131,7 @@ for row in rows():
     steps, wanted = row.split("\t")
     ends, left = wanted.split(" | ")
     document = minidom.Document()
+    document.number = 0
     nodes = [document]
     got = [step(document, nodes, line) for line in steps.split("; ")]
     same = all(g is None or g == w for g, w in zip(got, ends.split(" "))) and len(got) == len(ends.split(" "))

@@ -1,5 +1,5 @@
 -- Which pages are run, until the nodes of a page are there when it runs: those with one script in `html`, after an empty body or alone.
-use Rattle.std.specs.Prelude.{◌≡◌, ◌⊎◌, ℕ, Bool, true, false, List, [], ◌∷◌, bytes_eq, codes}
+use Rattle.std.specs.Prelude.{◌≡◌, ◌⊎◌, ℕ, Bool, false, List, [], ◌∷◌, bytes_eq, codes}
 use Rattle.std.specs.List.{list_any}
 use Rattle.dom_tree.specs.DomText.{dom_text}
 use Rattle.dom_tree.specs.Node.{Nodes}

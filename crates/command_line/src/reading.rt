@@ -2,7 +2,8 @@
 
 ghost use Rattle.std.specs.Prelude.{◌≡◌, ℕ, true, List, IfOk, IfErr};
 ghost use Rattle.page_check.specs.Accept.{IsAccepted, IsAcceptedAt, IsRefused};
-ghost use Rattle.command_line.specs.Bare.{IsBareAs, IsNotRun, is_bare};
+ghost use Rattle.command_line.specs.Bare as spec;
+ghost use Rattle.command_line.specs.Bare.{IsBareAs, IsNotRun};
 ghost use Rattle.command_line.specs.Opening.{IsOpened, OpensTo};
 ghost use Rattle.command_line.specs.Page.{IsPage};
 ghost use Rattle.command_line.specs.Reading.{AreRead, IsPageFile, IsUntaken, StopsAtPage, StopsAtEvents, CountsReads};
@@ -56,7 +57,7 @@ fn accept_bytes(alloc: Global, bytes: &[u8]) -> Result<Accepted, Status>
 // Accepts the page of these bytes, which is to be one that can be run.
 fn accept_bare(alloc: Global, bytes: &[u8]) -> Result<Accepted, Status>
     ensures ok { IfOk result (IsAcceptedAt bytes.now) }
-    ensures bare { IfOk result (λ found. is_bare found.page.nodes ≡ true) }
+    ensures bare { IfOk result (λ found. spec.is_bare found.page.nodes ≡ true) }
     ensures stops { IfErr result (IsUntaken IsNotRun bytes.now) }
 {
     let accepted = match accept_bytes(alloc, bytes) {
@@ -73,7 +74,7 @@ fn accept_bare(alloc: Global, bytes: &[u8]) -> Result<Accepted, Status>
 // Whether a page has one script in `html`, after an empty body or alone.
 #[tactic(auto, unfolding(crate::specs::Bare::is_bare))]
 fn is_bare(alloc: Global, page: &CheckedPage) -> Result<bool, OutOfMemory>
-    ensures { IfOk result (λ bare. bare ≡ is_bare page.now.nodes) }
+    ensures { IfOk result (λ bare. bare ≡ spec.is_bare page.now.nodes) }
 {
     let dom = page.dom();
     let mut text = Vec::new(alloc);
@@ -98,7 +99,7 @@ fn accept_page(alloc: Global, bytes: &[u8]) -> Result<CheckedPage, Status>
 // The same of a page that can be run.
 fn accept_bare_page(alloc: Global, bytes: &[u8]) -> Result<CheckedPage, Status>
     ensures ok { IfOk result (IsAccepted bytes.now) }
-    ensures bare { IfOk result (λ page. is_bare page.nodes ≡ true) }
+    ensures bare { IfOk result (λ page. spec.is_bare page.nodes ≡ true) }
     ensures stops { IfErr result (IsUntaken IsNotRun bytes.now) }
 {
     match accept_bare(alloc, bytes) {
@@ -127,7 +128,7 @@ pub fn read_page<F: Files>(alloc: Global, files: &mut F, name: &str) -> Result<C
 pub fn read_bare<F: Files>(alloc: Global, files: &mut F, name: &str) -> Result<CheckedPage, Status>
     ensures ok { IfOk result (λ page. Of ((F.seen files.old).content name.now)
         (λ bytes. IsPage bytes page)) }
-    ensures bare { IfOk result (λ page. is_bare page.nodes ≡ true) }
+    ensures bare { IfOk result (λ page. spec.is_bare page.nodes ≡ true) }
     ensures stops { IfErr result
         (λ status. StopsAtPage IsNotRun status ((F.seen files.old).content name.now)) }
     ensures same { (n : List ℕ) → (F.seen files.new).content n ≡ (F.seen files.old).content n }

@@ -1,5 +1,5 @@
 -- What taking all children of a node out leaves.
-use Rattle.std.proofs.Common.{◌≡◌, refl, sym, ap, ◌∙◌, ℕ, Bool, true, false, cond, ◌||◌, nat_eq, List, [], ◌∷◌, Option, Some, None, length}
+use Rattle.std.proofs.Common.{◌≡◌, refl, sym, ap, ◌∙◌, ℕ, Bool, true, false, cond, ◌||◌, nat_eq, List, [], ◌∷◌, Some, None, length}
 use Rattle.std.proofs.lemmas.Bool.{both_ways, eqb-true, or_parts}
 use Rattle.js_values.specs.declared.ids.NodeId.{NodeId}
 use Rattle.dom_tree.specs.Change.{all_taken_out, taken_out, without}
@@ -47,9 +47,12 @@ others_keep t (c ∷ cs) q a out =
     others_keep (taken_out t c) cs q w.trees (λ d i. ap (has d.0) same ∙ out d (has_tail d c cs i)) ∙ same
 
 pub all_stand_alone : AllStandAlone
-all_stand_alone t k sound =
-    (none (children_at u k.0) refl, λ c h. w.alone c h, λ c h. w.parent c h,
-    λ q ne. others_keep t cs q sound.trees (λ c i. sound.trees.agree q c.0 ∙ ap (is_this q) (parent_of_child t sound.trees k.0 c.0 i) ∙ eq_sym q k.0 ∙ ne))
+all_stand_alone t k sound = (
+  none (children_at u k.0) refl,
+  λ c h. w.alone c h,
+  λ c h. w.parent c h,
+  λ q ne. others_keep t cs q sound.trees (λ c i. sound.trees.agree q c.0 ∙ ap (is_this q) (parent_of_child t sound.trees k.0 c.0 i) ∙ eq_sym q k.0 ∙ ne),
+)
   where
     cs : List NodeId
     cs = children_at t k.0

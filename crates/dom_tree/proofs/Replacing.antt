@@ -1,12 +1,12 @@
 -- What a replacement asks and leaves.
-use Rattle.std.proofs.Common.{◌≡◌, refl, sym, ap, subst, ◌∙◌, ℕ, zero, suc, ◌<◌, Bool, true, false, cond, ◌&&◌, ◌||◌, not, nat_eq, List, [], ◌∷◌, Option, Some, None, length, length-set, if◌then◌else◌, arith}
+use Rattle.std.proofs.Common.{◌≡◌, refl, sym, ap, subst, ◌∙◌, ℕ, zero, suc, ◌<◌, Bool, true, false, cond, ◌&&◌, ◌||◌, not, nat_eq, List, [], ◌∷◌, Option, Some, None, length, if◌then◌else◌, arith}
 use Rattle.std.proofs.lemmas.Bool.{eqb-true, not-false, or_parts}
 use Rattle.std.specs.List.{list_any}
 use Rattle.js_values.specs.declared.ids.NodeId.{NodeId}
 use Rattle.dom_tree.specs.declared.content.Content.{Content}
 use Rattle.dom_tree.specs.declared.content.Kind.{Kind}
 use Rattle.dom_tree.specs.declared.fault.DomError.TheVariants.{Hierarchy, NotFound}
-use Rattle.dom_tree.specs.Change.{breaks_hierarchy_where, has_other_element, has_third_element, is_above, is_above_within, is_misplaced_for, of_parent, put_before, put_for, put_under, replaced, replacement_error, taken_from, taken_out, without}
+use Rattle.dom_tree.specs.Change.{breaks_hierarchy_where, has_other_element, has_third_element, is_above, is_above_within, is_misplaced_for, of_parent, put_before, put_for, put_under, replaced, replacement_error, taken_out, without}
 use Rattle.dom_tree.specs.Fits.{Fits, IsReady, in_or_end}
 use Rattle.dom_tree.specs.Node.{Nodes, children_at, first_of, has, is_distinct, is_document, is_element, is_text, is_this, kind_at, may_have_children, next_of, next_under, parent_at, rest_after}
 use Rattle.dom_tree.specs.Sound.{AreTrees}
@@ -175,6 +175,10 @@ module _ (t : Nodes) (p c old : NodeId) (a : AreTrees t) (apart : nat_eq c.0 old
       (λ u.
       (parent_at u c.0 ≡ Some p) × (next_of u c.0 ≡ before) × ((q : ℕ) → has c.0 (children_at u q) ≡ nat_eq q p.0) × (parent_at u old.0 ≡ None)
       × ((q : ℕ) → has old.0 (children_at u q) ≡ false))
-      (sym same_replaced)
-      (m.parent_here, ap (next_under put c.0) m.parent_here ∙ ap (λ l. first_of (rest_after c.0 l)) m.children_here ∙ after_put before c (children_at both_out p.0) fits_for.there not_in,
-      λ q. trees.agree q c.0 ∙ ap (is_this q) m.parent_here, old_alone, λ q. trees.agree q old.0 ∙ ap (is_this q) old_alone)
+      (sym same_replaced) (
+        m.parent_here,
+        ap (next_under put c.0) m.parent_here ∙ ap (λ l. first_of (rest_after c.0 l)) m.children_here ∙ after_put before c (children_at both_out p.0) fits_for.there not_in,
+        λ q. trees.agree q c.0 ∙ ap (is_this q) m.parent_here,
+        old_alone,
+        λ q. trees.agree q old.0 ∙ ap (is_this q) old_alone,
+      )

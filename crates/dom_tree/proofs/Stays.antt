@@ -1,5 +1,5 @@
 -- Whatever is done to nodes, they stay trees and sound, and as many.
-use Rattle.std.proofs.Common.{◌≡◌, ◌⊎◌, inl, inr, refl, sym, ap, subst, ◌∙◌, ℕ, zero, suc, ◌<◌, ◌≤◌, Bool, true, false, cond, ◌&&◌, ◌||◌, nat_eq, nat_lt, List, [], ◌∷◌, Option, Some, None, length, length-set, if◌then◌else◌, arith}
+use Rattle.std.proofs.Common.{◌≡◌, ◌⊎◌, inl, inr, refl, sym, ap, subst, ◌∙◌, ℕ, ◌<◌, ◌≤◌, Bool, true, false, nat_eq, List, [], ◌∷◌, Option, Some, None, length, length-set, if◌then◌else◌, arith}
 use Rattle.std.proofs.lemmas.Bool.{and_parts, both_ways, cases_lt, or_right}
 use Rattle.std.proofs.lemmas.Bool.Decides.{nat_tests}
 use Rattle.std.proofs.lemmas.List.{get_or_past}
@@ -13,13 +13,13 @@ use Rattle.dom_tree.specs.declared.fault.DomError.{DomError}
 use Rattle.dom_tree.specs.Change.{all_taken_out, breaks_hierarchy, inserted, insertion_error, is_missing, put_before, put_for, put_under, replaced, replacement_error, taken_from, taken_out, without}
 use Rattle.dom_tree.specs.Content.{has_text, new_content, with_attribute, with_text, with_value, without_attribute}
 use Rattle.dom_tree.specs.Fits.{IsReady}
-use Rattle.dom_tree.specs.Laws.{MakesSound, NewNodesStaySound, Stays, StandsInPlace, StepsStaySound}
+use Rattle.dom_tree.specs.Laws.{NewNodesStaySound, StandsInPlace, StepsStaySound}
 use Rattle.dom_tree.specs.Name.{is_name}
-use Rattle.dom_tree.specs.Node.{Nodes, children_at, first_of, is_document, is_element, is_this, kind_at, may_have_children, next_of, no_node, node_at, parent_at, with_children, with_content, with_new}
+use Rattle.dom_tree.specs.Node.{Nodes, children_at, first_of, is_element, is_this, kind_at, may_have_children, next_of, no_node, node_at, parent_at, with_children, with_content, with_new}
 use Rattle.dom_tree.specs.Sound.{AreTrees, IsSound, elements_of, has_folded_name, is_proper, takes_value}
-use Rattle.dom_tree.specs.Steps.{NodeStep, after_fit, after_node, drops_attribute, empties, fits, inserts, is_there, replaces, sets_attribute, sets_text, sets_value, takes_out}
-use Rattle.dom_tree.proofs.Emptying.{AllLeft, all_left}
-use Rattle.dom_tree.proofs.Kept.{StaysKind, content_kids, content_sound, content_up, has_first, new_kids, new_sound, new_up, same_trees}
+use Rattle.dom_tree.specs.Steps.{NodeStep, after_fit, drops_attribute, empties, fits, inserts, is_there, replaces, sets_attribute, sets_text, sets_value, takes_out}
+use Rattle.dom_tree.proofs.Emptying.{all_left}
+use Rattle.dom_tree.proofs.Kept.{content_kids, content_sound, content_up, has_first, new_kids, new_sound, new_up, same_trees}
 use Rattle.dom_tree.proofs.Moves.{fits as insertion_fits, ready, sound_in, sound_out}
 use Rattle.dom_tree.proofs.Proper.{attribute_proper, text_document, text_element, text_proper, text_text, value_proper, without_attribute_proper}
 use Rattle.dom_tree.proofs.Replacing.{IsAccepted, as_long, is_accepted, in_place, ready_for, trees_out}

@@ -1,5 +1,5 @@
 -- What taking a node out leaves.
-use Rattle.std.proofs.Common.{◌≡◌, refl, sym, ap, ◌∙◌, ℕ, ◌<◌, Bool, true, false, nat_eq, Option, Some, None, length}
+use Rattle.std.proofs.Common.{◌≡◌, refl, sym, ap, ◌∙◌, ℕ, Bool, true, false, nat_eq, Option, Some, None, length}
 use Rattle.std.proofs.lemmas.Bool.{eqb-true}
 use Rattle.js_values.specs.declared.ids.NodeId.{NodeId}
 use Rattle.dom_tree.specs.Change.{taken_from, taken_out, without}

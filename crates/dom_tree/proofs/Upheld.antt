@@ -1,10 +1,10 @@
 -- The laws of nodes.
-use Rattle.std.proofs.Common.{◌≡◌, refl, sym, ap, subst, ◌∙◌, ℕ, zero, suc, ◌<◌, ◌≤◌, Bool, true, false, cond, ◌||◌, nat_eq, List, [], ◌∷◌, ◌++◌, Option, Some, None, length, append-nil, if◌then◌else◌, arith}
+use Rattle.std.proofs.Common.{◌≡◌, refl, sym, ap, subst, ◌∙◌, ℕ, zero, suc, ◌≤◌, Bool, true, false, cond, ◌||◌, nat_eq, List, [], ◌∷◌, ◌++◌, Option, Some, None, length, append-nil, if◌then◌else◌, arith}
 use Rattle.std.proofs.lemmas.Bool.{eqb-true, ne_eqb, or_parts}
 use Rattle.std.specs.List.{flat_map}
 use Rattle.js_values.specs.declared.ids.NodeId.{NodeId}
 use Rattle.dom_tree.specs.declared.fault.DomError.TheVariants.{Hierarchy, NotFound}
-use Rattle.dom_tree.specs.Change.{breaks_hierarchy, inserted, is_above, is_above_within, is_missing, of_parent, put_before, put_under, taken_from, taken_out, without}
+use Rattle.dom_tree.specs.Change.{breaks_hierarchy, inserted, is_above, is_above_within, is_missing, of_parent, put_before, put_under, taken_out, without}
 use Rattle.dom_tree.specs.DomText.{closing, closing_of, dom_text, dom_texts, is_empty, joined_texts, opening, opening_of, own_text, text_content, text_unit}
 use Rattle.dom_tree.specs.Fits.{IsReady, in_or_end}
 use Rattle.dom_tree.specs.Laws.{Inserts, NoOwnAncestor, OthersStay, StandsBefore, TextIsEscaped, TextsOfChildren}
@@ -17,7 +17,7 @@ use Rattle.dom_tree.proofs.Kept.{has_first}
 use Rattle.dom_tree.proofs.Lists.{eq_refl, eq_sym, gone, has_put, has_without_same}
 use Rattle.dom_tree.proofs.Moves.{fits, ready}
 use Rattle.dom_tree.proofs.Taken.{Left, left}
-use Rattle.dom_tree.proofs.Trees.{Moved, depth, moved, parent_in, same_depth}
+use Rattle.dom_tree.proofs.Trees.{Moved, depth, moved, same_depth}
 
 -- an accepted insertion passes its tests
 pub no_fault : (a b : Bool) → (if a then Some Hierarchy else (if b then Some NotFound else None)) ≡ None → (a ≡ false) × (b ≡ false)

@@ -1,5 +1,5 @@
 -- Attributes in order of first setting.
-use Rattle.std.specs.Prelude.{cond, List, [], ◌∷◌, Option, Some, None, bytes_eq}
+use Rattle.std.specs.Prelude.{Bool, true, ◌&&◌, cond, List, [], ◌∷◌, Option, Some, None, bytes_eq, is_none}
 use Rattle.js_core.specs.Text.{Text}
 
 -- names with values
@@ -10,6 +10,11 @@ Pairs = List (Text × Text)
 abbrev pub value_of : Text → Pairs → Option Text
 value_of name [] = None
 value_of name (a ∷ as') = cond (bytes_eq a.0 name) (Some a.1) (value_of name as')
+
+-- no name is there twice
+abbrev pub has_distinct_names : Pairs → Bool
+has_distinct_names [] = true
+has_distinct_names (a ∷ as') = is_none (value_of a.0 as') && has_distinct_names as'
 
 -- the name takes the value: where it is there it keeps its place, and else it is the last
 abbrev pub with_value_of : Text → Text → Pairs → Pairs

@@ -5,6 +5,7 @@ use Rattle.js_values.specs.declared.ids.NodeId.{NodeId}
 use Rattle.dom_tree.specs.declared.content.Content.{Content}
 use Rattle.dom_tree.specs.declared.content.Kind.{Kind}
 use Rattle.dom_tree.specs.declared.content.Kind.TheVariants.{Element}
+use Rattle.dom_tree.specs.Attributes.{has_distinct_names}
 use Rattle.dom_tree.specs.Name.{is_folded_name}
 use Rattle.dom_tree.specs.Node.{Nodes, children_at, first_of, has, is_distinct, is_document, is_element, is_text, is_this, kind_at, may_have_children, node_at, parent_at}
 
@@ -28,10 +29,10 @@ abbrev pub takes_value : Kind → Bool
 takes_value (Element name) = bytes_eq name (codes "input") || bytes_eq name (codes "textarea")
 takes_value k = false
 
--- names are folded, only elements have attributes, and only such elements a set value
+-- names are folded, only elements have attributes, no two of one name, and only such elements a set value
 abbrev pub is_proper : Content → Bool
 is_proper c =
-    has_folded_name c.kind && list_all (λ a. is_folded_name a.0) c.attributes && (is_element c.kind || nat_eq (length c.attributes) 0)
+    has_folded_name c.kind && list_all (λ a. is_folded_name a.0) c.attributes && has_distinct_names c.attributes && (is_element c.kind || nat_eq (length c.attributes) 0)
     && (takes_value c.kind || is_none c.value)
 
 -- the elements among the children of the document

@@ -1,5 +1,5 @@
 -- What is done to nodes, one thing after another. What does not fit changes nothing, so that whatever is done keeps the nodes sound.
-use Rattle.std.specs.Prelude.{Bool, true, ◌&&◌, List, [], ◌∷◌, Option, length, is_none, nat_lt, if◌then◌else◌}
+use Rattle.std.specs.Prelude.{Bool, true, ◌&&◌, Option, length, is_none, nat_lt, if◌then◌else◌}
 use Rattle.js_core.specs.Text.{Text}
 use Rattle.js_values.specs.declared.ids.NodeId.{NodeId}
 use Rattle.dom_tree.specs.declared.content.Content.{Content}

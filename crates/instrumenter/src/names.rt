@@ -12,9 +12,7 @@ ghost use Rattle.instrumenter.specs.Fields.{clause_fields, fields_in};
 use indexmap::IndexSet;
 use itoa::Buffer;
 use js_core::{Catch, Code, OutOfMemory, Stmt, Units, ascii_text};
-use scope_analysis::{
-    UseTable, insert_names, push_declared_names, push_maybe_name, push_names,
-};
+use scope_analysis::{UseTable, insert_names, push_declared_names, push_maybe_name, push_names};
 use script_rules::{ScopeTest, note_statements};
 use std::alloc::Global;
 

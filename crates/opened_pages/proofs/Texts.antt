@@ -1,18 +1,17 @@
 -- That the text of a plain page with opened scopes is its own, with its opened scripts.
-use Rattle.std.proofs.Common.{◌≡◌, ◌∙◌, sym, ap, ℕ, List, map, Result, Ok, Err, IfOk, refl}
+use Rattle.std.proofs.Common.{◌≡◌, ◌∙◌, sym, ap, ℕ, List, map, Result, Ok, Err, IfOk}
 use Rattle.std.specs.Prelude.{◌++◌}
-use Rattle.dom_tree.specs.Node.{Nodes}
 use Rattle.instrumenter.specs.Opening.{open_scripts}
+use Rattle.js_core.specs.Text.{utf16_of}
 use Rattle.js_core.specs.Tree as tree
 use Rattle.js_print.specs.Printing.{script_text}
-use Rattle.page_check.specs.Accept.{AcceptedPage, IsAccepted, IsAcceptedAt}
-use Rattle.page_check.specs.Rules.{Page}
+use Rattle.page_check.specs.Accept.{AcceptedPage, IsAcceptedAt}
 use Rattle.page_check.specs.declared.page.Kind.{Kind}
 use Rattle.page_check.specs.declared.page.Kind.TheVariants.{Plain, Form}
 use Rattle.page_reader.specs.declared.page.Place.{Place}
 use Rattle.page_reader.specs.Replacing.{form_mark, replaced_from}
-use Rattle.printed_pages.specs.Printed.{form_page}
-use Rattle.opened_pages.specs.Opened.{Opens, OpensAs, opened_scripts}
+use Rattle.page_reader.specs.Text.{mark_size}
+use Rattle.opened_pages.specs.Opened.{Opens, OpensAs}
 
 abbrev texts_of_opened : List tree.Stmts → List (List ℕ)
 texts_of_opened scripts = map script_text (open_scripts scripts)
@@ -34,12 +33,6 @@ opens_as_plain found bytes start places scripts text_of (Ok t) is at s p same e 
     by Plain on = (
       at.accepted,
       whole ∙ ap (λ (n : ℕ). form_mark ++ replaced_from n bytes found.places (texts_of_opened found.page.scripts)) at.start
-          ∙ ap (λ (ps : List Place). form_mark ++ replaced_from _ bytes ps (texts_of_opened found.page.scripts)) at.placed,
+          ∙ ap (λ (ps : List Place). form_mark ++ replaced_from (mark_size (utf16_of bytes)) bytes ps (texts_of_opened found.page.scripts)) at.placed,
     )
 opens_as_plain found bytes start places scripts text_of (Err f) is at s p same e = tt
-
--- a form page is its own page with opened scopes
-pub stays_open : (kind : Kind) (nodes : Nodes) (scripts : List tree.Stmts) → kind ≡ Form
-    → record { kind = kind; nodes = nodes; scripts = scripts } ≡ form_page nodes (opened_scripts kind scripts)
-stays_open Form nodes scripts e = refl
-stays_open Plain nodes scripts e = absurd (cc)

@@ -6,7 +6,7 @@ ghost use Rattle.js_print.specs.Printing.{script_text};
 ghost use Rattle.page_check.specs.Accept.{IsAcceptedAt};
 ghost use Rattle.page_check.specs.Rules.{AllKeepRules};
 ghost use Rattle.page_check.specs.declared.page.Kind.TheVariants.{Form, Plain};
-ghost use Rattle.page_reader.specs.Replacing.{form_mark, replaced_from};
+ghost use Rattle.page_reader.specs.Replacing as replacing;
 ghost use Rattle.opened_pages.specs.Opened.{HaveNumbers, Opens, opened_page};
 
 use instrumenter::{law_opened_scripts_are_form, open_scopes};
@@ -71,8 +71,9 @@ fn open_plain(
     scripts: &[Script],
 ) -> Result<Vec<u8>, OutOfMemory>
     requires { AllKeepRules Plain scripts.now }
-    ensures text { IfOk result (λ text. text.items ≡ form_mark ++ replaced_from start
-        bytes.now places.now (map script_text (open_scripts scripts.now))) }
+    ensures text { IfOk result (λ text. text.items ≡ replacing.form_mark
+        ++ replacing.replaced_from start bytes.now places.now
+        (map script_text (open_scripts scripts.now))) }
     ensures numbered { OnOk result (HaveNumbers Plain scripts.now) }
 {
     let opened = open_scopes(alloc, scripts)?;

@@ -1,5 +1,5 @@
 -- A page is accepted in one way or refused for one cause, and not both.
-use Rattle.std.proofs.Common.{◌≡◌, ◌∙◌, ℕ, List, refl, sym, ap, subst}
+use Rattle.std.proofs.Common.{◌≡◌, ◌∙◌, ℕ, List, refl, sym, subst}
 use Rattle.dom_tree.specs.Node.{Nodes}
 use Rattle.js_core.specs.Tree as tree
 use Rattle.js_core.specs.declared.token.Token.{Token}
@@ -17,10 +17,6 @@ use Rattle.page_check.proofs.OneList.{one_scripts, one_refusal_from, not_refused
 abbrev OneReading : Type 0
 OneReading = (bytes : List ℕ) (left right : Nodes) (first second : List ScriptText) → IsPageOf bytes left first → IsPageOf bytes right second → (left ≡ right) × (first ≡ second)
 
-one_record : (kind other : Kind) (nodes more : Nodes) (scripts others : List tree.Stmts) → kind ≡ other → nodes ≡ more → scripts ≡ others
-    → record { kind = kind; nodes = nodes; scripts = scripts } ≡ record { kind = other; nodes = more; scripts = others }
-one_record kind other nodes more scripts others e f g = λ i. record { kind = e i; nodes = f i; scripts = g i }
-
 module _ (one_list : (text : List ℕ) (l r : List Token) → Tokens text l → Tokens text r → l ≡ r) (one_tree : (tokens : List Token) (s t : tree.Stmts) → Derives tokens s → Derives tokens t → s ≡ t)
     (one_reading : OneReading) where
   pub one_acceptance : (bytes : List ℕ) (page other : Page) → IsAccepted bytes page → IsAccepted bytes other → page ≡ other
@@ -30,8 +26,8 @@ module _ (one_list : (text : List ℕ) (l r : List Token) → Tokens text l → 
       let read : ArePageScripts other.kind (texts_of b.texts) page.scripts =
       subst (λ (ts : List ScriptText). ArePageScripts other.kind (texts_of ts) page.scripts) same.1
       (subst (λ (k : Kind). ArePageScripts k (texts_of a.texts) page.scripts) kinds a.read) in
-      one_record page.kind other.kind page.nodes other.nodes page.scripts other.scripts kinds same.0
-      (one_scripts one_list one_tree other.kind (texts_of b.texts) page.scripts other.scripts read b.read)
+      let scripts : page.scripts ≡ other.scripts = one_scripts one_list one_tree other.kind (texts_of b.texts) page.scripts other.scripts read b.read in
+      λ i. record { kind = kinds i; nodes = same.0 i; scripts = scripts i }
 
   one_script_cause : (bytes : List ℕ) (r s : Refusal) → IsRefusedScript bytes r → IsRefusedScript bytes s → r ≡ s
   one_script_cause bytes r s h g =

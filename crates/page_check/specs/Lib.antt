@@ -1,2 +1,4 @@
 pub mod Accept
+pub mod CodedAccepted
+pub mod CodedPage
 pub mod Rules

@@ -28,8 +28,11 @@ pub struct Accepted {
 
 impl Model for Accepted {
     ghost use Rattle.page_check.specs.Accept.{AcceptedPage};
+    ghost use Rattle.page_check.specs.CodedAccepted.{coded_accepted};
 
     ghost Value = { AcceptedPage };
+
+    ghost coded = { coded_accepted };
 
     ghost view = { λ a. record { page = a.page; start = a.start; places = a.places.items } };
 }
@@ -72,16 +75,12 @@ pub fn accept(alloc: Global, bytes: &[u8]) -> Result<Accepted, AcceptFault>
     ensures refused { IfErr result (IsNotAccepted bytes.now) }
 {
     let kind = kind_of(bytes);
-    let Page {
-        dom,
-        scripts: found,
-        start,
-    } = read_bytes(alloc, bytes)?;
-    let places = places(alloc, found.as_slice())?;
-    let scripts = page_scripts(alloc, kind, found)?;
+    let found = read_bytes(alloc, bytes)?;
+    let places = places(alloc, found.scripts.as_slice())?;
+    let scripts = page_scripts(alloc, kind, found.scripts)?;
     Ok(Accepted {
-        page: CheckedPage::new(kind, dom, scripts),
-        start,
+        page: CheckedPage::new(kind, found.dom, scripts),
+        start: found.start,
         places,
     })
 }

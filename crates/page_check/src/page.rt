@@ -30,8 +30,11 @@ pub struct CheckedPage {
 
 impl Model for CheckedPage {
     ghost use Rattle.page_check.specs.Rules.{AllKeepRules, Page};
+    ghost use Rattle.page_check.specs.CodedPage.{coded_page};
 
     ghost Value = { Page };
+
+    ghost coded = { coded_page };
 
     ghost view = { λ a. record { kind = a.kind; nodes = a.dom; scripts = a.scripts.items } };
 

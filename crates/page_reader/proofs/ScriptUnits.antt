@@ -1,5 +1,5 @@
 -- The texts of scripts have 16-bit units.
-use Rattle.std.proofs.Common.{◌≡◌, ◌∙◌, ℕ, ◌+◌, ◌-◌, ◌/◌, ◌%◌, ◌<◌, ◌==◌, ◌&&◌, Bool, true, false, cond, nat_le, nat_lt, List, [], ◌∷◌, ◌++◌, map, drop, length, refl, sym, ap, subst, arith}
+use Rattle.std.proofs.Common.{◌≡◌, ◌∙◌, ℕ, ◌+◌, ◌-◌, ◌/◌, ◌%◌, ◌<◌, ◌==◌, ◌&&◌, Bool, true, false, cond, nat_le, nat_lt, List, [], ◌∷◌, ◌++◌, map, length, refl, sym, ap, subst, arith}
 use Rattle.std.specs.Char.Escape.{encode_utf16}
 use Rattle.std.specs.List.{All, flat_map, list_all}
 use Rattle.std.specs.Str.{IsUtf8, all_scalars}
@@ -19,7 +19,7 @@ use Rattle.page_tokens.proofs.Callers.{is_raw, moves_at, raw_moves_at}
 use Rattle.page_reader.specs.declared.page.ScriptText.{ScriptText}
 use Rattle.page_reader.specs.Bytes.{IsPageOf}
 use Rattle.page_reader.specs.Elements.{is_script}
-use Rattle.page_reader.specs.Text.{has_mark, is_half, line_feed, mark_size, page_text, with_line_feeds, without_mark}
+use Rattle.page_reader.specs.Text.{is_half, mark_size, page_text, with_line_feeds, without_mark}
 use Rattle.page_reader.proofs.Renewing.{page_scripts, scripts_in}
 use Rattle.page_reader.proofs.Swapped.{script_texts}
 
@@ -78,9 +78,9 @@ line_feed_units (u ∷ us) h =
   where
     by : (a b : Bool) → is_unit u ≡ true → are_units (with_line_feeds us) ≡ true
         → are_units (cond a (with_line_feeds us) (cond b 10 u ∷ with_line_feeds us)) ≡ true
-    by true b here more = more
-    by false true here more = more
-    by false false here more = and_from (is_unit u) (are_units (with_line_feeds us)) here more
+    by true b here later = later
+    by false true here later = later
+    by false false here later = and_from (is_unit u) (are_units (with_line_feeds us)) here later
 
 unmarked_units : (us : Text) → are_units us ≡ true → are_units (without_mark us) ≡ true
 unmarked_units [] h = refl
@@ -142,5 +142,5 @@ scripts_have_units bytes nodes scripts p =
     let raws = p.units.raws in
     let low = line_feed_units (without_mark units) (unmarked_units units (utf8_units bytes p.utf8)) in
     let found = token_units (length (page_text units)) (page_text units) all.tokens all.reads low in
-    let same : map (λ s. s.text) scripts ≡ raw_texts raws = ap (map (λ s. s.text)) p.units.placed ∙ script_texts (mark_size units) (without_mark units) raws in
+    let same : map (λ s. s.text) scripts ≡ raw_texts raws = ap (λ (ss : List ScriptText). map (λ s. s.text) ss) p.units.placed ∙ script_texts (mark_size units) (without_mark units) raws in
     subst (All AllUnits) (ap raw_texts (page_scripts all.tokens nodes raws all.is_page) ∙ sym same) found

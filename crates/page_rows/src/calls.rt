@@ -9,9 +9,10 @@ use js_core::Units;
 use js_values::NodeId;
 use std::alloc::{AllocError, Global};
 
-/// How each step ends and, behind a bar, the text of the document then. `e`, `t` and `c` make an element, a text and a comment, which
-/// are numbered from 1; `put P C R` inserts C under P before R, or at the end where R is `-`; `cut P C` removes C; `set N A V` and
-/// `unset N A` are for attributes; `find I` tells the element of an id, and `text N` the text of a node.
+/// How each step ends and, after a bar, the text of the document then. `e`, `t` and `c` make an element, a text and a comment, which
+/// are numbered from 1; `put P C R` inserts C under P before R, or at the end where R is `-`; `swap P C O` replaces O by C; `cut P C`
+/// removes C, and `empty N` all children; `set N A V` and `unset N A` are for attributes; `find I` tells the element of an id, `text N`
+/// the text of a node, `child N A` its first child of that name, and `line N` the nodes above it.
 pub fn endings(alloc: Global, steps: &str) -> Result<Vec<u8>, AllocError> {
     let Ok(mut dom) = Dom::new(alloc) else {
         return Err(AllocError);
@@ -34,8 +35,10 @@ fn push_step(
 ) -> Result<(), AllocError> {
     let (verb, rest) = line.split_once(' ').unwrap_or((line, ""));
     match verb {
-        "find" => push_found(alloc, dom, rest, out),
+        "find" => push_node(alloc, dom.find_id(&units_of(alloc, rest)?), out),
         "text" => push_text(alloc, dom, rest, out),
+        "child" => push_child(alloc, dom, rest, out),
+        "line" => push_above(alloc, dom, rest, out),
         "e" | "t" | "c" => out.extend_from_slice(make(alloc, dom, verb, rest)?.as_bytes()),
         _ => out.extend_from_slice(change(alloc, dom, verb, rest)?.as_bytes()),
     }
@@ -127,15 +130,45 @@ fn place(
     if !is_there(dom, before) || parent.0 >= dom.count() || child.0 >= dom.count() {
         return "none";
     }
-    if verb == "put" {
-        end(dom.insert_before(parent, child, before))
-    } else {
-        end(dom.remove_child(parent, child))
+    match (verb, before) {
+        ("put", _) => end(dom.insert_before(parent, child, before)),
+        ("swap", Some(old)) => end(dom.replace_child(parent, child, old)),
+        ("empty", _) => {
+            dom.remove_children(parent);
+            "ok"
+        }
+        _ => end(dom.remove_child(parent, child)),
     }
 }
 
-fn push_found(alloc: Global, dom: &Dom, id: &str, out: &mut Vec<u8>) -> Result<(), AllocError> {
-    match dom.find_id(&units_of(alloc, id)?) {
+fn push_child(alloc: Global, dom: &Dom, words: &str, out: &mut Vec<u8>) -> Result<(), AllocError> {
+    let (node, name) = words.split_once(' ').unwrap_or((words, ""));
+    let node = number(node).unwrap_or(NodeId(0));
+    if node.0 >= dom.count() {
+        return out.extend_from_slice(b"none");
+    }
+    push_node(alloc, dom.child_named(node, name.as_bytes()), out)
+}
+
+// The nodes above, with commas between them.
+fn push_above(alloc: Global, dom: &Dom, node: &str, out: &mut Vec<u8>) -> Result<(), AllocError> {
+    let node = number(node).unwrap_or(NodeId(0));
+    if node.0 >= dom.count() {
+        return out.extend_from_slice(b"none");
+    }
+    let Ok(nodes) = dom.above(alloc, node) else {
+        return Err(AllocError);
+    };
+    for node in &nodes {
+        push_node(alloc, Some(*node), out)?;
+        out.push(b',')?;
+    }
+    out.push(b'.')?;
+    Ok(())
+}
+
+fn push_node(alloc: Global, node: Option<NodeId>, out: &mut Vec<u8>) -> Result<(), AllocError> {
+    match node {
         Some(node) => {
             let place = node.0;
             out.extend_from_slice(format!(in alloc; "{place}")?.as_bytes())

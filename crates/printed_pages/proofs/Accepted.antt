@@ -104,8 +104,7 @@ module _ (printed : ScriptsAreReadAgain) where
       → ArePageScripts Form (map utf16_of (map script_text scripts)) scripts
   are_page_scripts [] syntax form strict = tt
   are_page_scripts (script ∷ scripts) syntax form strict =
-      let again = lined_again script (script_text script) (printed script (All-head IsSyntax script scripts syntax)) in
-      (
+      let again = lined_again script (script_text script) (printed script (All-head IsSyntax script scripts syntax)) in (
         form_is_page_script script (script_text script) (All-head IsFormPageScript script scripts form) (All-head Begins script scripts strict) again,
         are_page_scripts scripts (All-tail IsSyntax script scripts syntax) (All-tail IsFormPageScript script scripts form) (All-tail Begins script scripts strict),
       )

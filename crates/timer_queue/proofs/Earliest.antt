@@ -1,7 +1,7 @@
 -- The timer that is due first.
 use Rattle.std.proofs.Common.{◌≡◌, ◌⊎◌, inl, inr, ℕ, ◌<◌, ◌≤◌, Bool, true, false, nat_le, if◌then◌else◌, List, [], ◌∷◌, Option, Some, None, filter, refl, sym, ap, subst, ◌∙◌, arith}
 use Rattle.std.proofs.lemmas.Bool.Decides.{nat_tests}
-use Rattle.timer_queue.specs.Timers.{before_later, due_timers, earlier, earliest, first, in_order, is_due}
+use Rattle.timer_queue.specs.Timers.{IsIn, before_later, due_timers, earlier, earliest, first, in_order, is_due}
 use Rattle.timer_queue.specs.declared.timer.Live.{Live}
 
 first_before : (t : Live) (us : List Live) → first (before_later t us) ≡ Some (earlier t (first us))
@@ -15,11 +15,6 @@ first_before t (u ∷ us) = by_case (nat_le t.due u.due)
 pub first_in_order : (ts : List Live) → first (in_order ts) ≡ earliest ts
 first_in_order [] = refl
 first_in_order (t ∷ ts) = first_before t (in_order ts) ∙ ap (λ o. Some (earlier t o)) (first_in_order ts)
-
--- one of the timers
-abbrev pub IsIn : List Live → Live → Type 0
-IsIn [] u = ⊥
-IsIn (t ∷ ts) u = (t ≡ u) ⊎ IsIn ts u
 
 pub is_low : (a b : ℕ) → nat_le a b ≡ true → a ≤ b
 is_low a b h = grind (arith, nat_tests)

@@ -1,6 +1,7 @@
 -- The ids of live timers.
 use Rattle.std.proofs.Common.{◌≡◌, ◌≢◌, ℕ, zero, suc, ◌+◌, ◌<◌, ◌≤◌, ◌==◌, ◌||◌, Bool, true, false, nat_le, if◌then◌else◌, List, [], ◌∷◌, ◌++◌, length, Option, Some, None, refl, sym, ap, ◌∙◌, arith}
 use Rattle.std.proofs.lemmas.Bool.Decides.{nat_tests}
+use Rattle.std.proofs.Math.Bool.{or-false}
 use Rattle.std.proofs.lemmas.Bool.{or_parts}
 use Rattle.timer_queue.specs.Laws.{HasDistinctIds, IsLeastFree, KeepsDistinctIds}
 use Rattle.timer_queue.specs.Timers.{after_first, after_taking, again, cleared, due_timers, first, free_from, is_live, least_free}
@@ -159,6 +160,25 @@ cleared_stays_free (t ∷ ts) k id free = by_case (t.id == k) refl (or_parts (t.
     by_case : (b : Bool) → (t.id == k) ≡ b → ((t.id == id) ≡ false) × (is_live ts id ≡ false) → (is_live ts id ≡ false → is_live (cleared ts k) id ≡ false) → is_live (cleared (t ∷ ts) k) id ≡ false
     by_case true e parts later = ap (λ l. is_live l id) (dropped t ts k e) ∙ later parts.1
     by_case false e parts later = ap (λ l. is_live l id) (kept t ts k e) ∙ rw (parts.0, later parts.1) refl
+
+pub cleared_keeps : (ts : List Live) (id k : ℕ) → (id == k) ≡ false → is_live (cleared ts id) k ≡ is_live ts k
+cleared_keeps [] id k ne = refl
+cleared_keeps (t ∷ ts) id k ne = by_case (t.id == id) refl (cleared_keeps ts id k ne)
+  where
+    by_case : (b : Bool) → (t.id == id) ≡ b → is_live (cleared ts id) k ≡ is_live ts k → is_live (cleared (t ∷ ts) id) k ≡ is_live (t ∷ ts) k
+    by_case true e later =
+        let other : (t.id == k) ≡ false = ap (λ i. i == k) (same_id t.id id e) ∙ ne in
+        ap (λ l. is_live l k) (dropped t ts id e) ∙ later ∙ sym (ap (λ b. b || is_live ts k) other)
+    by_case false e later = ap (λ l. is_live l k) (kept t ts id e) ∙ ap (λ b. (t.id == k) || b) later
+
+-- one more at the end
+pub live_end : (ts : List Live) (u : Live) (k : ℕ) → is_live (ts ++ u ∷ []) k ≡ (is_live ts k || (u.id == k))
+live_end [] u k = or-false (u.id == k)
+live_end (t ∷ ts) u k = ap (λ b. (t.id == k) || b) (live_end ts u k) ∙ by_case (t.id == k)
+  where
+    by_case : (b : Bool) → (b || (is_live ts k || (u.id == k))) ≡ ((b || is_live ts k) || (u.id == k))
+    by_case true = refl
+    by_case false = refl
 
 pub distinct_cleared : (ts : List Live) (id : ℕ) → HasDistinctIds ts → HasDistinctIds (cleared ts id)
 distinct_cleared [] id d = tt

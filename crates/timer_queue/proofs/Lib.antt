@@ -1,7 +1,9 @@
+pub mod Callers
 pub mod Earliest
 pub mod IdLemmas
 pub mod MarkLemmas
 pub mod Order
 pub mod Range
 pub mod Takings
+pub mod Timing
 pub mod Worked

@@ -2,16 +2,16 @@
 use Rattle.std.proofs.Common.{◌≡◌, ◌⊎◌, inl, inr, ℕ, zero, suc, ◌+◌, ◌<◌, ◌≤◌, ◌==◌, ◌||◌, not, Bool, true, false, if◌then◌else◌, List, [], ◌∷◌, ◌++◌, length, Option, Some, None, filter, find, refl, sym, ap, subst, ◌∙◌, arith}
 use Rattle.std.specs.List.{list_all}
 use Rattle.std.proofs.lemmas.Bool.{or_parts}
-use Rattle.timer_queue.proofs.Earliest.{IsIn, IsTaken, is_taken, low_test, none_due}
+use Rattle.timer_queue.proofs.Earliest.{IsTaken, is_taken, low_test, none_due}
 use Rattle.timer_queue.proofs.IdLemmas.{cleared_frees, cleared_stays_free, distinct_taken, is_same, no_more, same_id}
 use Rattle.timer_queue.proofs.Order.{all_from}
 use Rattle.timer_queue.specs.Laws.{HasDistinctIds, NeverFall, TakesTheFirings, fires_then, firings, taken_then, takings}
-use Rattle.timer_queue.specs.Timers.{after_taking, again, cleared, due_timers, first, has_id, is_due, is_live}
+use Rattle.timer_queue.specs.Timers.{IsIn, after_taking, again, cleared, due_timers, first, has_id, is_due, is_live}
 use Rattle.timer_queue.specs.declared.timer.Live.{Live}
 
 -- ---- who is in the list after a taking
 
-in_cleared : (ts : List Live) (id : ℕ) (v : Live) → IsIn (cleared ts id) v → IsIn ts v
+pub in_cleared : (ts : List Live) (id : ℕ) (v : Live) → IsIn (cleared ts id) v → IsIn ts v
 in_cleared [] id v inside = absurd inside
 in_cleared (t ∷ ts) id v inside = by_case (t.id == id) inside (in_cleared ts id v)
   where

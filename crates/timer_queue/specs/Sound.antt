@@ -20,4 +20,4 @@ AreInRange (t ∷ ts) = IsInRange t × AreInRange ts
 pub record IsSound (ts : List Live) (marks : List Bool) (full : ℕ) : Type 0 where
   pub distinct : HasDistinctIds ts
   pub in_range : AreInRange ts
-  pub marks : AreMarks ts marks full
+  pub marked : AreMarks ts marks full

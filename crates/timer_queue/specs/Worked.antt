@@ -1,6 +1,5 @@
 -- A worked queue: a timeout is started, then an interval that is due before it; what is due at 20 is taken twice, and a timer is cleared.
-use Rattle.std.specs.Prelude.{◌≡◌, ℕ, List, [], ◌∷◌, Option, Some, None}
-use Rattle.js_values.specs.declared.ids.ObjId.{ObjId}
+use Rattle.std.specs.Prelude.{◌≡◌, ℕ, List, [], ◌∷◌, Some, None}
 use Rattle.timer_queue.specs.Timers.{after_first, cleared, due_timers, first, in_order, least_free, started}
 use Rattle.timer_queue.specs.declared.timer.Live.{Live}
 

@@ -5,7 +5,7 @@ ghost use Rattle.timer_queue.specs.Laws.{HasDistinctIds};
 ghost use Rattle.timer_queue.specs.Sound.{AreInRange};
 ghost use Rattle.timer_queue.specs.Timers as spec;
 
-use crate::ids::{first_free, unmark};
+use crate::ids::{free_place, unmark};
 use crate::timer::Live;
 use js_core::OutOfMemory;
 use js_values::ObjId;
@@ -137,10 +137,7 @@ impl Queue {
         ensures started { OnOk result (self.new ≡ spec.started self.old now delay period call) }
         ensures err { OnErr result (self.new ≡ self.old) }
     {
-        let place = first_free(self.marks.as_slice(), self.full);
-        if place == self.marks.len() {
-            self.marks.push(false)?;
-        }
+        let place = free_place(&mut self.marks, self.full)?;
         let id = place as u32 + 1;
         self.timers.push(Live {
             id,
@@ -158,7 +155,7 @@ impl Queue {
         ensures { self.new ≡ spec.cleared self.old id }
     {
         remove(&mut self.timers, id);
-        self.full = unmark(self.marks.as_mut_slice(), self.full, id);
+        self.full = unmark(&mut self.marks, self.full, id);
     }
 
     /// The id and the due time of the timer that is due first, the one started first where several are; None where no timer
@@ -184,8 +181,9 @@ impl Queue {
         match first_due(self.timers.as_slice(), until) {
             Some(timer) => {
                 take(&mut self.timers, timer);
-                if timer.period.is_none() {
-                    self.full = unmark(self.marks.as_mut_slice(), self.full, u64::from(timer.id));
+                match timer.period {
+                    Some(_) => {}
+                    None => self.full = unmark(&mut self.marks, self.full, u64::from(timer.id)),
                 }
                 Some((timer.id, timer.due, timer.call))
             }

@@ -203,22 +203,30 @@ functions::push_part-returns-in_default t c =
 pub loops::push_for-returns-clause-opened : goal.loops::push_for-returns-clause-opened
 loops::push_for-returns-clause-opened t c =
     let a = around_of (map rc_value c.args.levels.now) in
+    let parts = c.in_ok-new.field-0.value in
+    let boxed : parts ≡ record { init = c.in_ok-init.init; test = c.in_ok-test.test; step = c.in_ok-step.step; body = c.in_ok-body.body } =
+    grind (arith, common_steps) in
     on_ok c.push_node.result _
     (for_opened a c.args.next.now c.open_init.new.next c.open_maybe_expression.new.next c.open_maybe_expression-2.new.next
-    (init_of c.args.init.now) (init_of c.in_ok-init.init) (maybe_expr c.args.test.now) (maybe_expr c.in_ok-test.test)
-    (maybe_expr c.args.step.now) (maybe_expr c.in_ok-step.step) (stmts_of c.args.body.now) (stmts_of c.in_ok-body.body.items)
-    (stmts_of c.args.out.now.items) _ c.in_ok-init.ensures.opened c.in_ok-init.ensures.counted c.in_ok-test.ensures.opened c.in_ok-test.ensures.counted
-    c.in_ok-step.ensures.opened c.in_ok-step.ensures.counted c.in_ok-body.ensures.opened c.in_ok-push_names_before.ensures)
+    (init_of c.args.init.now) (init_of parts.init) (maybe_expr c.args.test.now) (maybe_expr parts.test)
+    (maybe_expr c.args.step.now) (maybe_expr parts.step) (stmts_of c.args.body.now) (stmts_of parts.body.items)
+    (stmts_of c.args.out.now.items) _ (ap (λ z. init_of z.init) boxed ∙ c.in_ok-init.ensures.opened) c.in_ok-init.ensures.counted
+    (ap (λ z. maybe_expr z.test) boxed ∙ c.in_ok-test.ensures.opened) c.in_ok-test.ensures.counted
+    (ap (λ z. maybe_expr z.step) boxed ∙ c.in_ok-step.ensures.opened) c.in_ok-step.ensures.counted
+    (ap (λ z. stmts_of z.body.items) boxed ∙ c.in_ok-body.ensures.opened) c.in_ok-push_names_before.ensures)
     c.push_node.ensures
 
 pub loops::push_for_in-returns-clause-opened : goal.loops::push_for_in-returns-clause-opened
 loops::push_for_in-returns-clause-opened t c =
     let a = around_of (map rc_value c.args.levels.now) in
+    let target : c.in_ok-new.field-0.value ≡ c.in_ok-target.target = grind (arith, common_steps) in
+    let object : c.in_ok-new-2.field-0.value ≡ c.in_ok-object.object = grind (arith, common_steps) in
     on_ok c.push_node.result _
     (for_in_opened a c.args.next.now c.open_expression.new.next c.open_expression-2.new.next c.args.declared c.stays_declared-declared.result
-    c.args.target.now c.in_ok-target.target c.args.object.now c.in_ok-object.object (stmts_of c.args.body.now) (stmts_of c.in_ok-body.body.items)
-    (stmts_of c.args.out.now.items) _ c.stays_declared-declared.ensures c.in_ok-target.ensures.opened c.in_ok-target.ensures.counted
-    c.in_ok-object.ensures.opened c.in_ok-object.ensures.counted c.in_ok-body.ensures.opened c.in_ok-push_name_before.ensures)
+    c.args.target.now c.in_ok-new.field-0.value c.args.object.now c.in_ok-new-2.field-0.value (stmts_of c.args.body.now)
+    (stmts_of c.in_ok-body.body.items) (stmts_of c.args.out.now.items) _ c.stays_declared-declared.ensures
+    (target ∙ c.in_ok-target.ensures.opened) c.in_ok-target.ensures.counted (object ∙ c.in_ok-object.ensures.opened)
+    c.in_ok-object.ensures.counted c.in_ok-body.ensures.opened c.in_ok-push_name_before.ensures)
     c.push_node.ensures
 
 pub statements::open_cases-loop-rest-preserved : goal.statements::open_cases-loop-rest-preserved

@@ -1,4 +1,4 @@
-use Rattle.std.proofs.Common.{◌≡◌, ◌++◌, ◌-◌, ◌<◌, [], Some, None, ap, append-nil, arith, length, sym, ◌∙◌, subst}
+use Rattle.std.proofs.Common.{◌≡◌, ◌++◌, ◌-◌, ◌<◌, [], ap, append-nil, arith, length, sym, ◌∙◌, subst}
 use Rattle.dom_tree.specs.Node.{AreThere, above_within}
 use Rattle.dom_tree.proofs.Enough.{above_none, line_step, there_too}
 use Rattle.dom_tree.proofs.dom.Dom.above.Goals as goal

@@ -1,7 +1,6 @@
 use Rattle.std.proofs.Common.{◌≡◌, ◌∙◌, ◌&&◌, Some, None, ap, nat_eq, not, sym, true, false}
 use Rattle.std.proofs.Math.Bool.{or-false}
 use Rattle.std.proofs.lemmas.Bool.{eq-eqb, ne_eqb}
-use Rattle.dom_tree.specs.Change.{has_third_element}
 use Rattle.dom_tree.proofs.Moves.{third_element}
 use Rattle.dom_tree.proofs.dom.Dom.has_third_element.Goals as goal
 

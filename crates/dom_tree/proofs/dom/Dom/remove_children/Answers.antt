@@ -1,4 +1,4 @@
-use Rattle.std.proofs.Common.{◌≡◌, ◌∷◌, ◌<◌, ◌∙◌, [], None, ap, arith, length, subst, sym}
+use Rattle.std.proofs.Common.{◌≡◌, ◌∷◌, ◌<◌, ◌∙◌, [], ap, arith, length, subst, sym}
 use Rattle.dom_tree.specs.Change.{all_taken_out, taken_out}
 use Rattle.dom_tree.specs.Node.{children_at, rest_after}
 use Rattle.dom_tree.proofs.Emptying.{first_out}

@@ -1,7 +1,7 @@
 use Rattle.std.proofs.Common.{◌≡◌, ◌∙◌, ap, false, nat_eq, refl, sym}
 use Rattle.std.proofs.lemmas.Bool.{ne_eqb, not-false}
-use Rattle.dom_tree.specs.Change.{breaks_hierarchy_where, taken_out}
-use Rattle.dom_tree.specs.Node.{children_at, has, next_of}
+use Rattle.dom_tree.specs.Change.{breaks_hierarchy_where}
+use Rattle.dom_tree.specs.Node.{children_at, has}
 use Rattle.dom_tree.proofs.Replacing.{IsAccepted, alone_for, fits_for}
 use Rattle.dom_tree.proofs.dom.Dom.replace_child.Goals as goal
 

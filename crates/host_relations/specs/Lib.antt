@@ -1,0 +1,17 @@
+pub mod Appends
+pub mod Attributed
+pub mod Carrying
+pub mod Compacts
+pub mod Heard
+pub mod HostLaws
+pub mod HostNames
+pub mod Hosts
+pub mod Joining
+pub mod Linked
+pub mod NodeLaws
+pub mod NodeSteps
+pub mod Nodes
+pub mod Paths
+pub mod Restart
+pub mod TimerLaws
+pub mod Timers

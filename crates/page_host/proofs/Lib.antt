@@ -1,0 +1,7 @@
+mod Made
+mod Names
+mod Plain
+mod Registered
+mod Staying
+mod Texts
+mod Times

@@ -1,0 +1,4 @@
+use Rattle.page_host.proofs.host_name.of_eleven.Goals as goal
+
+pub returns : goal.returns
+returns c = rw (c.pick.ensures, c.pick-content.ensures)

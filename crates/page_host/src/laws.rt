@@ -1,0 +1,17 @@
+//! What holds of hosts. A law is a function that says it and does nothing.
+
+ghost use Rattle.page_host.specs.Sound.{HostsStaySound, NewHostsAreSound, NewNodesStaySound};
+
+use timer_queue::law_ids_are_distinct;
+
+/// A host is sound at all times.
+pub fn law_hosts_stay_sound()
+    // A page that was read is, where its nodes are.
+    ensures beginning { NewHostsAreSound }
+    // Whatever is done to a host, it stays so.
+    ensures steps { HostsStaySound }
+    // So it does where a node is made.
+    ensures new_nodes { NewNodesStaySound }
+{
+    law_ids_are_distinct();
+}
