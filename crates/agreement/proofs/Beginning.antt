@@ -19,7 +19,7 @@ use Rattle.page_meaning.specs.Pristine.{pristine}
 use Rattle.heap_relations.specs.Naming.{here, In, named, Pair, pair, SlotsRel, there, World, Frame}
 use Rattle.heap_relations.specs.Related.{array, ClassRel, Entries, entry, fault, math, Maybe, native, no_entries, none, null, num, object, ObjectIds, ObjectRel, ObjectsRel, plain, PropRel, some, text, truth, undefined, ValueRel, window}
 use Rattle.object_shapes.proofs.Callers.{pristine_shaped}
-use Rattle.object_shapes.specs.Links.{built_in_count}
+use Rattle.page_meaning.specs.Places.{built_in_count}
 use Rattle.agreement.specs.Acts.{HasBuiltIns, IsPlaced, StoreRel}
 use Rattle.agreement.specs.Trees.{code_fits, HasEqualTrees}
 use Rattle.agreement.proofs.Unopened.{code_same}

@@ -91,8 +91,8 @@ built_rel a b n (object m) = object m
 
 -- the fresh object
 fresh_rel : {V : World} {v w : Value} → ValueRel (named V) v w
-    → ActRel Ids V (make (new_object class.Plain (Some (object_or object_prototype v))) (new_fit class.Plain (Some (object_or object_prototype v))))
-    (make (new_object class.Plain (Some (object_or object_prototype w))) (new_fit class.Plain (Some (object_or object_prototype w))))
+    → ActRel Ids V (make (new_object class.Plain (Some (object_or object_prototype v))) (new_fit class.Plain (Some (object_or object_prototype v))) refl)
+    (make (new_object class.Plain (Some (object_or object_prototype w))) (new_fit class.Plain (Some (object_or object_prototype w))) refl)
 fresh_rel {v = v} {w = w} h = on_built_ins (λ U i there.
     let p = object_or object_prototype v in
     let q = object_or object_prototype w in

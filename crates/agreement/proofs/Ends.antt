@@ -9,7 +9,8 @@ use Rattle.page_meaning.specs.Act.{Outcome}
 use Rattle.page_meaning.specs.Lines.{log_text}
 use Rattle.page_meaning.specs.Properties.{get_at}
 use Rattle.page_meaning.specs.Store.{Store, with_line}
-use Rattle.page_meaning.specs.Tasks.{error_text, finished, text_by_class, uncaught_text}
+use Rattle.page_meaning.specs.Lines.{error_text, text_by_class, uncaught_text}
+use Rattle.page_meaning.specs.Tasks.{finished}
 use Rattle.page_meaning.specs.declared.signal.Signal.{Signal}
 use Rattle.heap_relations.specs.Naming.{Larger, named, World}
 use Rattle.heap_relations.specs.Related.{ClassRel, ValueRel, array, bound, event, fault, math, native, node, null, num, object, page, plain, text, truth, undefined, window}

@@ -17,7 +17,7 @@ use Rattle.page_meaning.specs.Store.{Store}
 use Rattle.heap_relations.proofs.Callers.{each_append, each_drop, each_length, larger_more, larger_same}
 use Rattle.heap_relations.specs.Naming.{Named, named, World}
 use Rattle.heap_relations.specs.Related.{Each, ObjectRel, PropRel, ValueRel, bound, each, entry, no_entries, no_more, null, num, object, some, text, truth, undefined}
-use Rattle.object_shapes.specs.Links.{built_in_count}
+use Rattle.page_meaning.specs.Places.{built_in_count}
 use Rattle.agreement.specs.Acts.{ActRel, Agrees, CallsRel, Equal, HasBuiltIns, OutcomeRel, SignalRel, StoreRel}
 use Rattle.agreement.proofs.Acts.{asking_rel, bind_rel, choose_rel, ret_rel, then_rel}
 use Rattle.agreement.proofs.Called.{Values, calls_up, chosen_value, is_callable_same, number_same}

@@ -42,7 +42,8 @@ use Rattle.agreement.proofs.Made.{made_rel, object_place}
 use Rattle.agreement.proofs.Properties.{put_in_rel}
 use Rattle.agreement.proofs.Values.{done_rel, give_rel, object_value_rel, raise_rel, unless_rel}
 use Rattle.object_shapes.proofs.Callers as shapes
-use Rattle.object_shapes.specs.Links.{built_in_count, all_below, value_links}
+use Rattle.page_meaning.specs.Places.{built_in_count}
+use Rattle.object_shapes.specs.Links.{all_below, value_links}
 use Rattle.agreement.specs.Acts as acts
 use Rattle.agreement.specs.Acts.{ActRel, Agrees, AreKept, Ids, IsOlder, IsReady, SignalRel, StoreRel, break, continue, ended, return, scope_older, thrown, value}
 use Rattle.agreement.specs.Trees.{frame_of, free_where}

@@ -16,7 +16,8 @@ use Rattle.page_meaning.specs.Expressions.{assigned, eval}
 use Rattle.page_meaning.specs.Functions.{Declared, declare_functions, function_names, make_function}
 use Rattle.page_meaning.specs.Names.{Here, resolved, write}
 use Rattle.page_meaning.specs.Primitives.{bind_name}
-use Rattle.page_meaning.specs.Properties.{put_member, with_properties}
+use Rattle.page_meaning.specs.HostPuts.{put_member}
+use Rattle.page_meaning.specs.Properties.{with_properties}
 use Rattle.page_meaning.specs.Statements.{exec, exec_all}
 use Rattle.page_meaning.specs.Store.{Store}
 use Rattle.page_meaning.specs.declared.reference.Reference.TheVariants as reference

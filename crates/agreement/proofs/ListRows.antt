@@ -11,7 +11,7 @@ use Rattle.page_meaning.specs.Act.{Act, Calls, asking, choose, give}
 use Rattle.page_meaning.specs.Convert.{number_in, text_in}
 use Rattle.page_meaning.specs.Elements.{element, element_or, length_of}
 use Rattle.page_meaning.specs.ListRows as list
-use Rattle.page_meaning.specs.Operators.{text_limit, text_or_long}
+use Rattle.page_host.specs.HostNames.{text_limit, text_or_long}
 use Rattle.page_meaning.specs.Properties.{is_object}
 use Rattle.page_meaning.specs.Store.{Store}
 use Rattle.heap_relations.proofs.Callers.{larger_more}

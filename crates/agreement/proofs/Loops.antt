@@ -17,7 +17,7 @@ use Rattle.page_meaning.specs.declared.signal.Signal.{Signal}
 use Rattle.heap_relations.proofs.Callers.{each_append, is_some_same, larger_more}
 use Rattle.heap_relations.specs.Naming.{Larger, Named, named, World}
 use Rattle.heap_relations.specs.Related.{Each, Entries, Maybe, ObjectIds, ObjectsRel, PropRel, ValueRel, each, entry, no_entries, no_more, none, some, undefined, null, truth, num, text, object}
-use Rattle.object_shapes.specs.Links.{built_in_count}
+use Rattle.page_meaning.specs.Places.{built_in_count}
 use Rattle.agreement.specs.Acts.{Agrees, Continues, Equal, Relation, SignalRel, StoreRel, break, continue, return, thrown, value as given}
 use Rattle.agreement.proofs.Acts.{act_up, also_rel, asking_rel, bind_rel, choose_rel, ret_rel}
 use Rattle.agreement.proofs.Heap.{named_up, own_rel, stop_rel, take_step_rel, value_up}

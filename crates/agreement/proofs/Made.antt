@@ -16,7 +16,7 @@ use Rattle.heap_relations.specs.Related.{ClassRel, Entries, ObjectRel, PropRel, 
 use Rattle.agreement.proofs.Acts.{bind_rel, on_built_ins}
 use Rattle.agreement.proofs.Heap.{make_rel}
 use Rattle.agreement.proofs.Values.{give_rel, object_value_rel}
-use Rattle.object_shapes.specs.Links.{built_in_count}
+use Rattle.page_meaning.specs.Places.{built_in_count}
 use Rattle.agreement.specs.Acts.{ActRel, Agrees, HasBuiltIns, Ids}
 
 pub object_of_rel : {V : World} (a b : ObjId) → Named V a.0 b.0 → Agrees V (object_of a) (object_of b)

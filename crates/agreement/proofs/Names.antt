@@ -22,7 +22,7 @@ use Rattle.heap_relations.specs.Naming.{FoundRel, Frame, Free, In, Itself, Kept,
 use Rattle.heap_relations.specs.Related.{Maybe, ValueRel, none, some, undefined}
 use Rattle.object_heap.specs.Laws.{binds}
 use Rattle.object_shapes.proofs.Callers as shapes
-use Rattle.object_shapes.specs.Links.{built_in_count}
+use Rattle.page_meaning.specs.Places.{built_in_count}
 use Rattle.agreement.proofs.Constants.{kept_set, ready_up}
 use Rattle.agreement.proofs.Linked.{value_below}
 use Rattle.agreement.specs.Acts.{ActRel, Agrees, Continues, Equal, OutcomeRel, SignalRel, StoreRel, ended}

@@ -11,7 +11,8 @@ use Rattle.page_meaning.specs.Act.{Act, Calls}
 use Rattle.page_meaning.specs.Convert.{text_in}
 use Rattle.page_meaning.specs.Expressions.{assigned, eval, eval_args}
 use Rattle.page_meaning.specs.Names.{Here}
-use Rattle.page_meaning.specs.Properties.{delete_member, put_member, read_property}
+use Rattle.page_meaning.specs.Properties.{delete_member, read_property}
+use Rattle.page_meaning.specs.HostPuts.{put_member}
 use Rattle.heap_relations.proofs.Callers.{larger_more, larger_same}
 use Rattle.heap_relations.specs.Naming.{Frame, Larger, named, resolve, World}
 use Rattle.heap_relations.specs.Related as related

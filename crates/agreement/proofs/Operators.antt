@@ -25,7 +25,8 @@ use Rattle.whole_ops.specs.declared.fault.LooseFault.TheVariants.{NeedsPrimitive
 use Rattle.page_meaning.specs.Act.{Act, Calls, give}
 use Rattle.page_meaning.specs.Convert.{a_number, as_number, number_in, text_in, text_of}
 use Rattle.page_meaning.specs.Errors.{settle}
-use Rattle.page_meaning.specs.Operators.{as_numbers, give_type, has_instance, instance_of, is_above, is_instance_of, is_within, less_of, loosely, next_target, of_loose, on_bits, on_numbers, on_primitives, one_more, operate, operate_one, prototype_for_instances, says, stands_above, sum_of, target_of, text_or_long, type_of, type_of_object, update_with, updated_value, yes_or_no}
+use Rattle.page_meaning.specs.Operators.{as_numbers, give_type, has_instance, instance_of, is_above, is_instance_of, is_within, less_of, loosely, next_target, of_loose, on_bits, on_numbers, on_primitives, one_more, operate, operate_one, prototype_for_instances, says, stands_above, sum_of, target_of, type_of, type_of_object, update_with, updated_value, yes_or_no}
+use Rattle.page_host.specs.HostNames.{text_or_long}
 use Rattle.page_meaning.specs.Properties.{has_property, is_object}
 use Rattle.page_meaning.specs.Store.{Store}
 use Rattle.heap_relations.proofs.Callers.{larger_more}

@@ -12,12 +12,13 @@ use Rattle.object_heap.specs.declared.object.Class.{Class}
 use Rattle.page_meaning.specs.Act.{Calls}
 use Rattle.page_meaning.specs.Convert.{text_in}
 use Rattle.page_meaning.specs.Places.{at_place, boolean_prototype_place, number_prototype_place, string_prototype_place}
-use Rattle.page_meaning.specs.Properties.{class_of, define_member, delete_member, get_at, get_index, get_member, has_property, inherited, is_function, is_length_of, is_object, key_of, own_of_text, property_of, put_in, put_member, read_property, stored, unit_at, with_properties}
+use Rattle.page_meaning.specs.Properties.{class_of, define_member, delete_member, get_at, get_index, get_member, has_property, inherited, is_function, is_length_of, is_object, key_of, own_of_text, property_of, put_in, read_property, stored, unit_at, with_properties}
+use Rattle.page_meaning.specs.HostPuts.{put_member}
 use Rattle.page_meaning.specs.Store.{Store}
 use Rattle.heap_relations.proofs.Callers.{is_some_same, larger_more, list_same}
 use Rattle.heap_relations.specs.Naming.{Named, named, World}
 use Rattle.heap_relations.specs.Related.{ChangeRel, ClassRel, Maybe, ValueRel, undefined, null, truth, num, text, object, none, some, plain, array, page, native, bound, fault, math, window, node, event}
-use Rattle.object_shapes.specs.Links.{built_in_count}
+use Rattle.page_meaning.specs.Places.{built_in_count}
 use Rattle.agreement.specs.Acts.{Agrees, Equal, StoreRel}
 use Rattle.agreement.proofs.Acts.{also_rel, asking_rel, choose_rel}
 use Rattle.agreement.proofs.Heap.{class_rel, define_at_rel, delete_at_rel, get_rel, get_property_rel, named_up, put_at_rel, value_up}

@@ -14,7 +14,8 @@ use Rattle.object_heap.specs.Object.{is_list}
 use Rattle.page_meaning.specs.Act.{Act, Calls, Ended, also, bind, give, on_value, then_on}
 use Rattle.page_meaning.specs.Expressions.{eval}
 use Rattle.page_meaning.specs.Names.{Here, held, read, resolve as resolve_here, resolved, write}
-use Rattle.page_meaning.specs.Properties.{get_member, put_member}
+use Rattle.page_meaning.specs.Properties.{get_member}
+use Rattle.page_meaning.specs.HostPuts.{put_member}
 use Rattle.page_meaning.specs.Store.{Store, with_heap}
 use Rattle.page_meaning.specs.declared.reference.Reference.{Reference}
 use Rattle.page_meaning.specs.declared.reference.Reference.TheVariants.{Environment}

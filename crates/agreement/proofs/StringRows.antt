@@ -9,7 +9,7 @@ use Rattle.js_values.specs.declared.value.Value.{Value}
 use Rattle.js_values.specs.declared.value.Value.TheVariants as value
 use Rattle.whole_ops.specs.WhiteSpace.{trimmed}
 use Rattle.page_meaning.specs.Act.{Act, Calls, give}
-use Rattle.page_meaning.specs.Operators.{text_limit, text_or_long}
+use Rattle.page_host.specs.HostNames.{text_limit, text_or_long}
 use Rattle.page_meaning.specs.StringRows.{between, char_at, char_code_at, end_of, first_place, from_either_end, from_units, give_text, index_of, join, joined_to, last_index_of, last_place, last_start, list_of_parts, lower_case, on_text, part_limit, parts_of, place_number, slice, sliced, split, split_by, substring, substring_of, text_from, to_integer, to_uint16, trim, unit_of, upper_case, within}
 use Rattle.heap_relations.specs.Naming.{named, World}
 use Rattle.heap_relations.specs.Related.{Each, ValueRel, undefined, null, truth, num, text, object, each, no_more}

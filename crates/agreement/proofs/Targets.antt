@@ -12,7 +12,8 @@ use Rattle.page_meaning.specs.Act.{Act, Calls, also, give, on_value, then_on}
 use Rattle.page_meaning.specs.Expressions.{assign_to, assigned, eval, eval_args, eval_each}
 use Rattle.page_meaning.specs.Names.{Here, assign_name, read, type_of_reference, write}
 use Rattle.page_meaning.specs.Operators.{give_type, operate, operate_one, update_with}
-use Rattle.page_meaning.specs.Properties.{put_member, with_properties}
+use Rattle.page_meaning.specs.HostPuts.{put_member}
+use Rattle.page_meaning.specs.Properties.{with_properties}
 use Rattle.page_meaning.specs.declared.reference.Reference.{Reference}
 use Rattle.page_meaning.specs.declared.reference.Reference.TheVariants.{Environment}
 use Rattle.heap_relations.proofs.Callers.{larger_more, larger_same}

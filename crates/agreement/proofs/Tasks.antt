@@ -26,7 +26,7 @@ use Rattle.page_meaning.specs.Tasks.{Name, Script, after_task, depth_limit, run_
 use Rattle.heap_relations.proofs.Callers.{larger_more, larger_same}
 use Rattle.heap_relations.specs.Naming.{Larger, World, outermost, Itself}
 use Rattle.heap_relations.specs.Related.{no_more, undefined}
-use Rattle.object_shapes.specs.Links.{built_in_count}
+use Rattle.page_meaning.specs.Places.{built_in_count}
 use Rattle.agreement.specs.Acts as acts
 use Rattle.agreement.specs.Acts.{AddedRel, Agrees, HasBuiltIns, StoreRel}
 use Rattle.agreement.specs.Laws.{EventsAgree}

@@ -83,10 +83,10 @@ truth_itself_rel (object n) = raise_rel WrongArgument
 -- ---- errors
 
 abbrev silent : ErrorKind → Act
-silent k = bind (make (silent_error k) (silent_fit k)) object_of
+silent k = bind (make (silent_error k) (silent_fit k) refl) object_of
 
 abbrev saying : ErrorKind → List ℕ → Act
-saying k t = bind (make (error_saying k t) (saying_fit k t)) object_of
+saying k t = bind (make (error_saying k t) (saying_fit k t) refl) object_of
 
 silent_rel : {V : World} (k : ErrorKind) → Agrees V (silent k) (silent k)
 silent_rel k = made_rel (on_built_ins (λ U i there. make_rel (silent_error k) (silent_error k) (silent_fit k) (silent_fit k)

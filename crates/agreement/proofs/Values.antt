@@ -18,7 +18,7 @@ use Rattle.page_meaning.specs.Errors.{code_props, error_fit, error_object, on_re
 use Rattle.page_meaning.specs.Places.{error_prototype, error_prototype_place, range_error_prototype_place, reference_error_prototype_place, type_error_prototype_place}
 use Rattle.heap_relations.specs.Naming.{Larger, Named, named, World}
 use Rattle.heap_relations.specs.Related.{Entries, ObjectRel, PropRel, ValueRel, undefined, null, truth, num, text, object, entry, fault, no_entries, some}
-use Rattle.object_shapes.specs.Links.{built_in_count}
+use Rattle.page_meaning.specs.Places.{built_in_count}
 use Rattle.agreement.specs.Acts.{ActRel, Agrees, Equal, HasBuiltIns, thrown, value as given}
 use Rattle.agreement.proofs.Acts.{bind_rel, ret_rel, also_rel, on_built_ins}
 use Rattle.agreement.proofs.Heap.{make_rel, named_up, value_up}

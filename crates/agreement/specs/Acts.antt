@@ -16,7 +16,8 @@ use Rattle.page_meaning.specs.declared.signal.Signal.{Signal}
 use Rattle.page_meaning.specs.declared.signal.Signal.TheVariants as signal
 use Rattle.heap_relations.specs.Naming.{Agree, Base, Before, Constant, env_id, In, Larger, Named, named, Sealed, Slot, World}
 use Rattle.heap_relations.specs.Related.{Each, ValueRel}
-use Rattle.object_shapes.specs.Links.{all_below, built_in_count, value_links}
+use Rattle.object_shapes.specs.Links.{all_below, value_links}
+use Rattle.page_meaning.specs.Places.{built_in_count}
 use Rattle.object_shapes.specs.Shapes.{IsShaped}
 
 -- what is built in stands at the same places

@@ -98,7 +98,7 @@ lists_none v x (inr e) = rw e refl
 
 -- an error that is given a message
 pub with_message : (k : ErrorKind) (v : Value) (s t : Store) (r : Result ObjId (Failure Value)) → (v ≡ Undefined → ⊥)
-    → Gives Object (λ calls. also (to_text calls v) (λ x. bind (make (error_saying k (text_in x)) (saying_fit k (text_in x))) object_of)) s t r → Gives Object (λ calls. error_from calls k v) s t r
+    → Gives Object (λ calls. also (to_text calls v) (λ x. bind (make (error_saying k (text_in x)) (saying_fit k (text_in x)) refl) object_of)) s t r → Gives Object (λ calls. error_from calls k v) s t r
 with_message k Undefined s t r h g = absurd (h refl)
 with_message k Null s t r h g = g
 with_message k (Truth b) s t r h g = g

@@ -1,6 +1,6 @@
 //! Definitions of properties by built-in functions (ECMA-262 5.1 sections 8.12.9, 15.4.5.1 and 15.2.3).
 
-ghost use Rattle.std.specs.Prelude.{◌≡◌, Some};
+ghost use Rattle.std.specs.Prelude.{◌≡◌, Ok};
 ghost use Rattle.js_values.specs.declared.value.Value.TheVariants.{Num, Object};
 ghost use Rattle.object_heap.specs.Define.{length_name};
 ghost use Rattle.page_meaning.specs.Act.{also, asking};
@@ -12,7 +12,7 @@ ghost use Rattle.page_state.specs.Does.{Gives, no_value};
 
 use crate::descriptors::change_in;
 use js_core::{Units, Whole};
-use js_values::{ObjId, Throw, Value};
+use js_values::{ObjId, Value};
 use object_heap::Change;
 use page_state::{Fault, State, number_of};
 
@@ -91,7 +91,7 @@ pub fn define_in(state: &mut State, at: ObjId, name: &Units, change: &Change) ->
 
 // Defines the property, and gives the object.
 fn defined(state: &mut State, at: ObjId, name: &Units, change: &Change) -> Result<ObjId, Fault>
-    ensures { Gives Object (λ _. rows.define_as at name.now (Some change.now)) state.old state.new
+    ensures { Gives Object (λ _. rows.define_as at name.now (Ok change.now)) state.old state.new
         result }
 {
     define_in(state, at, name, change)?;
@@ -109,7 +109,7 @@ pub fn define_by(
         (rows.define_as at name.now)) state.old state.new result }
 {
     match change_in(state, descriptor)? {
-        Some(change) => defined(state, at, name, &change),
-        None => Err(state.raise(Throw::WrongArgument)),
+        Ok(change) => defined(state, at, name, &change),
+        Err(what) => Err(state.raise(what)),
     }
 }

@@ -1,22 +1,25 @@
 //! Property descriptors as objects (ECMA-262 5.1 section 8.10).
 
-ghost use Rattle.std.specs.Prelude.{◌≡◌, IfOk};
+ghost use Rattle.std.specs.Prelude.{◌≡◌, IfOk, Ok, codes, refl};
+ghost use Rattle.page_host.specs.declared.host_name.HostName.TheVariants.{Value as HasValue};
+ghost use Rattle.page_meaning.specs.Reading.{seen_at};
 ghost use Rattle.js_values.specs.declared.value.Value.TheVariants.{Object};
 ghost use Rattle.page_meaning.specs.Descriptors as spec;
 ghost use Rattle.page_meaning.specs.Primitives.{make};
 ghost use Rattle.page_state.specs.Does.{Does};
 
 use js_core::{OutOfMemory, Units, ascii_text};
-use js_values::{ObjId, Value};
+use js_values::{ObjId, Throw, Value};
 use object_heap::{Change, Class, Prop, Properties};
-use page_state::{OBJECT_PROTOTYPE, State};
+use page_host::HostName;
+use page_state::{OBJECT_PROTOTYPE, Sight, State};
 use std::alloc::Global;
 use whole_ops::is_true;
 
 /// A new descriptor of a property (section 8.10.4).
 pub fn new_descriptor(state: &mut State, prop: &Prop) -> Result<ObjId, OutOfMemory>
     ensures { IfOk result (λ at. Does (λ _. make (spec.descriptor_object prop.now)
-        (spec.descriptor_fit prop.now)) state.old at state.new) }
+        (spec.descriptor_fit prop.now) refl) state.old at state.new) }
 {
     let props = descriptor_props(state.alloc(), prop)?;
     state.make(Class::Plain, Some(OBJECT_PROTOTYPE), props)
@@ -56,26 +59,62 @@ fn open_property(value: Value) -> Prop
     }
 }
 
-/// What a value asks for as a descriptor, or `None` exactly where it is none: it is no object, or asks for an accessor
-/// (section 8.10.5).
-pub fn change_in(state: &State, value: &Value) -> Result<Option<Change>, OutOfMemory>
+/// What a value asks for as a descriptor, or why it is none: it is no object, or asks for an accessor (section 8.10.5); or its `value` is
+/// a host name whose text is too long, which is found first.
+pub fn change_in(
+    state: &State,
+    value: &Value,
+) -> Result<Result<Change, Throw>, OutOfMemory>
     ensures { IfOk result (λ change. change ≡ spec.change_in state.now value.now) }
 {
     match value {
         Value::Object(at) => change_at(state, *at),
         Value::Undefined | Value::Null | Value::Bool(_) | Value::Num(_) | Value::Text(_) => Ok(
-            None,
+            Err(Throw::WrongArgument),
         ),
     }
 }
 
-fn change_at(state: &State, at: ObjId) -> Result<Option<Change>, OutOfMemory>
+fn change_at(state: &State, at: ObjId) -> Result<Result<Change, Throw>, OutOfMemory>
     ensures { IfOk result (λ change. change ≡ spec.change_in state.now (Object at)) }
 {
+    match value_field(state, at)? {
+        Ok(value) => change_with(state, at, value),
+        Err(what) => Ok(Err(what)),
+    }
+}
+
+// The descriptor with this value.
+fn change_with(
+    state: &State,
+    at: ObjId,
+    value: Option<Value>,
+) -> Result<Result<Change, Throw>, OutOfMemory>
+    ensures { IfOk result (λ change. change ≡ spec.change_with state.now at (Ok value)) }
+{
     if has_accessor(state, at)? {
-        Ok(None)
+        Ok(Err(Throw::WrongArgument))
     } else {
-        Ok(Some(change_of(state, at)?))
+        Ok(Ok(change_of(state, at, value)?))
+    }
+}
+
+// The field `value`, which may be a host name.
+fn value_field(
+    state: &State,
+    at: ObjId,
+) -> Result<Result<Option<Value>, Throw>, OutOfMemory>
+    ensures { IfOk result (λ v. v ≡ spec.value_field state.now at HasValue
+        (seen_at state.now at (codes "value") HasValue)) }
+{
+    let name = ascii_text(state.alloc(), b"value")?;
+    match state.sight(at, &name, HostName::Value) {
+        Sight::Nothing => Ok(Ok(None)),
+        Sight::Held => Ok(Ok(Some(state.get_at(at, &name)?))),
+        Sight::Hosted(host) => match state.host_read(host, HostName::Value)? {
+            Ok(value) => Ok(Ok(Some(value))),
+            Err(what) => Ok(Err(what)),
+        },
     }
 }
 
@@ -87,10 +126,9 @@ fn has_accessor(state: &State, at: ObjId) -> Result<bool, OutOfMemory>
     Ok(state.has_property(at, &get) || state.has_property(at, &set))
 }
 
-fn change_of(state: &State, at: ObjId) -> Result<Change, OutOfMemory>
-    ensures { IfOk result (λ change. change ≡ spec.change_of state.now at) }
+fn change_of(state: &State, at: ObjId, value: Option<Value>) -> Result<Change, OutOfMemory>
+    ensures { IfOk result (λ change. change ≡ spec.change_of state.now at value) }
 {
-    let value = field(state, at, b"value")?;
     let writable = flag(state, at, b"writable")?;
     let enumerable = flag(state, at, b"enumerable")?;
     let configurable = flag(state, at, b"configurable")?;
@@ -100,16 +138,6 @@ fn change_of(state: &State, at: ObjId) -> Result<Change, OutOfMemory>
         enumerable,
         configurable,
     })
-}
-
-fn field(state: &State, at: ObjId, name: &[u8]) -> Result<Option<Value>, OutOfMemory>
-    ensures { IfOk result (λ v. v ≡ spec.field_of state.now at name.now) }
-{
-    let name = ascii_text(state.alloc(), name)?;
-    match state.get(at, &name) {
-        Some(value) => Ok(Some(value.clone()?)),
-        None => Ok(None),
-    }
 }
 
 fn flag(state: &State, at: ObjId, name: &[u8]) -> Result<Option<bool>, OutOfMemory>

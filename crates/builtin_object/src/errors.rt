@@ -1,6 +1,6 @@
 //! Errors that a script makes (ECMA-262 5.1 sections 15.11.1 and 15.11.2).
 
-ghost use Rattle.std.specs.Prelude.{◌≡◌, ◌∷◌, [], IfOk, codes};
+ghost use Rattle.std.specs.Prelude.{◌≡◌, ◌∷◌, [], IfOk, codes, refl};
 ghost use Rattle.js_values.specs.declared.value.Value.TheVariants.{Object, Text as Words};
 ghost use Rattle.object_heap.specs.Property.{hidden};
 ghost use Rattle.page_meaning.specs.Act.{also, bind};
@@ -18,8 +18,8 @@ use std::alloc::Global;
 
 // A new error without a message of its own.
 fn make_silent(state: &mut State, kind: ErrorKind) -> Result<ObjId, OutOfMemory>
-    ensures { IfOk result (λ at. Does (λ _. make (spec.silent_error kind) (spec.silent_fit kind))
-        state.old at state.new) }
+    ensures { IfOk result (λ at. Does (λ _. make (spec.silent_error kind)
+        (spec.silent_fit kind) refl) state.old at state.new) }
 {
     let props = Properties::new(state.alloc());
     state.make(Class::Fault, Some(error_prototype(kind)), props)
@@ -28,7 +28,7 @@ fn make_silent(state: &mut State, kind: ErrorKind) -> Result<ObjId, OutOfMemory>
 // A new error that says this.
 fn make_saying(state: &mut State, kind: ErrorKind, message: Units) -> Result<ObjId, OutOfMemory>
     ensures { IfOk result (λ at. Does (λ _. make (spec.error_saying kind message)
-        (spec.saying_fit kind message)) state.old at state.new) }
+        (spec.saying_fit kind message) refl) state.old at state.new) }
 {
     let props = message_props(state.alloc(), message)?;
     state.make(Class::Fault, Some(error_prototype(kind)), props)
@@ -44,7 +44,7 @@ fn message_props(alloc: Global, message: Units) -> Result<Properties, OutOfMemor
 }
 
 fn silent_error(state: &mut State, kind: ErrorKind) -> Result<ObjId, Fault>
-    ensures { Gives Object (λ _. bind (make (spec.silent_error kind) (spec.silent_fit kind))
+    ensures { Gives Object (λ _. bind (make (spec.silent_error kind) (spec.silent_fit kind) refl)
         object_of) state.old state.new result }
 {
     Ok(make_silent(state, kind)?)
@@ -52,7 +52,7 @@ fn silent_error(state: &mut State, kind: ErrorKind) -> Result<ObjId, Fault>
 
 fn error_saying(state: &mut State, kind: ErrorKind, message: Units) -> Result<ObjId, Fault>
     ensures { Gives Object (λ _. bind (make (spec.error_saying kind message)
-        (spec.saying_fit kind message)) object_of) state.old state.new result }
+        (spec.saying_fit kind message) refl) object_of) state.old state.new result }
 {
     Ok(make_saying(state, kind, message)?)
 }
@@ -60,7 +60,8 @@ fn error_saying(state: &mut State, kind: ErrorKind, message: Units) -> Result<Ob
 // A new error whose message is the text of the value.
 fn error_about(state: &mut State, kind: ErrorKind, value: &Value) -> Result<ObjId, Fault>
     ensures { Gives Object (λ calls. also (to_text calls value.now)
-        (λ t. bind (make (spec.error_saying kind (text_in t)) (spec.saying_fit kind (text_in t)))
+        (λ t. bind (make (spec.error_saying kind (text_in t))
+        (spec.saying_fit kind (text_in t)) refl)
         object_of)) state.old state.new result }
 {
     let message = state.to_text(value)?;

@@ -177,8 +177,8 @@ fn define_all(state: &mut State, from: ObjId, at: ObjId) -> Result<(), Fault>
         (spec.define_given at)) state.old state.new result }
 {
     match all_changes(state, from)? {
-        Some(changes) => define_each(state, at, changes.as_slice()),
-        None => Err(state.raise(Throw::WrongArgument)),
+        Ok(changes) => define_each(state, at, changes.as_slice()),
+        Err(what) => Err(state.raise(what)),
     }
 }
 

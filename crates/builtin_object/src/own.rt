@@ -2,7 +2,7 @@
 
 ghost use Rattle.std.specs.Prelude.{◌≡◌, ◌++◌, IfOk, OnOk, slice_get};
 ghost use Rattle.std.specs.List.{list_all};
-ghost use Rattle.std.specs.Option.{option_map};
+ghost use Rattle.std.specs.Result.{result_map_both};
 ghost use Rattle.page_meaning.specs.ObjectRows as spec;
 ghost use Rattle.page_meaning.specs.Descriptors.{change_in as spec_change};
 ghost use Rattle.page_meaning.specs.Properties.{get_at};
@@ -10,7 +10,7 @@ ghost use Rattle.builtin_object.specs.Own.{enumerable_name, fast_or_none, is_fas
 
 use crate::descriptors::change_in;
 use js_core::{OutOfMemory, Units};
-use js_values::ObjId;
+use js_values::{ObjId, Throw};
 use object_heap::{Change, Prop};
 use page_state::State;
 
@@ -75,9 +75,12 @@ fn is_fast(prop: &Prop, frozen: bool) -> bool
     !prop.configurable && !(frozen && prop.writable)
 }
 
-/// What the enumerable properties of an object ask for as descriptors, or `None` exactly where one of them is none.
-pub fn all_changes(state: &State, from: ObjId) -> Result<Option<Vec<(Units, Change)>>, OutOfMemory>
-    ensures { IfOk result (λ changes. option_map (λ c. c.items) changes
+/// What the enumerable properties of an object ask for as descriptors, or why the first that is none is none.
+pub fn all_changes(
+    state: &State,
+    from: ObjId,
+) -> Result<Result<Vec<(Units, Change)>, Throw>, OutOfMemory>
+    ensures { IfOk result (λ changes. result_map_both (λ c. c.items) (λ t. t) changes
         ≡ spec.all_changes state.now from) }
 {
     let names = enumerable_names(state, from)?;
@@ -88,27 +91,31 @@ fn changes_in(
     state: &State,
     from: ObjId,
     names: &[Units],
-) -> Result<Option<Vec<(Units, Change)>>, OutOfMemory>
-    ensures { IfOk result (λ changes. option_map (λ c. c.items) changes
+) -> Result<Result<Vec<(Units, Change)>, Throw>, OutOfMemory>
+    ensures { IfOk result (λ changes. result_map_both (λ c. c.items) (λ t. t) changes
         ≡ spec.changes_in state.now from names.now) }
 {
     let mut changes = Vec::new(state.alloc());
     for name in names {
         match change_named(state, from, name)? {
-            Some(change) => changes.push((name.clone()?, change))?,
-            None => return Ok(None),
+            Ok(change) => changes.push((name.clone()?, change))?,
+            Err(what) => return Ok(Err(what)),
         }
     }
-    Ok(Some(changes))
+    Ok(Ok(changes))
 }
 
 // What a property of an object asks for as a descriptor.
-fn change_named(state: &State, from: ObjId, name: &Units) -> Result<Option<Change>, OutOfMemory>
+fn change_named(
+    state: &State,
+    from: ObjId,
+    name: &Units,
+) -> Result<Result<Change, Throw>, OutOfMemory>
     ensures { IfOk result (λ change. change ≡ spec_change state.now
         (get_at state.now from name.now)) }
 {
     match state.get(from, name) {
         Some(value) => change_in(state, value),
-        None => Ok(None),
+        None => Ok(Err(Throw::WrongArgument)),
     }
 }

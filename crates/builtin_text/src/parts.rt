@@ -6,7 +6,7 @@ ghost use Rattle.js_values.specs.declared.value.Value.TheVariants.{Object};
 ghost use Rattle.page_meaning.specs.Act.{also};
 ghost use Rattle.page_meaning.specs.Convert.{text_in, to_text};
 ghost use Rattle.page_meaning.specs.ObjectRows.{new_texts as spec_texts};
-ghost use Rattle.page_meaning.specs.Operators.{text_limit};
+ghost use Rattle.page_host.specs.HostNames.{text_limit};
 ghost use Rattle.page_meaning.specs.StringRows as spec;
 ghost use Rattle.page_state.specs.Does.{Gives, itself};
 

@@ -2,7 +2,7 @@
 
 ghost use Rattle.std.specs.Prelude.{◌≡◌, ◌++◌, ◌∷◌, [], IfOk, OnOk, false, nat_le, length};
 ghost use Rattle.page_meaning.specs.Convert.{to_text};
-ghost use Rattle.page_meaning.specs.Operators.{text_limit};
+ghost use Rattle.page_host.specs.HostNames.{text_limit};
 ghost use Rattle.page_meaning.specs.StringRows as spec;
 ghost use Rattle.page_state.specs.Does.{Gives, itself};
 ghost use Rattle.builtin_text.specs.Texts.{for_text};
@@ -14,7 +14,7 @@ use page_state::{Fault, State, are_short};
 use std::alloc::Global;
 
 /// Whether a text may have so many units.
-#[tactic(auto, unfolding(page_meaning::specs::Operators::text_limit))]
+#[tactic(auto, unfolding(page_host::specs::HostNames::text_limit))]
 pub fn is_short(units: &[u16]) -> bool
     ensures { result ≡ nat_le (length units.now) text_limit }
 {

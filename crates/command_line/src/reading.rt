@@ -11,7 +11,7 @@ ghost use Rattle.command_line.specs.Replay.{IsEventFile};
 ghost use Rattle.command_line.specs.Stages.{Of};
 
 use crate::status::Status;
-use event_file::{EventFault, NotEvents, calls};
+use event_file::{EventFault, NotEvents, events};
 use js_core::{EVENT_FILE_LIMIT, OutOfMemory, PAGE_LIMIT, Units};
 use js_values::{Event, NodeId};
 use opened_pages::{law_opened_pages_are_accepted, law_opened_pages_put_out_the_same, open_page};
@@ -177,7 +177,7 @@ pub fn read_opened<F: Files>(alloc: Global, files: &mut F, name: &str) -> Result
     open_bytes(alloc, &bytes)
 }
 
-/// Reads an event file of calls: an item of another kind is no event, since there is nothing yet for it to act on.
+/// Reads an event file.
 pub fn read_events<F: Files>(alloc: Global, files: &mut F, name: &str) -> Result<Vec<Event>, Status>
     ensures ok { IfOk result (λ list. Of ((F.seen files.old).content name.now)
         (λ file. IsEventFile file list.items)) }
@@ -192,7 +192,7 @@ pub fn read_events<F: Files>(alloc: Global, files: &mut F, name: &str) -> Result
         Err(ReadFault::TooLong) => return Err(Status::EventsRefused(0)),
         Err(ReadFault::OutOfMemory) => return Err(Status::OutOfMemory),
     };
-    match calls(alloc, &bytes) {
+    match events(alloc, &bytes) {
         Ok(list) => Ok(list),
         Err(EventFault::Cause(NotEvents(number))) => Err(Status::EventsRefused(number)),
         Err(EventFault::OutOfMemory) => Err(Status::OutOfMemory),

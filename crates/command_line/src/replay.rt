@@ -8,7 +8,7 @@ ghost use Rattle.command_line.specs.Command as command;
 ghost use Rattle.command_line.specs.Stages.{seen_between, work_of, EndsAt, Lasts};
 ghost use Rattle.command_line.specs.Texts.{PutsText};
 
-use crate::reading::{read_bare, read_events};
+use crate::reading::{read_events, read_page};
 use crate::status::Status;
 use js_core::OutOfMemory;
 use js_values::{Event, Line};
@@ -64,7 +64,7 @@ pub fn replay<F: Files, O: Sink>(
     ensures lasts { Lasts
         (seen_between (F.seen files.old) (F.seen files.new) (O.seen out.old) (O.seen out.new)) }
 {
-    let page = match read_bare(alloc, files, page) {
+    let page = match read_page(alloc, files, page) {
         Ok(page) => page,
         Err(status) => return status,
     };

@@ -11,8 +11,9 @@ use Rattle.page_meaning.specs.Places.{window}
 use Rattle.page_meaning.specs.Store.{Store}
 use Rattle.heap_walker.specs.Still.{Still, made_links}
 use Rattle.heap_walker.specs.Things.{IsWalk, class_links, is_in, link, links, root, roots}
-use Rattle.object_shapes.specs.Links.{built_in_count, is_thing, props_links, proto_links, value_links}
-use Rattle.object_shapes.specs.Shapes.{built_in_globals}
+use Rattle.page_meaning.specs.Places.{built_in_count}
+use Rattle.object_shapes.specs.Links.{is_thing, props_links, proto_links, value_links}
+use Rattle.page_meaning.specs.Pristine.{built_in_globals}
 use Rattle.heap_walker.proofs.Bindings.{links_there, made_below}
 
 -- what holds of all holds of each

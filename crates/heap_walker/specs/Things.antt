@@ -15,7 +15,7 @@ use Rattle.object_heap.specs.Property.{Props}
 use Rattle.object_heap.specs.declared.object.Class.{Class}
 use Rattle.object_heap.specs.declared.object.Class.TheVariants.{Bound, Page}
 use Rattle.object_shapes.specs.Links.{is_thing, props_links, proto_links, value_links, values_links}
-use Rattle.object_shapes.specs.Shapes.{built_in_globals}
+use Rattle.page_meaning.specs.Pristine.{built_in_globals}
 use Rattle.page_meaning.specs.Places.{window}
 use Rattle.page_meaning.specs.Store.{Store}
 use Rattle.scope_analysis.specs.Needs.{needed_variables}

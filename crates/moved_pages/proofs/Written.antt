@@ -28,7 +28,8 @@ use Rattle.object_heap.specs.Property.{Props, own_property}
 use Rattle.object_heap.specs.declared.object.Class.{Class}
 use Rattle.object_heap.specs.declared.object.Class.TheVariants as class
 use Rattle.object_heap.specs.declared.property.Prop.{Prop}
-use Rattle.object_shapes.specs.Links.{all_below, built_in_count, proto_links, value_links, values_links}
+use Rattle.object_shapes.specs.Links.{all_below, proto_links, value_links, values_links}
+use Rattle.page_meaning.specs.Places.{built_in_count}
 use Rattle.page_meaning.specs.Places.{window}
 use Rattle.page_meaning.specs.Store.{Store}
 use Rattle.page_rest.specs.Laws.{HasSyntax}

@@ -77,7 +77,7 @@ created change = record {
   configurable = asks change.configurable;
 }
 
--- a property is not to be changed so (section 8.12.9 steps 7 and 10)
+-- a property may be changed so (section 8.12.9 steps 7 and 10)
 abbrev pub may_update : Prop → Change → Bool
 may_update p change =
     p.configurable

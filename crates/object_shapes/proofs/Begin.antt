@@ -6,7 +6,8 @@ use Rattle.object_heap.specs.Object.{Object}
 use Rattle.page_meaning.specs.Places.{array_prototype_place, boolean_prototype_place, console_place, error_prototype_place, function_place, math_place, number_prototype_place, range_error_prototype_place, reference_error_prototype_place, string_prototype_place, type_error_prototype_place}
 use Rattle.page_meaning.specs.Pristine.{pristine}
 use Rattle.object_shapes.specs.Laws.{PagesBeginShaped}
-use Rattle.object_shapes.specs.Links.{all_below, built_in_count, is_thing, object_links}
+use Rattle.object_shapes.specs.Links.{all_below, is_thing, object_links}
+use Rattle.page_meaning.specs.Places.{built_in_count}
 use Rattle.object_shapes.proofs.Held.{thing_is}
 
 abbrev are_within : ℕ → List Object → Bool

@@ -21,7 +21,8 @@ use Rattle.page_meaning.specs.Places.{window}
 use Rattle.page_meaning.specs.Pristine.{pristine}
 use Rattle.page_meaning.specs.Properties.{class_at, is_function}
 use Rattle.page_meaning.specs.Store.{Store}
-use Rattle.object_shapes.specs.Links.{all_below, bound_links, built_in_count, is_thing, made_links, object_links}
+use Rattle.object_shapes.specs.Links.{all_below, bound_links, is_thing, made_links, object_links}
+use Rattle.page_meaning.specs.Places.{built_in_count}
 use Rattle.object_shapes.specs.Shapes.{HasFunctionProps, HasLength, HasShape, IsShaped, IsWindow, built_in_at, made_property}
 use Rattle.object_shapes.proofs.Edits.{HasFixedLength}
 use Rattle.object_shapes.proofs.Lists.{all_more}

@@ -16,7 +16,8 @@ use Rattle.page_meaning.specs.Functions.{function_object, function_steps, protot
 use Rattle.page_meaning.specs.Places.{at_place}
 use Rattle.page_meaning.specs.Store.{Store, with_heap}
 use Rattle.object_shapes.specs.Laws.{FunctionsStay, IsNew}
-use Rattle.object_shapes.specs.Links.{all_below, built_in_count, made_links, object_links, parts_links, props_links, proto_links, value_links, values_links}
+use Rattle.object_shapes.specs.Links.{all_below, made_links, object_links, parts_links, props_links, proto_links, value_links, values_links}
+use Rattle.page_meaning.specs.Places.{built_in_count}
 use Rattle.object_shapes.specs.Shapes.{HasShape, IsShaped}
 use Rattle.object_shapes.proofs.Held.{IsHeld, held_more, held_of, shaped_of}
 use Rattle.object_shapes.proofs.Lists.{all_back, all_front, all_more}

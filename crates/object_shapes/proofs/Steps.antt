@@ -13,7 +13,8 @@ use Rattle.page_meaning.specs.Places.{window}
 use Rattle.page_meaning.specs.Pristine.{pristine}
 use Rattle.page_meaning.specs.Properties.{is_function}
 use Rattle.page_meaning.specs.Store.{Store, with_heap}
-use Rattle.object_shapes.specs.Links.{all_below, bound_links, built_in_count, is_thing, made_links, object_links, parts_links, props_links, proto_links}
+use Rattle.object_shapes.specs.Links.{all_below, bound_links, is_thing, made_links, object_links, parts_links, props_links, proto_links}
+use Rattle.page_meaning.specs.Places.{built_in_count}
 use Rattle.object_shapes.specs.Shapes.{HasShape, IsWindow, built_in_at}
 use Rattle.object_shapes.proofs.Changed.{Kept}
 use Rattle.object_shapes.proofs.Held.{FunctionKept, IsHeld, SameFunctions, function_there, is_thing_from, props_same, same_functions, shape_kept, thing_is}

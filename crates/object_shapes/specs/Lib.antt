@@ -1,3 +1,4 @@
+pub mod Hosted
 pub mod Laws
 pub mod Links
 pub mod Shapes

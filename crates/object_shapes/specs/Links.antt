@@ -1,5 +1,5 @@
 -- Which objects scripts made, and what objects refer to.
-use Rattle.std.specs.Prelude.{ℕ, Bool, List, [], ◌∷◌, ◌++◌, Option, Some, None, ◌&&◌, nat_le, nat_lt, length}
+use Rattle.std.specs.Prelude.{ℕ, Bool, List, [], ◌∷◌, ◌++◌, Option, Some, None, ◌&&◌, nat_lt, length}
 use Rattle.std.specs.List.{list_all}
 use Rattle.js_values.specs.declared.ids.ObjId.{ObjId}
 use Rattle.js_values.specs.declared.value.Value.{Value}
@@ -8,16 +8,13 @@ use Rattle.object_heap.specs.Environment.{Bound}
 use Rattle.object_heap.specs.Object.{Object}
 use Rattle.object_heap.specs.Property.{Props}
 use Rattle.object_heap.specs.declared.object.Class.{Class}
-use Rattle.object_heap.specs.declared.object.Class.TheVariants.{Bound as BoundFunction}
+use Rattle.object_heap.specs.declared.object.Class.TheVariants.{Bound as BoundFunction, Event}
+use Rattle.page_meaning.specs.Places.{built_in_count}
 use Rattle.page_meaning.specs.Store.{Store}
 
--- how many objects a page begins with, the global object among them
-unfoldable pub built_in_count : ℕ
-built_in_count = 93
-
--- a thing is an object that scripts made: it is there, and younger than the built-in ones
+-- a thing is an object that is neither built in nor the document's: it is there, and younger
 abbrev pub is_thing : Store → ℕ → Bool
-is_thing s k = nat_le built_in_count k && nat_lt k (length s.heap.objects)
+is_thing s k = nat_lt built_in_count k && nat_lt k (length s.heap.objects)
 
 -- each of these is below the place
 abbrev pub all_below : ℕ → List ℕ → Bool
@@ -52,5 +49,10 @@ parts_links c = []
 abbrev pub made_links : Object → List ℕ
 made_links o = proto_links o.proto ++ parts_links o.class
 
+-- an event refers to its target, and while it is under dispatch to the object that it is at; both may be younger
+abbrev pub event_links : Class → List ℕ
+event_links (Event parts) = proto_links parts.target ++ proto_links parts.current
+event_links c = []
+
 abbrev pub object_links : Object → List ℕ
-object_links o = made_links o ++ props_links o.props
+object_links o = made_links o ++ (event_links o.class ++ props_links o.props)

@@ -84,6 +84,13 @@ impl CheckedPage {
         self.scripts.as_slice()
     }
 
+    /// Its nodes and its scripts, without a copy.
+    pub fn into_parts(self) -> (Dom, Vec<Script>)
+        ensures { (result.0 ≡ self.nodes) × (result.1.items ≡ self.scripts) }
+    {
+        (self.dom, self.scripts)
+    }
+
     /// Its scripts, without a copy.
     pub fn into_scripts(self) -> Vec<Script>
         ensures { result.items ≡ self.scripts }

@@ -1,4 +1,5 @@
 pub mod Callers
+pub mod Delivering
 pub mod Forms
 pub mod Loops
 pub mod Stacks

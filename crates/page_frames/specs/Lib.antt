@@ -4,6 +4,7 @@ pub mod Parts
 pub mod Placed
 pub mod Rest
 pub mod RestCalls
+pub mod RestDeliver
 pub mod RestExpressions
 pub mod RestLiterals
 pub mod RestLoops

@@ -9,6 +9,7 @@ use Rattle.page_meaning.specs.declared.reference.Reference.{Reference}
 use Rattle.page_meaning.specs.declared.signal.Signal.{Signal}
 use Rattle.page_meaning.specs.declared.signal.Signal.TheVariants.{Thrown, Return}
 use Rattle.page_meaning.specs.Act.{Act, Calls, ret, give, done, on_value, also}
+use Rattle.page_meaning.specs.Dispatch.{deliver}
 use Rattle.page_meaning.specs.Expressions.{assigned}
 use Rattle.page_meaning.specs.Names.{Here, write}
 use Rattle.page_meaning.specs.Operators.{operate, operate_one}
@@ -19,6 +20,7 @@ use Rattle.page_frames.specs.declared.frame.Frame.{Frame}
 use Rattle.page_frames.specs.declared.frame.Frame.TheVariants as frame
 use Rattle.page_frames.specs.Parts.{mean_node, mean_target}
 use Rattle.page_frames.specs.RestCalls.{rest_call, rest_call_member, rest_call_index, mean_call, ended}
+use Rattle.page_frames.specs.RestDeliver.{rest_deliver}
 use Rattle.page_frames.specs.RestExpressions.{rest_binary, rest_and, rest_or, rest_conditional, rest_comma}
 use Rattle.page_frames.specs.RestLiterals.{rest_list, rest_literal}
 use Rattle.page_frames.specs.RestLoops.{rest_while, rest_do, rest_for, rest_for_in, rest_each, rest_switch, rest_case}
@@ -60,7 +62,7 @@ rest_name calls q r old v = give v
 
 -- the target of a for-in, from the value of its base or its key
 abbrev pub rest_target : Calls → Here → Option Node → Kind → Value → Option Value → Value → Act
-rest_target calls here at (kind.Member x) value base v = rest_target_member x value v
+rest_target calls here at (kind.Member x) value base v = rest_target_member calls x value v
 rest_target calls here at kind.Index value base v = rest_target_index calls here at value base v
 rest_target calls here at q value base v = give v
 
@@ -90,9 +92,11 @@ rest_of calls (frame.Each f) s = rest_each calls (here_of f.spot) (spot_node f.s
 rest_of calls (frame.Case f) s = rest_case calls (here_of f.spot) (spot_node f.spot) f.value f.index f.testing s
 rest_of calls (frame.Called f) s = ret (ended f.body f.fresh s)
 rest_of calls (frame.Visit f) s = on_value (rest_visit calls f) s
+rest_of calls (frame.Deliver f) s = rest_deliver calls f s
 
 -- what begins
 abbrev pub mean_of : Calls → Begin → Act
 mean_of calls (begin.Node f) = mean_node calls (here_of f) (spot_node f)
 mean_of calls (begin.Target f v) = mean_target calls (here_of f) (spot_node f) v
 mean_of calls (begin.Call f) = mean_call calls f.construct f.callee f.this f.args
+mean_of calls (begin.Deliver e k) = deliver calls e k

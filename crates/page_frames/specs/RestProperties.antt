@@ -9,7 +9,8 @@ use Rattle.page_meaning.specs.Convert.{text_in}
 use Rattle.page_meaning.specs.Expressions.{assigned}
 use Rattle.page_meaning.specs.Names.{Here}
 use Rattle.page_meaning.specs.Operators.{operate, update_with}
-use Rattle.page_meaning.specs.Properties.{get_member, get_index, with_properties, key_of, read_property, put_member, delete_member}
+use Rattle.page_meaning.specs.Properties.{get_member, get_index, with_properties, key_of, read_property, delete_member}
+use Rattle.page_meaning.specs.HostPuts.{put_member}
 use Rattle.page_frames.specs.Parts.{part}
 
 abbrev pub rest_index : Calls → Here → Option Node → List Value → Value → Act
@@ -27,11 +28,11 @@ rest_delete_index calls here at [] base = also (part calls here at 1) (delete_in
 rest_delete_index calls here at (base ∷ more) key = delete_index calls base key
 
 abbrev pub rest_update_member : Calls → Bool → Bool → List ℕ → Value → Act
-rest_update_member calls up prefix x base = also (get_member base x) (update_with calls up prefix (put_member base x))
+rest_update_member calls up prefix x base = also (get_member base x) (update_with calls up prefix (put_member calls base x))
 
 abbrev pub update_index : Calls → Bool → Bool → Value → Value → Act
 update_index calls up prefix base key =
-    also (key_of calls base key) (λ k. also (read_property base (text_in k)) (update_with calls up prefix (put_member base (text_in k))))
+    also (key_of calls base key) (λ k. also (read_property base (text_in k)) (update_with calls up prefix (put_member calls base (text_in k))))
 
 abbrev pub rest_update_index : Calls → Here → Option Node → Bool → Bool → List Value → Value → Act
 rest_update_index calls here at up prefix [] base = also (part calls here at 1) (update_index calls up prefix base)
@@ -39,8 +40,8 @@ rest_update_index calls here at up prefix (base ∷ more) key = update_index cal
 
 -- the right side of an assignment to a property, with the value that it had where there is an operator
 abbrev pub put_right : Calls → Option BinaryOp → Value → List ℕ → List Value → Value → Act
-put_right calls None base x olds v = assigned (put_member base x) v
-put_right calls (Some op) base x (old ∷ more) w = also (operate calls op old w) (assigned (put_member base x))
+put_right calls None base x olds v = assigned (put_member calls base x) v
+put_right calls (Some op) base x (old ∷ more) w = also (operate calls op old w) (assigned (put_member calls base x))
 put_right calls (Some op) base x [] w = done
 
 -- once the name is known, an assignment with an operator reads the property first
@@ -65,10 +66,10 @@ rest_assign_index calls here at op (base ∷ k ∷ olds) v = put_right calls op 
 
 -- the target of a for-in takes the value (12.6.4)
 abbrev pub put_target : Calls → Value → Value → Value → Act
-put_target calls value base key = also (key_of calls base key) (λ k. put_member base (text_in k) value)
+put_target calls value base key = also (key_of calls base key) (λ k. put_member calls base (text_in k) value)
 
-abbrev pub rest_target_member : List ℕ → Value → Value → Act
-rest_target_member x value base = also (with_properties base) (λ o. put_member o x value)
+abbrev pub rest_target_member : Calls → List ℕ → Value → Value → Act
+rest_target_member calls x value base = also (with_properties base) (λ o. put_member calls o x value)
 
 abbrev pub rest_target_index : Calls → Here → Option Node → Value → Option Value → Value → Act
 rest_target_index calls here at value None base = also (part calls here at 1) (put_target calls value base)

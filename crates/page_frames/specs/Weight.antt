@@ -108,6 +108,10 @@ abbrev pub weigh_target : Option Node → Option Value → ℕ
 weigh_target at None = weigh at 1
 weigh_target at (Some base) = weigh at 2
 
+-- what a place of an event's way may cost: two turns for each listener, of which no list has as many
+unfoldable pub many : ℕ
+many = 2 ^ 65
+
 -- a frame that waits, beside its own turn
 abbrev pub weigh_frame : Frame → ℕ
 weigh_frame (frame.Expr f) = weigh_value (spot_node f.spot) (kind_of (spot_node f.spot)) f.turn f.got
@@ -118,16 +122,18 @@ weigh_frame (frame.Each f) = weigh_each (spot_node f.spot) f.assigning
 weigh_frame (frame.Case f) = weigh_case (spot_node f.spot) f.index f.testing
 weigh_frame (frame.Called f) = 0
 weigh_frame (frame.Visit f) = 0
+weigh_frame (frame.Deliver f) = length f.later * many + 2 * length f.round
 
 -- what begins, beside its own turn
 abbrev pub weigh_begin : Begin → ℕ
 weigh_begin (begin.Node f) = cost (spot_node f)
 weigh_begin (begin.Target f v) = cost (spot_node f)
 weigh_begin (begin.Call f) = 0
+weigh_begin (begin.Deliver e k) = 2 ^ 129
 
 -- more than all that one step pays for
 unfoldable pub heavy : ℕ
-heavy = 2 ^ 64
+heavy = 2 ^ 130
 
 -- with so many steps left
 abbrev pub load : ℕ → ℕ → ℕ

@@ -1,9 +1,11 @@
 //! What waits for a part of a script, and what begins one.
 
+use crate::rounds::{Places, Round};
 use crate::spot::Spot;
 use js_core::{OutOfMemory, Units};
-use js_values::{ObjId, Value};
+use js_values::{NodeId, ObjId, Value};
 use object_heap::Values;
+use page_host::Place;
 use page_meaning::{Reference, Signal, Visit};
 use std::alloc::Global;
 use std::marker::Model;
@@ -130,6 +132,15 @@ pub struct VisitFrame {
     pub element: Value,
 }
 
+/// A dispatch of an event waits for a listener at this place. Then come the listeners that are left there, and the places after it.
+#[derive(Drop)]
+pub struct DeliverFrame {
+    pub event: ObjId,
+    pub place: Place,
+    pub round: Round,
+    pub later: Places,
+}
+
 /// What waits for the end of another thing.
 #[derive(Drop)]
 pub enum Frame {
@@ -141,6 +152,7 @@ pub enum Frame {
     Case(CaseFrame),
     Called(CalledFrame),
     Visit(VisitFrame),
+    Deliver(DeliverFrame),
 }
 
 /// A frame where it lies in memory, so that it is small to hand on. Contracts see it as the frame.
@@ -224,10 +236,11 @@ impl BoxedCall {
     }
 }
 
-/// What begins: a node, a node that takes a value as the target of a for-in, or a call.
+/// What begins: a node, a node that takes a value as the target of a for-in, a call, or the dispatch of an event at a node.
 #[derive(Drop)]
 pub enum Begin {
     Node(Spot),
     Target(Spot, Value),
     Call(BoxedCall),
+    Deliver(ObjId, NodeId),
 }

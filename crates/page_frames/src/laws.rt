@@ -1,7 +1,13 @@
 //! What holds of places and frames.
 
 ghost use Rattle.page_frames.specs.Laws.{LoopsTurn, PartsArePaid, StacksFall, StacksFollow, StepsPay};
+ghost use Rattle.page_frames.specs.RestDeliver.{RunsInTurn};
 ghost use Rattle.page_frames.specs.Start.{BeginsByKind};
+ghost use Rattle.page_frames.specs.declared.frame.DeliverFrame.{DeliverFrame};
+ghost use Rattle.page_host.specs.declared.listener.Listener.{Listener};
+ghost use Rattle.page_meaning.specs.Act.{Calls};
+ghost use Rattle.page_meaning.specs.Store.{Store};
+ghost use Rattle.std.specs.Prelude.{List, ℕ};
 
 /// The kind of a node says how it begins.
 #[tactic(auto, using(crate::proofs::Starts::begins_by_kind))]
@@ -26,4 +32,11 @@ pub fn law_weights()
 pub fn law_stacks()
     ensures follow { StacksFollow }
     ensures fall { StacksFall }
+{}
+
+/// A dispatch that waits goes on with the listeners that are left.
+#[tactic(auto, using(crate::proofs::Delivering::runs_in_turn))]
+pub fn law_dispatches()
+    ensures { (calls : Calls) (f : DeliverFrame) (l : Listener) (ls : List Listener) (s : Store)
+        (n : ℕ) → RunsInTurn calls f l ls s n }
 {}

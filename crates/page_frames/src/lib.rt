@@ -4,12 +4,14 @@
 mod frame;
 mod laws;
 mod meter;
+mod rounds;
 mod spot;
 
 pub use frame::{
-    Begin, BoxedCall, BoxedFrame, CallFrame, CalledFrame, CaseFrame, EachFrame, ExprFrame, Frame,
-    Listed, NameFrame, StmtFrame, TargetFrame, VisitFrame, Visited,
+    Begin, BoxedCall, BoxedFrame, CallFrame, CalledFrame, CaseFrame, DeliverFrame, EachFrame,
+    ExprFrame, Frame, Listed, NameFrame, StmtFrame, TargetFrame, VisitFrame, Visited,
 };
-pub use laws::{law_loops, law_stacks, law_starts, law_weights};
+pub use laws::{law_dispatches, law_loops, law_stacks, law_starts, law_weights};
 pub use meter::{Meter, Next};
+pub use rounds::{Places, Round};
 pub use spot::Spot;

@@ -16,7 +16,8 @@ use Rattle.page_meaning.specs.Names.{Here, read_name}
 use Rattle.page_meaning.specs.Places.{window}
 use Rattle.page_meaning.specs.Primitives.{put_line}
 use Rattle.page_meaning.specs.Store.{Store, with_line}
-use Rattle.page_meaning.specs.Tasks.{Name, Task, after_task, depth_limit, finished, run_script, step_limit, task_of, top, uncaught_text}
+use Rattle.page_meaning.specs.Tasks.{Name, Task, after_task, depth_limit, finished, run_script, step_limit, task_of, top}
+use Rattle.page_meaning.specs.Lines.{uncaught_text}
 use Rattle.page_frames.specs.declared.frame.Begin.TheVariants as begin
 use Rattle.page_frames.specs.Parts.{mean_node}
 use Rattle.page_frames.specs.Rest.{mean_of}

@@ -13,6 +13,8 @@ use Rattle.page_meaning.specs.Tasks as meaning
 abbrev pub task_of : Task → meaning.Task
 task_of (task.Script c) = meaning.Script (body_of c)
 task_of (task.Name x) = meaning.Name x
+task_of (task.Fires x bubbles cancelable k) = meaning.Fires x bubbles cancelable k
+task_of (task.Passes n) = meaning.Passes n
 
 -- what a script declares (10.5)
 abbrev pub declared : tree.Stmts → Act

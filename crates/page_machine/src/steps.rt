@@ -7,6 +7,7 @@ ghost use Rattle.page_frames.specs.Where.{spot_node};
 ghost use Rattle.step_parts.specs.Families.{family_of};
 ghost use Rattle.step_expr.specs.Begins.{begins_first};
 
+use event_dispatch::{begin_deliver, go_deliver};
 use js_core::OutOfMemory;
 use js_values::Value;
 use object_heap::Values;
@@ -28,6 +29,7 @@ pub(crate) fn begin(state: &mut State, what: Begin, meter: &mut Meter) -> Result
         Begin::Node(spot) => begin_node(state, spot, meter),
         Begin::Target(spot, value) => begin_target(state, spot, value, meter),
         Begin::Call(call) => begin_call(state, call.into_call(), meter),
+        Begin::Deliver(event, node) => begin_deliver(state, event, node, meter),
     }
 }
 
@@ -80,6 +82,7 @@ pub(crate) fn go(
         Frame::Case(frame) => go_case(state, frame, end, meter),
         Frame::Called(frame) => go_called(state, frame, end, meter),
         Frame::Visit(frame) => go_visit(state, frame, end, meter),
+        Frame::Deliver(frame) => go_deliver(state, frame, end, meter),
     }
 }
 

@@ -12,12 +12,15 @@ ghost use Rattle.page_machine.specs.Running.{declared, task_of, top_body};
 use crate::machine::{End, run};
 use code_table::FunctionCode;
 use js_core::{DEPTH_LIMIT, OutOfMemory, STEP_LIMIT, Units};
-use js_values::{LineKind, Value};
+use js_values::{LineKind, NodeId, Value};
 use object_heap::Values;
 use page_frames::{Begin, BoxedCall, CallFrame, Meter, Spot};
 use page_meaning::Signal;
 use page_state::{Fault, State, WINDOW};
 use step_call::call_end;
+
+// The clock goes no further.
+const CLOCK_LIMIT: u64 = 1 << 59;
 
 /// What is run as one.
 #[derive(Drop)]
@@ -26,6 +29,10 @@ pub enum Task {
     Script(FunctionCode),
     /// A call of what this global name holds.
     Name(Units),
+    /// An event of the host at a node: its type, whether it bubbles, and whether it can be cancelled.
+    Fires(Units, bool, bool, NodeId),
+    /// So much time passes.
+    Passes(u64),
 }
 
 /// Runs a task with all steps and all depth. An exception that it does not catch, and want of steps, are told by a line. After
@@ -44,6 +51,14 @@ pub fn run_task(state: &mut State, task: Task) -> Result<(), OutOfMemory>
         }
         Task::Name(name) => {
             let end = call_name(state, &name, &mut meter)?;
+            finish(state, end)
+        }
+        Task::Fires(kind, bubbles, cancelable, node) => {
+            let end = fire(state, kind, bubbles, cancelable, node, &mut meter)?;
+            finish(state, end)
+        }
+        Task::Passes(time) => {
+            let end = pass(state, time, &mut meter)?;
             finish(state, end)
         }
     }
@@ -95,15 +110,74 @@ fn call_name(state: &mut State, name: &Units, meter: &mut Meter) -> Result<End, 
     }
 }
 
+// An event of the host is made, and dispatched at the node.
+fn fire(
+    state: &mut State,
+    kind: Units,
+    bubbles: bool,
+    cancelable: bool,
+    node: NodeId,
+    meter: &mut Meter,
+) -> Result<End, OutOfMemory>
+    ensures { IfOk result (λ end. outcome_of end state.new meter.new.steps
+        ≡ (spec.task_of (calls_at meter.old.depth) (spec.Fires kind bubbles cancelable node)).run
+        state.old meter.old.steps) }
+{
+    let event = state.make_event()?;
+    state.init_event(event, kind, bubbles, cancelable);
+    run(state, Begin::Deliver(event, node), meter)
+}
+
+// Time passes up to a moment: timers fire one after another, and last the clock is there. Past 2 ^ 59 it wants memory.
+fn pass(state: &mut State, time: u64, meter: &mut Meter) -> Result<End, OutOfMemory>
+    ensures { IfOk result (λ end. outcome_of end state.new meter.new.steps
+        ≡ (spec.task_of (calls_at meter.old.depth) (spec.Passes time)).run state.old
+        meter.old.steps) }
+{
+    let clock = state.host().clock();
+    if time > CLOCK_LIMIT || clock > CLOCK_LIMIT - time {
+        return Err(OutOfMemory);
+    }
+    let moment = clock + time;
+    while state.is_timer_due(moment) {
+        if meter.steps == 0 {
+            return Ok(End::Stopped);
+        }
+        meter.steps -= 1;
+        let Some(function) = state.fire_timer(moment) else {
+            break;
+        };
+        match call_with(state, Value::Object(function), Value::Object(WINDOW), meter)? {
+            End::Ended(signal) => state.put_uncaught(&signal)?,
+            End::Stopped => return Ok(End::Stopped),
+        }
+    }
+    state.set_clock(moment);
+    Ok(End::Ended(Signal::Value(Value::Undefined)))
+}
+
 // Calls a value without arguments, with `this` undefined.
 fn call(state: &mut State, callee: Value, meter: &mut Meter) -> Result<End, OutOfMemory>
     ensures { IfOk result (λ end. outcome_of end state.new meter.new.steps
         ≡ ((calls_at meter.old.depth).call callee Undefined []).run state.old meter.old.steps) }
 {
+    call_with(state, callee, Value::Undefined, meter)
+}
+
+// Calls a value without arguments, with this `this`.
+fn call_with(
+    state: &mut State,
+    callee: Value,
+    this: Value,
+    meter: &mut Meter,
+) -> Result<End, OutOfMemory>
+    ensures { IfOk result (λ end. outcome_of end state.new meter.new.steps
+        ≡ ((calls_at meter.old.depth).call callee this []).run state.old meter.old.steps) }
+{
     let frame = CallFrame {
         construct: false,
         callee,
-        this: Value::Undefined,
+        this,
         args: Values::new(state.alloc()),
     };
     let boxed = BoxedCall::of(state.alloc(), frame)?;
@@ -114,6 +188,7 @@ fn call(state: &mut State, callee: Value, meter: &mut Meter) -> Result<End, OutO
 fn finish(state: &mut State, end: End) -> Result<(), OutOfMemory>
     ensures { OnOk result ((n : ℕ) → state.new ≡ spec.finished (outcome_of end state.old n)) }
 {
+    state.settle_events();
     match end {
         End::Ended(Signal::Thrown(value)) => {
             let text = state.uncaught_text(&value)?;

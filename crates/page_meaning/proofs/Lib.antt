@@ -1,3 +1,4 @@
+pub mod Ages
 pub mod Beginning
 pub mod Keeping
-pub mod Worked
+pub mod Stepping

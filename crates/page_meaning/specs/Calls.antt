@@ -1,5 +1,5 @@
 -- Meaning: calls and constructions (sections 11.2.3, 13.2.1, 13.2.2 and 15.3.4.5). The step and the depth of a call are taken here alone.
-use Rattle.std.specs.Prelude.{ℕ, zero, suc, Bool, true, false, List, ◌++◌, Option, Some, codes}
+use Rattle.std.specs.Prelude.{refl, ℕ, zero, suc, Bool, true, false, List, ◌++◌, Option, Some, codes}
 use Rattle.js_core.specs.Tree as tree
 use Rattle.js_values.specs.declared.built_in.BuiltIn.{BuiltIn}
 use Rattle.js_values.specs.declared.built_in.BuiltIn.TheVariants as built_in
@@ -41,7 +41,7 @@ built made v = Object made
 abbrev pub build : Calls → Value → tree.Code → Option EnvId → List Value → Act
 build calls f c env vs =
     also (read_property f (codes "prototype"))
-    (λ p. bind (make (new_object Plain (Some (object_or object_prototype p))) (new_fit Plain (Some (object_or object_prototype p))))
+    (λ p. bind (make (new_object Plain (Some (object_or object_prototype p))) (new_fit Plain (Some (object_or object_prototype p))) refl)
     (λ o. also (enter (exec_all calls) c env (Object o) vs) (λ v. give (built o v))))
 
 abbrev pub constructed : Calls → Value → List Value → Option Class → Act

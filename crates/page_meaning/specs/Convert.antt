@@ -59,3 +59,15 @@ to_number calls v = also (to_primitive calls a_number v) (λ p. settle (number_o
 -- ToString (9.8)
 abbrev pub to_text : Calls → Value → Act
 to_text calls v = also (to_primitive calls a_text v) (λ p. give (Text (text_of p)))
+
+-- operators, keys and `join` convert where they stand, by these; rows convert their arguments by the three before. As long as an object has
+-- no primitive value they do the same
+
+abbrev pub operand_primitive : Calls → Need → Value → Act
+operand_primitive calls need v = to_primitive calls need v
+
+abbrev pub operand_number : Calls → Value → Act
+operand_number calls v = to_number calls v
+
+abbrev pub operand_text : Calls → Value → Act
+operand_text calls v = to_text calls v

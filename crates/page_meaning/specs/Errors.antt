@@ -35,7 +35,7 @@ pub error_fit : (t : Throw) → IsFit (error_object t)
 error_fit t = code_fit t (code_of t)
 
 abbrev pub raise : Throw → Act
-raise t = bind (make (error_object t) (error_fit t)) (λ k. ret (Thrown (value.Object k)))
+raise t = bind (make (error_object t) (error_fit t) refl) (λ k. ret (Thrown (value.Object k)))
 
 -- the value, or the error
 abbrev pub settle : Result Value Throw → Act

@@ -1,5 +1,5 @@
 -- Meaning: the value of an expression (section 11).
-use Rattle.std.specs.Prelude.{ℕ, suc, List, [], ◌∷◌, ◌++◌, Some, None}
+use Rattle.std.specs.Prelude.{refl, ℕ, suc, List, [], ◌∷◌, ◌++◌, Some, None}
 use Rattle.std.specs.Fmt.{decimal}
 use Rattle.js_core.specs.declared.operators.UnaryOp.TheVariants.{Delete, Typeof}
 use Rattle.js_core.specs.Tree as tree
@@ -16,16 +16,17 @@ use Rattle.whole_ops.specs.Conversions.{is_true}
 use Rattle.page_meaning.specs.Functions.{close_over}
 use Rattle.page_meaning.specs.Names.{Here, resolve, read, read_name, write, assign_name, type_of_name}
 use Rattle.page_meaning.specs.Operators.{operate, operate_one, update_with}
+use Rattle.page_meaning.specs.HostPuts.{put_member}
 use Rattle.page_meaning.specs.Places.{array_prototype, object_prototype}
 use Rattle.page_meaning.specs.Primitives.{make}
-use Rattle.page_meaning.specs.Properties.{with_properties, key_of, read_property, get_member, get_index, put_in, put_member, delete_member, define_member}
+use Rattle.page_meaning.specs.Properties.{with_properties, key_of, read_property, get_member, get_index, put_in, delete_member, define_member}
 use Rattle.object_heap.proofs.Callers.{new_fit}
 
 abbrev pub new_plain : ActOf ObjId
-new_plain = make (new_object Plain (Some object_prototype)) (new_fit Plain (Some object_prototype))
+new_plain = make (new_object Plain (Some object_prototype)) (new_fit Plain (Some object_prototype)) refl
 
 abbrev pub new_list : ActOf ObjId
-new_list = make (new_object Array (Some array_prototype)) (new_fit Array (Some array_prototype))
+new_list = make (new_object Array (Some array_prototype)) (new_fit Array (Some array_prototype)) refl
 
 -- the value of an assignment is what was assigned, also where an array's length became another number
 abbrev pub assigned : (Value → Act) → Value → Act
@@ -75,13 +76,13 @@ abbrev mutual
   eval calls here (update up prefix (member e x)) = do
     base ← eval calls here e
     old ← get_member base x
-    update_with calls up prefix (put_member base x) old
+    update_with calls up prefix (put_member calls base x) old
   eval calls here (update up prefix (index a b)) = do
     base ← eval calls here a
     key ← eval calls here b
     k ← key_of calls base key
     old ← read_property base (text_in k)
-    update_with calls up prefix (put_member base (text_in k)) old
+    update_with calls up prefix (put_member calls base (text_in k)) old
   eval calls here (update up prefix e) = give value.Undefined
   eval calls here (binary op a b) = do
     v ← eval calls here a
@@ -95,13 +96,13 @@ abbrev mutual
     base ← eval calls here e
     o ← with_properties base
     v ← eval calls here b
-    assigned (put_member o x) v
+    assigned (put_member calls o x) v
   eval calls here (assign None (index a b) c) = do
     base ← eval calls here a
     key ← eval calls here b
     k ← key_of calls base key
     v ← eval calls here c
-    assigned (put_member base (text_in k)) v
+    assigned (put_member calls base (text_in k)) v
   eval calls here (assign (Some op) (name x) e) = bind (resolve here x) (λ r. do
     old ← read x r
     w ← eval calls here e
@@ -112,7 +113,7 @@ abbrev mutual
     old ← get_member base x
     w ← eval calls here b
     v ← operate calls op old w
-    assigned (put_member base x) v
+    assigned (put_member calls base x) v
   eval calls here (assign (Some op) (index a b) c) = do
     base ← eval calls here a
     key ← eval calls here b
@@ -120,7 +121,7 @@ abbrev mutual
     old ← read_property base (text_in k)
     w ← eval calls here c
     v ← operate calls op old w
-    assigned (put_member base (text_in k)) v
+    assigned (put_member calls base (text_in k)) v
   eval calls here (assign op e b) = give value.Undefined
   eval calls here (comma es) = eval_each calls here es value.Undefined
 
@@ -157,10 +158,10 @@ assign_to calls here (name x) v = assign_name here x v
 assign_to calls here (member e x) v = do
   base ← eval calls here e
   o ← with_properties base
-  put_member o x v
+  put_member calls o x v
 assign_to calls here (index a b) v = do
   base ← eval calls here a
   key ← eval calls here b
   k ← key_of calls base key
-  put_member base (text_in k) v
+  put_member calls base (text_in k) v
 assign_to calls here e v = give v

@@ -60,7 +60,7 @@ bound_fit target this args formals =
 
 abbrev pub bind_to : ObjId → Value → List Value → Act
 bind_to target this args =
-    asking (length_of target) (λ formals. bind (make (bound_object target this args formals) (bound_fit target this args formals)) object_of)
+    asking (length_of target) (λ formals. bind (make (bound_object target this args formals) (bound_fit target this args formals) refl) object_of)
 
 abbrev pub bind_function : Value → List Value → Act
 bind_function (Object f) vs =

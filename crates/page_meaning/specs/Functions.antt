@@ -57,7 +57,7 @@ function_steps c env k =
 
 -- a function, and then its `prototype`, which is younger (13.2)
 abbrev pub make_function : tree.Code → Option EnvId → ActOf ObjId
-make_function c env = does next_place (λ h. function_steps c env (length h.objects))
+make_function c env = does next_place (λ h. function_steps c env (length h.objects)) (λ h. (refl, (refl, tt)))
 
 abbrev pub object_of : ObjId → Act
 object_of k = give (Object k)
@@ -119,10 +119,10 @@ script_property v = record { value = Some v; writable = Some true; enumerable = 
 abbrev pub define_global : List ℕ → Act
 define_global x = unless (define_at window x (script_property Undefined)) done
 
--- whether the global object can take a declared function (10.5 step 5.e)
-abbrev pub function_place : List ℕ → Option Prop → Act
-function_place x None = define_global x
-function_place x (Some p) = choose p.configurable (define_global x) (choose (p.writable && p.enumerable) done (raise CannotDefine))
+-- the global object takes a declared function, where it can (10.5 step 5.e)
+abbrev pub take_function : List ℕ → Option Prop → Act
+take_function x None = define_global x
+take_function x (Some p) = choose p.configurable (define_global x) (choose (p.writable && p.enumerable) done (raise CannotDefine))
 
 abbrev pub own_global : List ℕ → Store → Option Prop
 own_global x s = own_property (object_at s.heap.objects window.0).props x
@@ -133,13 +133,13 @@ declare_globals [] = done
 declare_globals ((None, c) ∷ cs) = declare_globals cs
 declare_globals ((Some x, c) ∷ cs) =
     bind (make_function c None)
-    (λ k. also (asking (own_global x) (function_place x)) (λ _. also (put_in window x (Object k)) (λ _. declare_globals cs)))
+    (λ k. also (asking (own_global x) (take_function x)) (λ _. also (put_in window x (Object k)) (λ _. declare_globals cs)))
 
-abbrev pub variable_place : List ℕ → Option Prop → Act
-variable_place x None = define_global x
-variable_place x (Some p) = done
+abbrev pub take_variable : List ℕ → Option Prop → Act
+take_variable x None = define_global x
+take_variable x (Some p) = done
 
 -- the script's variables that the global object does not have
 abbrev pub global_variables : List (List ℕ) → Act
 global_variables [] = done
-global_variables (x ∷ xs) = also (asking (own_global x) (variable_place x)) (λ _. global_variables xs)
+global_variables (x ∷ xs) = also (asking (own_global x) (take_variable x)) (λ _. global_variables xs)

@@ -7,10 +7,9 @@ use Rattle.object_heap.specs.Heap.{IsSound}
 use Rattle.object_heap.specs.Laws.{IsSameKind}
 use Rattle.page_meaning.specs.Act.{LeadsTo}
 use Rattle.page_meaning.specs.Calls.{calls_at}
-use Rattle.page_meaning.specs.Pages.{do_event, load_of}
+use Rattle.page_meaning.specs.Pages.{Page, do_event, load_of}
 use Rattle.page_meaning.specs.Store.{Store}
 use Rattle.page_meaning.specs.Tasks.{Task, after_task, task_of}
-use Rattle.js_core.specs.Tree as tree
 
 -- whatever a task does, steps fall, lines stay, and the heap changes by its own calls alone
 abbrev pub TasksKeep : Type 0
@@ -33,4 +32,4 @@ KeepsKinds =
 
 -- every page that is loaded is sound
 abbrev pub LoadsSound : Type 0
-LoadsSound = (scripts : List tree.Stmts) → IsSound (load_of scripts).heap
+LoadsSound = (page : Page) → IsSound (load_of page).heap

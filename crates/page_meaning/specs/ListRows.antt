@@ -7,12 +7,12 @@ use Rattle.js_values.specs.declared.value.Value.TheVariants.{Undefined, Null, Nu
 use Rattle.object_heap.specs.Define.{number}
 use Rattle.whole_ops.specs.Equality.{same_of}
 use Rattle.page_meaning.specs.Act.{Act, Calls, bind, done, give, also, asking, choose, ◌>>=◌}
-use Rattle.page_meaning.specs.Convert.{number_in, text_in, to_number, to_text}
+use Rattle.page_meaning.specs.Convert.{number_in, operand_text, text_in, to_number, to_text}
 use Rattle.page_meaning.specs.Elements.{define_element, delete_element, element, element_or, length_of, list_in, on_element, put_each, put_element, set_length, turns_down, turns_up}
 use Rattle.page_meaning.specs.Errors.{settle}
 use Rattle.page_meaning.specs.Expressions.{new_list}
 use Rattle.page_meaning.specs.ObjectRows.{argument}
-use Rattle.page_meaning.specs.Operators.{text_or_long}
+use Rattle.page_host.specs.HostNames.{text_or_long}
 use Rattle.page_meaning.specs.Primitives.{take_step}
 use Rattle.page_meaning.specs.Store.{Store}
 
@@ -83,7 +83,7 @@ concat at vs = bind new_list (λ a. concat_from a 0 (Object at ∷ vs))
 abbrev pub element_text : Calls → Value → Act
 element_text calls Undefined = give (Text [])
 element_text calls Null = give (Text [])
-element_text calls v = to_text calls v
+element_text calls v = operand_text calls v
 
 -- a text and one more, which may be too long
 abbrev pub join_text : Value → Value → Act

@@ -7,6 +7,7 @@ use Rattle.js_values.specs.declared.ids.ObjId.{ObjId}
 use Rattle.js_values.specs.declared.value.Value.{Value}
 use Rattle.js_values.specs.declared.value.Value.TheVariants.{Undefined, Null, Bool as Truth, Num, Text, Object}
 use Rattle.object_heap.specs.Chain.{object_at}
+use Rattle.object_heap.specs.Define.{length_name}
 use Rattle.object_heap.specs.Object as heap
 use Rattle.object_heap.specs.Property.{own_property, Props}
 use Rattle.page_meaning.specs.declared.signal.Signal.{Signal}
@@ -70,13 +71,13 @@ abbrev pub listed_up : Store → List (List ℕ) → Option ObjId → Listed
 listed_up s seen None = []
 listed_up s seen (Some at) = listed_from s.heap.objects (suc at.0) seen (Some at)
 
--- what for-in visits, fixed at its start (12.6.4)
+-- what for-in visits, fixed at its start (12.6.4). A text's own `length`, which is not listed, hides others (15.5.5.1)
 abbrev pub listed_of : Store → Value → Listed
 listed_of s Undefined = []
 listed_of s Null = []
 listed_of s (Truth b) = listed_up s [] boolean_prototype
 listed_of s (Num n) = listed_up s [] number_prototype
-listed_of s (Text t) = unit_names 0 t ++ listed_up s (map (λ p. p.1) (unit_names 0 t)) string_prototype
+listed_of s (Text t) = unit_names 0 t ++ listed_up s (length_name ∷ map (λ p. p.1) (unit_names 0 t)) string_prototype
 listed_of s (Object at) = listed_up s [] (Some at)
 
 -- the holder still has the name

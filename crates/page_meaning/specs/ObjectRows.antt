@@ -1,9 +1,10 @@
 -- Meaning: the constructor `Object`, what it has, and what its prototype has (section 15.2).
-use Rattle.std.specs.Prelude.{ℕ, suc, Bool, false, not, ◌&&◌, List, [], ◌∷◌, ◌++◌, Option, Some, None, is_some, filter, codes, slice_index_or}
+use Rattle.std.specs.Prelude.{refl, ℕ, suc, Bool, false, not, ◌&&◌, List, [], ◌∷◌, ◌++◌, Option, Some, None, Result, Ok, Err, is_some, filter, codes, slice_index_or}
 use Rattle.std.specs.Fmt.{decimal}
 use Rattle.std.specs.List.{list_all}
 use Rattle.std.specs.Map.{keys_of}
 use Rattle.js_values.specs.declared.ids.ObjId.{ObjId}
+use Rattle.js_values.specs.declared.throw.Throw.{Throw}
 use Rattle.js_values.specs.declared.throw.Throw.TheVariants.{WrongArgument}
 use Rattle.js_values.specs.declared.value.Value.{Value}
 use Rattle.js_values.specs.declared.value.Value.TheVariants.{Undefined, Null, Bool as Truth, Num, Text, Object}
@@ -88,9 +89,9 @@ own_names at = asking (λ s. keys_of (props_at s at)) new_texts
 abbrev pub own_enumerable_names : ObjId → Act
 own_enumerable_names at = asking (λ s. enumerable_names (props_at s at)) new_texts
 
-abbrev pub define_as : ObjId → List ℕ → Option Change → Act
-define_as at x None = raise WrongArgument
-define_as at x (Some change) = also (define_in at x change) (λ _. give (Object at))
+abbrev pub define_as : ObjId → List ℕ → Result Change Throw → Act
+define_as at x (Err t) = raise t
+define_as at x (Ok change) = also (define_in at x change) (λ _. give (Object at))
 
 -- 15.2.3.6
 abbrev pub define_property : Calls → Value → Value → ObjId → Act
@@ -100,24 +101,25 @@ define_property calls v d at = also (to_text calls v) (λ x. asking (λ s. chang
 abbrev pub Changes : Type 0
 Changes = List (List ℕ × Change)
 
-abbrev pub one_change : List ℕ → Option Change → Option Changes → Option Changes
-one_change x (Some change) (Some cs) = Some ((x, change) ∷ cs)
-one_change x change cs = None
+abbrev pub one_change : List ℕ → Result Change Throw → Result Changes Throw → Result Changes Throw
+one_change x (Ok change) (Ok cs) = Ok ((x, change) ∷ cs)
+one_change x (Ok change) (Err t) = Err t
+one_change x (Err t) cs = Err t
 
-abbrev pub changes_in : Store → ObjId → List (List ℕ) → Option Changes
-changes_in s from [] = Some []
+abbrev pub changes_in : Store → ObjId → List (List ℕ) → Result Changes Throw
+changes_in s from [] = Ok []
 changes_in s from (x ∷ xs) = one_change x (change_in s (get_at s from x)) (changes_in s from xs)
 
-abbrev pub all_changes : Store → ObjId → Option Changes
+abbrev pub all_changes : Store → ObjId → Result Changes Throw
 all_changes s from = changes_in s from (enumerable_names (props_at s from))
 
 abbrev pub define_each : ObjId → Changes → Act
 define_each at [] = give (Object at)
 define_each at (c ∷ cs) = also (define_in at c.0 c.1) (λ _. define_each at cs)
 
-abbrev pub define_given : ObjId → Option Changes → Act
-define_given at None = raise WrongArgument
-define_given at (Some cs) = define_each at cs
+abbrev pub define_given : ObjId → Result Changes Throw → Act
+define_given at (Err t) = raise t
+define_given at (Ok cs) = define_each at cs
 
 -- all descriptors are read before a property is defined (15.2.3.7)
 abbrev pub define_properties : Value → ObjId → Act
@@ -132,7 +134,7 @@ with_given Undefined at = give (Object at)
 with_given v at = define_properties v at
 
 abbrev pub new_with : Option ObjId → Value → Act
-new_with proto v = bind (make (new_object Plain proto) (new_fit Plain proto)) (with_given v)
+new_with proto v = bind (make (new_object Plain proto) (new_fit Plain proto) refl) (with_given v)
 
 -- 15.2.3.5
 abbrev pub create : Value → Value → Act

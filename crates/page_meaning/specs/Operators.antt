@@ -1,12 +1,12 @@
 -- Meaning: operators on values (sections 11.4 to 11.9). Where both sides are converted, the left comes first.
-use Rattle.std.specs.Prelude.{ℕ, zero, suc, ℤ, pos, nat_le, nat_eq, Bool, true, false, not, List, ◌++◌, ◌^◌, length, Option, Some, None, Result, Ok, Err, codes, if◌then◌else◌}
+use Rattle.std.specs.Prelude.{ℕ, zero, suc, ℤ, pos, nat_eq, Bool, true, false, not, List, ◌++◌, Option, Some, None, Result, Ok, Err, codes, if◌then◌else◌}
 use Rattle.js_core.specs.declared.operators.BinaryOp.{BinaryOp}
 use Rattle.js_core.specs.declared.operators.BinaryOp.TheVariants.{Mul, Div, Rem, Add, Sub, Shl, Shr, Ushr, Less, Greater, LessEq, GreaterEq, InstanceOf, Within, Equal, Unequal, Same, NotSame, BitAnd, BitXor, BitOr}
 use Rattle.js_core.specs.declared.operators.UnaryOp.{UnaryOp}
-use Rattle.js_core.specs.declared.operators.UnaryOp.TheVariants.{Void, Typeof, Plus, Minus, BitNot, Not}
+use Rattle.js_core.specs.declared.operators.UnaryOp.TheVariants.{Delete, Void, Typeof, Plus, Minus, BitNot, Not}
 use Rattle.js_values.specs.declared.ids.ObjId.{ObjId}
 use Rattle.js_values.specs.declared.throw.Throw.{Throw}
-use Rattle.js_values.specs.declared.throw.Throw.TheVariants.{NotFunction, NotObject, OutOfRange, TextTooLong}
+use Rattle.js_values.specs.declared.throw.Throw.TheVariants.{NotFunction, NotObject, OutOfRange}
 use Rattle.js_values.specs.declared.value.Value.{Value}
 use Rattle.js_values.specs.declared.value.Value.TheVariants.{Undefined, Null, Bool as Truth, Num, Text, Object}
 use Rattle.object_heap.specs.declared.object.Class.{Class}
@@ -23,24 +23,17 @@ use Rattle.whole_ops.specs.Equality.{same_of, loose_of}
 use Rattle.whole_ops.specs.Conversions.{is_true}
 use Rattle.whole_ops.specs.Order.{text_less, whole_less}
 use Rattle.page_meaning.specs.Act.{Act, Calls, give, also, asking, choose, ◌>>=◌}
-use Rattle.page_meaning.specs.Convert.{a_number, text_of, text_in, number_in, as_number, number_of, to_primitive, to_number, to_text}
+use Rattle.page_meaning.specs.Convert.{a_number, text_of, text_in, number_in, as_number, number_of, operand_primitive, operand_number, operand_text}
 use Rattle.page_meaning.specs.Errors.{raise, settle}
-use Rattle.page_meaning.specs.Properties.{has_property, class_of, is_function, get_at}
+use Rattle.page_host.specs.HostNames.{text_or_long}
+use Rattle.page_meaning.specs.Properties.{has_member, class_of, is_function, get_at}
 use Rattle.page_meaning.specs.Store.{Store}
-
--- how many units a text may have. It does not unfold.
-unfoldable pub text_limit : ℕ
-text_limit = 2 ^ 20
-
--- a text that was joined, which may be too long
-abbrev pub text_or_long : List ℕ → Result Value Throw
-text_or_long t = if nat_le (length t) text_limit then Ok (Text t) else Err TextTooLong
 
 -- both as numbers, the left whole before the right, and then the operator on them (11.5)
 abbrev pub on_numbers : Calls → (Option ℤ → Option ℤ → Result Value Throw) → Value → Value → Act
 on_numbers calls f v w = do
-  a ← to_number calls v
-  b ← to_number calls w
+  a ← operand_number calls v
+  b ← operand_number calls w
   settle (f (number_in a) (number_in b))
 
 -- both of them primitive (11.8.5 step 3)
@@ -59,8 +52,8 @@ sum_of p q = as_numbers (λ a b. as_number (whole_add a b)) p q
 -- both become primitive before either becomes more
 abbrev pub on_primitives : Calls → (Value → Value → Act) → Value → Value → Act
 on_primitives calls f v w = do
-  p ← to_primitive calls a_number v
-  q ← to_primitive calls a_number w
+  p ← operand_primitive calls a_number v
+  q ← operand_primitive calls a_number w
   f p q
 
 -- whether a comparison that may be undefined says so
@@ -127,7 +120,7 @@ instance_of v f = raise NotFunction
 
 -- `in` (11.8.7): the right side is judged before the left is converted
 abbrev pub is_within : Calls → Value → Value → Act
-is_within calls v (Object at) = also (to_text calls v) (λ x. asking (λ s. has_property s at (text_in x)) (λ b. give (Truth b)))
+is_within calls v (Object at) = also (operand_text calls v) (λ x. asking (λ s. has_member s at (text_in x)) (λ b. give (Truth b)))
 is_within calls v w = raise NotObject
 
 -- a binary operator on the values of its sides
@@ -174,11 +167,11 @@ give_type v = asking (λ s. type_of s v) (λ t. give (Text t))
 abbrev pub operate_one : Calls → UnaryOp → Value → Act
 operate_one calls Void v = give Undefined
 operate_one calls Typeof v = give_type v
-operate_one calls Plus v = to_number calls v
-operate_one calls Minus v = also (to_number calls v) (λ n. settle (as_number (whole_sub (Some (pos 0)) (number_in n))))
-operate_one calls BitNot v = also (to_number calls v) (λ n. give (Num (whole_not (number_in n))))
+operate_one calls Plus v = operand_number calls v
+operate_one calls Minus v = also (operand_number calls v) (λ n. settle (as_number (whole_sub (Some (pos 0)) (number_in n))))
+operate_one calls BitNot v = also (operand_number calls v) (λ n. give (Num (whole_not (number_in n))))
 operate_one calls Not v = give (Truth (not (is_true v)))
-operate_one calls op v = give (Truth true)
+operate_one calls Delete v = give (Truth true)
 
 -- `++` or `--` on a number
 abbrev pub one_more : Bool → Value → Act
@@ -193,7 +186,7 @@ updated_value false old new = old
 -- converts, changes and puts back (11.3, 11.4.4 and 11.4.5)
 abbrev pub update_with : Calls → Bool → Bool → (Value → Act) → Value → Act
 update_with calls up prefix write v = do
-  old ← to_number calls v
+  old ← operand_number calls v
   new ← one_more up old
   _ ← write new
   give (updated_value prefix old new)

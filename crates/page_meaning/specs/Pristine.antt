@@ -1,6 +1,6 @@
 -- Meaning: a page before its scripts (section 15). The built-in objects by age: `window`, `Object.prototype`, `Function.prototype`, and
 -- then those that a walk from `window` meets: it goes through own properties in order, and into an object at once.
-use Rattle.std.specs.Prelude.{ℕ, List, [], ◌∷◌, ◌++◌, Some, None, codes, map}
+use Rattle.std.specs.Prelude.{ℕ, suc, List, [], ◌∷◌, ◌++◌, Some, None, codes, length, map}
 use Rattle.js_values.specs.declared.built_in.BuiltIn.{BuiltIn}
 use Rattle.js_values.specs.declared.built_in.BuiltIn.TheVariants as built_in
 use Rattle.js_values.specs.declared.ids.ObjId.{ObjId}
@@ -10,13 +10,17 @@ use Rattle.js_values.specs.declared.value.Value.TheVariants as value
 use Rattle.js_values.specs.Throw.{kind_name}
 use Rattle.js_core.specs.Whole.{nan}
 use Rattle.object_heap.specs.declared.object.Class.{Class}
-use Rattle.object_heap.specs.declared.object.Class.TheVariants.{Plain, List as Array, Native, Fault, Math, Window}
+use Rattle.object_heap.specs.declared.object.Class.TheVariants.{Plain, List as Array, Native, Fault, Math, Node, Window}
 use Rattle.object_heap.specs.declared.property.Prop.{Prop}
 use Rattle.object_heap.specs.Define.{length_name, number}
+use Rattle.object_heap.specs.Heap.{new_object}
+use Rattle.dom_tree.specs.Node.{Nodes}
 use Rattle.object_heap.specs.Object.{Object, whole_object, with_closed}
 use Rattle.object_heap.specs.Property.{Props, fixed, hidden, lasting}
-use Rattle.page_meaning.specs.Places.{at_place, window, array_prototype, boolean_prototype_place, console_place, error_prototype, function_at, function_prototype, math_place, number_prototype_place, object_prototype, string_prototype_place}
-use Rattle.page_meaning.specs.Store.{Store}
+use Rattle.page_host.specs.Host.{new_host}
+use Rattle.page_meaning.specs.Places.{at_place, window, array_prototype, boolean_prototype_place, console_place, document, built_in_count, error_prototype, event_prototype, node_prototype, function_at, function_prototype, math_place, number_prototype_place, object_prototype, string_prototype_place}
+use Rattle.page_meaning.specs.Store.{Store, silent}
+use Rattle.page_meaning.specs.Tables.{Method, array_functions, array_prototype_functions, boolean_prototype_functions, console_functions, event_prototype_functions, function_prototype_functions, global_functions, math_functions, node_prototype_functions, number_prototype_functions, object_functions, object_prototype_functions, string_functions, string_prototype_functions, timer_functions}
 
 -- a property that holds a built-in function
 abbrev pub method : List ℕ → BuiltIn → List ℕ × Prop
@@ -39,10 +43,6 @@ native_with which formals props = built (Native which) function_prototype ((leng
 abbrev pub native : BuiltIn → ℕ → Object
 native which formals = native_with which formals []
 
--- a function that an object holds: its name there, which it is, and its number of formals
-abbrev pub Method : Type 0
-Method = List ℕ × BuiltIn × ℕ
-
 abbrev pub method_of : Method → List ℕ × Prop
 method_of m = method m.0 m.1
 
@@ -56,120 +56,11 @@ methods ms = map method_of ms
 abbrev pub natives : List Method → List Object
 natives ms = map native_of ms
 
--- 15.2.4
-abbrev pub object_prototype_functions : List Method
-object_prototype_functions =
-    (codes "toString", built_in.ObjectPrototypeToString, 0)
-    ∷ (codes "valueOf", built_in.ObjectPrototypeValueOf, 0)
-    ∷ (codes "hasOwnProperty", built_in.ObjectPrototypeHasOwnProperty, 1)
-    ∷ (codes "isPrototypeOf", built_in.ObjectPrototypeIsPrototypeOf, 1)
-    ∷ (codes "propertyIsEnumerable", built_in.ObjectPrototypePropertyIsEnumerable, 1) ∷ []
-
--- 15.2.3
-abbrev pub object_functions : List Method
-object_functions =
-    (codes "getPrototypeOf", built_in.ObjectGetPrototypeOf, 1)
-    ∷ (codes "getOwnPropertyDescriptor", built_in.ObjectGetOwnPropertyDescriptor, 2)
-    ∷ (codes "getOwnPropertyNames", built_in.ObjectGetOwnPropertyNames, 1)
-    ∷ (codes "create", built_in.ObjectCreate, 2)
-    ∷ (codes "defineProperty", built_in.ObjectDefineProperty, 3)
-    ∷ (codes "defineProperties", built_in.ObjectDefineProperties, 2)
-    ∷ (codes "seal", built_in.ObjectSeal, 1)
-    ∷ (codes "freeze", built_in.ObjectFreeze, 1)
-    ∷ (codes "preventExtensions", built_in.ObjectPreventExtensions, 1)
-    ∷ (codes "isSealed", built_in.ObjectIsSealed, 1)
-    ∷ (codes "isFrozen", built_in.ObjectIsFrozen, 1)
-    ∷ (codes "isExtensible", built_in.ObjectIsExtensible, 1)
-    ∷ (codes "keys", built_in.ObjectKeys, 1) ∷ []
-
--- 15.3.4
-abbrev pub function_prototype_functions : List Method
-function_prototype_functions =
-    (codes "call", built_in.FunctionPrototypeCall, 1)
-    ∷ (codes "apply", built_in.FunctionPrototypeApply, 2)
-    ∷ (codes "bind", built_in.FunctionPrototypeBind, 1) ∷ []
-
--- 15.4.4
-abbrev pub array_prototype_functions : List Method
-array_prototype_functions =
-    (codes "toString", built_in.ArrayPrototypeToString, 0)
-    ∷ (codes "concat", built_in.ArrayPrototypeConcat, 1)
-    ∷ (codes "join", built_in.ArrayPrototypeJoin, 1)
-    ∷ (codes "pop", built_in.ArrayPrototypePop, 0)
-    ∷ (codes "push", built_in.ArrayPrototypePush, 1)
-    ∷ (codes "reverse", built_in.ArrayPrototypeReverse, 0)
-    ∷ (codes "shift", built_in.ArrayPrototypeShift, 0)
-    ∷ (codes "slice", built_in.ArrayPrototypeSlice, 2)
-    ∷ (codes "splice", built_in.ArrayPrototypeSplice, 2)
-    ∷ (codes "unshift", built_in.ArrayPrototypeUnshift, 1)
-    ∷ (codes "indexOf", built_in.ArrayPrototypeIndexOf, 1)
-    ∷ (codes "lastIndexOf", built_in.ArrayPrototypeLastIndexOf, 1)
-    ∷ (codes "every", built_in.ArrayPrototypeEvery, 1)
-    ∷ (codes "some", built_in.ArrayPrototypeSome, 1)
-    ∷ (codes "forEach", built_in.ArrayPrototypeForEach, 1)
-    ∷ (codes "map", built_in.ArrayPrototypeMap, 1)
-    ∷ (codes "filter", built_in.ArrayPrototypeFilter, 1)
-    ∷ (codes "reduce", built_in.ArrayPrototypeReduce, 1) ∷ []
-
--- 15.4.3
-abbrev pub array_functions : List Method
-array_functions = (codes "isArray", built_in.ArrayIsArray, 1) ∷ []
-
--- 15.5.4
-abbrev pub string_prototype_functions : List Method
-string_prototype_functions =
-    (codes "toString", built_in.StringPrototypeToString, 0)
-    ∷ (codes "valueOf", built_in.StringPrototypeValueOf, 0)
-    ∷ (codes "charAt", built_in.StringPrototypeCharAt, 1)
-    ∷ (codes "charCodeAt", built_in.StringPrototypeCharCodeAt, 1)
-    ∷ (codes "concat", built_in.StringPrototypeConcat, 1)
-    ∷ (codes "indexOf", built_in.StringPrototypeIndexOf, 1)
-    ∷ (codes "lastIndexOf", built_in.StringPrototypeLastIndexOf, 1)
-    ∷ (codes "slice", built_in.StringPrototypeSlice, 2)
-    ∷ (codes "split", built_in.StringPrototypeSplit, 2)
-    ∷ (codes "substring", built_in.StringPrototypeSubstring, 2)
-    ∷ (codes "toLowerCase", built_in.StringPrototypeToLowerCase, 0)
-    ∷ (codes "toUpperCase", built_in.StringPrototypeToUpperCase, 0)
-    ∷ (codes "trim", built_in.StringPrototypeTrim, 0) ∷ []
-
--- 15.5.3
-abbrev pub string_functions : List Method
-string_functions = (codes "fromCharCode", built_in.StringFromCharCode, 1) ∷ []
-
--- 15.7.4
-abbrev pub number_prototype_functions : List Method
-number_prototype_functions =
-    (codes "toString", built_in.NumberPrototypeToString, 1)
-    ∷ (codes "valueOf", built_in.NumberPrototypeValueOf, 0) ∷ []
-
--- 15.6.4
-abbrev pub boolean_prototype_functions : List Method
-boolean_prototype_functions =
-    (codes "toString", built_in.BooleanPrototypeToString, 0)
-    ∷ (codes "valueOf", built_in.BooleanPrototypeValueOf, 0) ∷ []
-
--- 15.8.2
-abbrev pub math_functions : List Method
-math_functions =
-    (codes "abs", built_in.MathAbs, 1)
-    ∷ (codes "ceil", built_in.MathCeil, 1)
-    ∷ (codes "floor", built_in.MathFloor, 1)
-    ∷ (codes "max", built_in.MathMax, 2)
-    ∷ (codes "min", built_in.MathMin, 2)
-    ∷ (codes "pow", built_in.MathPow, 2)
-    ∷ (codes "round", built_in.MathRound, 1) ∷ []
-
-abbrev pub console_functions : List Method
-console_functions = (codes "log", built_in.ConsoleLog, 0) ∷ []
-
--- 15.1.2
-abbrev pub global_functions : List Method
-global_functions = (codes "isNaN", built_in.IsNaN, 1) ∷ (codes "isFinite", built_in.IsFinite, 1) ∷ (codes "parseInt", built_in.ParseInt, 2) ∷ []
-
 -- the properties of the global object (15.1): the host's, the constructors and Math, the errors, and the rest
 abbrev pub global_host : Props
 global_host =
-    (codes "window", fixed (value.Object window)) ∷ (codes "console", hidden (value.Object (at_place console_place))) ∷ method (codes "alert") built_in.Alert ∷ []
+    (codes "window", fixed (value.Object window)) ∷ (codes "document", fixed (value.Object document)) ∷ (codes "console", hidden (value.Object (at_place console_place)))
+    ∷ method (codes "alert") built_in.Alert ∷ methods timer_functions
 
 abbrev pub global_constructors : Props
 global_constructors =
@@ -188,11 +79,18 @@ global_errors =
     ∷ method (codes "RangeError") built_in.RangeError
     ∷ method (codes "ReferenceError") built_in.ReferenceError ∷ []
 
+abbrev pub global_nodes : Props
+global_nodes = method (codes "Node") built_in.Node ∷ method (codes "Event") built_in.Event ∷ []
+
 abbrev pub global_values : Props
 global_values = (codes "undefined", fixed value.Undefined) ∷ (codes "NaN", fixed (value.Num nan)) ∷ []
 
 abbrev pub global_props : Props
-global_props = global_host ++ (global_constructors ++ (global_errors ++ (methods global_functions ++ global_values)))
+global_props = global_host ++ (global_constructors ++ (global_errors ++ (global_nodes ++ (methods global_functions ++ global_values))))
+
+-- how many properties the global object begins with. It does not unfold.
+unfoldable pub built_in_globals : ℕ
+built_in_globals = length global_props
 
 abbrev pub object_prototype_props : Props
 object_prototype_props = constructor_is built_in.Object ∷ methods object_prototype_functions
@@ -216,6 +114,10 @@ constructor which p own = native_with which 1 (prototype_is p ∷ methods own)
 abbrev pub constructor_built_ins : BuiltIn → ObjId → Object → List Method → List Method → List Object
 constructor_built_ins which p prototype inherited own = constructor which p own ∷ prototype ∷ (natives inherited ++ natives own)
 
+-- one with so many formals, which has no functions of its own
+abbrev pub constructor_built_ins_of : ℕ → BuiltIn → ObjId → Object → List Method → List Object
+constructor_built_ins_of formals which p prototype inherited = native_with which formals (prototype_is p ∷ []) ∷ prototype ∷ natives inherited
+
 -- a constructor whose prototype is an ordinary object
 abbrev pub value_prototype : BuiltIn → List Method → Object
 value_prototype which inherited = built Plain object_prototype (constructor_is which ∷ methods inherited)
@@ -235,7 +137,7 @@ root_objects =
     ∷ built (Native built_in.FunctionPrototype) object_prototype function_prototype_props ∷ []
 
 abbrev pub host_built_ins : List Object
-host_built_ins = built Plain object_prototype (methods console_functions) ∷ (natives console_functions ++ native built_in.Alert 1 ∷ [])
+host_built_ins = built Plain object_prototype (methods console_functions) ∷ (natives console_functions ++ native built_in.Alert 1 ∷ natives timer_functions)
 
 -- `Object`, `Function` and what their prototypes and they hold; the prototypes stand before
 abbrev pub object_built_ins : List Object
@@ -267,6 +169,15 @@ error_built_ins =
     ++ (error_pair built_in.RangeError kind.Range (error_prototype kind.Plain)
     ++ error_pair built_in.ReferenceError kind.Reference (error_prototype kind.Plain)))
 
+-- the prototypes of nodes and events have no `constructor`
+abbrev pub host_prototype : List Method → Object
+host_prototype inherited = built Plain object_prototype (methods inherited)
+
+abbrev pub node_built_ins : List Object
+node_built_ins =
+    constructor_built_ins_of 0 built_in.Node node_prototype (host_prototype node_prototype_functions) node_prototype_functions
+    ++ constructor_built_ins_of 0 built_in.Event event_prototype (host_prototype event_prototype_functions) event_prototype_functions
+
 -- what the walk meets, in its order
 abbrev pub first_built_ins : List Object
 first_built_ins = root_objects ++ (host_built_ins ++ (object_built_ins ++ function_built_ins))
@@ -275,7 +186,17 @@ abbrev pub value_kinds : List Object
 value_kinds = array_built_ins ++ (string_built_ins ++ (number_built_ins ++ (boolean_built_ins ++ math_built_ins)))
 
 abbrev pub built_ins : List Object
-built_ins = first_built_ins ++ (value_kinds ++ (error_built_ins ++ natives global_functions))
+built_ins = first_built_ins ++ (value_kinds ++ (error_built_ins ++ (node_built_ins ++ natives global_functions)))
 
-abbrev pub pristine : Store
-pristine = record { heap = record { objects = built_ins; environments = [] }; lines = [] }
+-- an object for each node, in the order of the nodes; that of the document is the first after the built-in ones
+abbrev pub node_objects : ℕ → Nodes → List Object
+node_objects k [] = []
+node_objects k (n ∷ ns) = new_object (Node (record { 0 = k })) (Some node_prototype) ∷ node_objects (suc k) ns
+
+abbrev pub places_from : ℕ → Nodes → List ObjId
+places_from k [] = []
+places_from k (n ∷ ns) = at_place k ∷ places_from (suc k) ns
+
+-- a page before its scripts, with these nodes
+abbrev pub pristine : Nodes → Store
+pristine t = silent (record { objects = built_ins ++ node_objects 0 t; environments = [] }) (new_host t (places_from built_in_count t))

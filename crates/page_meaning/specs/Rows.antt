@@ -13,6 +13,9 @@ use Rattle.page_meaning.specs.Act.{Act, Calls, bind, done, also, asking}
 use Rattle.page_meaning.specs.Convert.{text_in, to_text}
 use Rattle.page_meaning.specs.Elements.{length_of, on_list}
 use Rattle.page_meaning.specs.Errors.{raise}
+use Rattle.page_meaning.specs.Dispatch.{dispatch_row}
+use Rattle.page_meaning.specs.NodeRows.{node_row}
+use Rattle.page_meaning.specs.TimerRows.{timer_row}
 use Rattle.page_meaning.specs.FunctionRows.{apply_function, bind_function, call_function, list_text}
 use Rattle.page_meaning.specs.Lines.{log_text, log_texts}
 use Rattle.page_meaning.specs.ListRows as list
@@ -23,7 +26,7 @@ use Rattle.page_meaning.specs.TextRows.{text_row}
 use Rattle.page_meaning.specs.ValueRows.{error_from, is_array, list_from, truth_from, truth_itself, truth_text}
 use Rattle.page_meaning.specs.VisitRows.{visit_row}
 
--- at once, on objects and values: whether it is constructed, which it is, `this` and the arguments. What is not built yet is not there to be called
+-- at once, on objects and values: whether it is constructed, which it is, `this` and the arguments
 abbrev pub object_row : Calls → Bool → BuiltIn → Value → List Value → Act
 object_row calls construct built_in.Alert this vs = bind (put_line Alert (λ s. log_text s (argument vs 0))) (λ _. done)
 object_row calls construct built_in.ConsoleLog this vs = bind (put_line Log (log_texts vs)) (λ _. done)
@@ -56,6 +59,9 @@ object_row calls construct built_in.Error this vs = error_from calls kind.Plain 
 object_row calls construct built_in.TypeError this vs = error_from calls kind.Type (argument vs 0)
 object_row calls construct built_in.RangeError this vs = error_from calls kind.Range (argument vs 0)
 object_row calls construct built_in.ReferenceError this vs = error_from calls kind.Reference (argument vs 0)
+object_row calls construct built_in.Function this vs = raise WrongArgument
+object_row calls construct built_in.Node this vs = raise WrongArgument
+object_row calls construct built_in.Event this vs = raise WrongArgument
 object_row calls construct which this vs = raise WrongArgument
 
 -- by a call of another function, or it makes one
@@ -84,7 +90,7 @@ list_row_on calls which vs at n = raise WrongArgument
 abbrev pub list_row : Calls → BuiltIn → Value → List Value → Act
 list_row calls which this vs = on_list this (λ at. asking (length_of at) (list_row_on calls which vs at))
 
--- the family of a built-in function
+-- the family of a built-in function, told here alone
 abbrev pub row_family : BuiltIn → RowFamily
 row_family built_in.FunctionPrototypeCall = family.Function
 row_family built_in.FunctionPrototypeApply = family.Function
@@ -135,7 +141,65 @@ row_family built_in.MathMax = family.Text
 row_family built_in.MathMin = family.Text
 row_family built_in.MathPow = family.Text
 row_family built_in.MathRound = family.Text
-row_family which = family.Object
+row_family built_in.NodePrototypeInsertBefore = family.Node
+row_family built_in.NodePrototypeReplaceChild = family.Node
+row_family built_in.NodePrototypeRemoveChild = family.Node
+row_family built_in.NodePrototypeAppendChild = family.Node
+row_family built_in.NodePrototypeHasChildNodes = family.Node
+row_family built_in.NodePrototypeGetAttribute = family.Node
+row_family built_in.NodePrototypeSetAttribute = family.Node
+row_family built_in.NodePrototypeRemoveAttribute = family.Node
+row_family built_in.NodePrototypeHasAttribute = family.Node
+row_family built_in.NodePrototypeAddEventListener = family.Node
+row_family built_in.NodePrototypeRemoveEventListener = family.Node
+row_family built_in.NodePrototypeDispatchEvent = family.Dispatch
+row_family built_in.NodePrototypeGetElementById = family.Node
+row_family built_in.NodePrototypeCreateElement = family.Node
+row_family built_in.NodePrototypeCreateTextNode = family.Node
+row_family built_in.NodePrototypeCreateComment = family.Node
+row_family built_in.NodePrototypeCreateEvent = family.Node
+row_family built_in.EventPrototypeInitEvent = family.Node
+row_family built_in.EventPrototypeStopPropagation = family.Node
+row_family built_in.EventPrototypePreventDefault = family.Node
+row_family built_in.SetTimeout = family.Timer
+row_family built_in.SetInterval = family.Timer
+row_family built_in.SetIntervalFrom = family.Timer
+row_family built_in.ClearTimeout = family.Timer
+row_family built_in.ClearInterval = family.Timer
+row_family built_in.Alert = family.Object
+row_family built_in.ConsoleLog = family.Object
+row_family built_in.Object = family.Object
+row_family built_in.ObjectGetPrototypeOf = family.Object
+row_family built_in.ObjectGetOwnPropertyDescriptor = family.Object
+row_family built_in.ObjectGetOwnPropertyNames = family.Object
+row_family built_in.ObjectCreate = family.Object
+row_family built_in.ObjectDefineProperty = family.Object
+row_family built_in.ObjectDefineProperties = family.Object
+row_family built_in.ObjectSeal = family.Object
+row_family built_in.ObjectFreeze = family.Object
+row_family built_in.ObjectPreventExtensions = family.Object
+row_family built_in.ObjectIsSealed = family.Object
+row_family built_in.ObjectIsFrozen = family.Object
+row_family built_in.ObjectIsExtensible = family.Object
+row_family built_in.ObjectKeys = family.Object
+row_family built_in.ObjectPrototypeToString = family.Object
+row_family built_in.ObjectPrototypeValueOf = family.Object
+row_family built_in.ObjectPrototypeHasOwnProperty = family.Object
+row_family built_in.ObjectPrototypeIsPrototypeOf = family.Object
+row_family built_in.ObjectPrototypePropertyIsEnumerable = family.Object
+row_family built_in.FunctionPrototype = family.Object
+row_family built_in.Array = family.Object
+row_family built_in.ArrayIsArray = family.Object
+row_family built_in.Boolean = family.Object
+row_family built_in.BooleanPrototypeToString = family.Object
+row_family built_in.BooleanPrototypeValueOf = family.Object
+row_family built_in.Error = family.Object
+row_family built_in.TypeError = family.Object
+row_family built_in.RangeError = family.Object
+row_family built_in.ReferenceError = family.Object
+row_family built_in.Function = family.Object
+row_family built_in.Node = family.Object
+row_family built_in.Event = family.Object
 
 abbrev pub row_in : RowFamily → Calls → Bool → BuiltIn → Value → List Value → Act
 row_in family.Object calls construct which this vs = object_row calls construct which this vs
@@ -143,6 +207,9 @@ row_in family.Function calls construct which this vs = function_row calls which 
 row_in family.List calls construct which this vs = list_row calls which this vs
 row_in family.Visit calls construct which this vs = visit_row calls which this vs
 row_in family.Text calls construct which this vs = text_row calls construct which this vs
+row_in family.Node calls construct which this vs = node_row calls which this vs
+row_in family.Timer calls construct which this vs = timer_row calls which vs
+row_in family.Dispatch calls construct which this vs = dispatch_row calls this vs
 
 -- what a built-in function does when it is called or constructed
 abbrev pub row_of : Calls → Bool → BuiltIn → Value → List Value → Act

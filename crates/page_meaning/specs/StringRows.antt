@@ -12,7 +12,7 @@ use Rattle.page_meaning.specs.Act.{Act, Calls, give, also, choose, ◌>>=◌}
 use Rattle.page_meaning.specs.Convert.{number_in, text_in, to_number, to_text}
 use Rattle.page_meaning.specs.Errors.{raise, settle}
 use Rattle.page_meaning.specs.ObjectRows.{new_texts}
-use Rattle.page_meaning.specs.Operators.{text_limit, text_or_long}
+use Rattle.page_host.specs.HostNames.{text_limit, text_or_long}
 
 -- `this`, which must be a text (15.5.4)
 abbrev pub on_text : Value → (List ℕ → Act) → Act

@@ -71,5 +71,5 @@ saying_fit k t = ordinary_fit Fault (Some (error_prototype k)) ((codes "message"
 
 -- with an own message, where one is given and is not undefined
 abbrev pub error_from : Calls → ErrorKind → Value → Act
-error_from calls k Undefined = bind (make (silent_error k) (silent_fit k)) object_of
-error_from calls k v = also (to_text calls v) (λ t. bind (make (error_saying k (text_in t)) (saying_fit k (text_in t))) object_of)
+error_from calls k Undefined = bind (make (silent_error k) (silent_fit k) refl) object_of
+error_from calls k v = also (to_text calls v) (λ t. bind (make (error_saying k (text_in t)) (saying_fit k (text_in t)) refl) object_of)

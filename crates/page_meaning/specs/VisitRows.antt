@@ -78,7 +78,8 @@ visit_list calls built_in.ArrayPrototypeSome at n vs = visits calls (argument vs
 visit_list calls built_in.ArrayPrototypeForEach at n vs = visits calls (argument vs 0) (argument vs 1) at visit.ForEach 0 n
 visit_list calls built_in.ArrayPrototypeMap at n vs = map_all calls (argument vs 0) (argument vs 1) at n
 visit_list calls built_in.ArrayPrototypeFilter at n vs = filter_all calls (argument vs 0) (argument vs 1) at n
-visit_list calls which at n vs = reduce calls at n vs
+visit_list calls built_in.ArrayPrototypeReduce at n vs = reduce calls at n vs
+visit_list calls which at n vs = raise WrongArgument
 
 -- what cannot be called is refused, for an empty array too
 abbrev pub visit_on : Calls → BuiltIn → List Value → ObjId → Act

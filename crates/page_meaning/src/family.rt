@@ -13,4 +13,10 @@ pub enum RowFamily {
     Visit,
     /// At once, on texts and numbers.
     Text,
+    /// At once, on nodes and events.
+    Node,
+    /// At once, on timers.
+    Timer,
+    /// By the calls of listeners.
+    Dispatch,
 }

@@ -1,10 +1,8 @@
 //! What holds of the meaning.
 
+ghost use Rattle.js_values.specs.declared.built_in.BuiltIn.{BuiltIn};
+ghost use Rattle.page_meaning.specs.Ages.{AreByAge, AreCounted, IsPlaced};
 ghost use Rattle.page_meaning.specs.Laws.{KeepsKinds, LinesGrow, LoadsSound, StaysSound, TasksKeep};
-ghost use Rattle.page_meaning.specs.Worked.{PutOut};
-ghost use Rattle.page_meaning.specs.WorkedExpressions as expressions;
-ghost use Rattle.page_meaning.specs.WorkedObjects as made;
-ghost use Rattle.page_meaning.specs.WorkedStatements as statements;
 
 /// Whatever a task does, steps fall, lines stay, and the heap changes by its own calls alone.
 #[tactic(auto, using(crate::proofs::Keeping::tasks_keep))]
@@ -26,27 +24,10 @@ pub fn law_heaps_stay_sound()
     ensures loaded { LoadsSound }
 {}
 
-/// The worked scripts on expressions, objects and functions put out the lines that the rules give them.
-#[tactic(auto, using(crate::proofs::Worked::references_put_out, crate::proofs::Worked::operators_put_out, crate::proofs::Worked::objects_put_out, crate::proofs::Worked::functions_put_out))]
-pub fn law_worked_expressions()
-    ensures references { PutOut expressions.references }
-    ensures operators { PutOut expressions.operators }
-    ensures objects { PutOut expressions.objects }
-    ensures functions { PutOut expressions.functions }
-{}
-
-/// The worked scripts on statements and declarations put out the lines that the rules give them.
-#[tactic(auto, using(crate::proofs::Worked::loops_put_out, crate::proofs::Worked::exceptions_put_out, crate::proofs::Worked::switches_put_out, crate::proofs::Worked::declarations_put_out))]
-pub fn law_worked_statements()
-    ensures loops { PutOut statements.loops }
-    ensures exceptions { PutOut statements.exceptions }
-    ensures switches { PutOut statements.switches }
-    ensures declarations { PutOut statements.declarations }
-{}
-
-/// The worked scripts on `Object`, arrays and errors that are made put out the lines that the rules give them.
-#[tactic(auto, using(crate::proofs::Worked::made_objects_put_out, crate::proofs::Worked::constructors_put_out))]
-pub fn law_worked_objects()
-    ensures objects { PutOut made.objects }
-    ensures constructors { PutOut made.constructors }
+/// Each built-in function is at its place, the built-in objects are by age, and the document's object is the first after them.
+#[tactic(auto, using(crate::proofs::Ages::functions_placed, crate::proofs::Ages::ages_walked, crate::proofs::Ages::built_ins_counted))]
+pub fn law_built_ins_by_age()
+    ensures placed { (which : BuiltIn) → IsPlaced which }
+    ensures walked { AreByAge }
+    ensures counted { AreCounted }
 {}

@@ -9,10 +9,7 @@ mod signal;
 mod visit;
 
 pub use family::RowFamily;
-pub use laws::{
-    law_heaps_stay_sound, law_lines_grow, law_tasks_keep, law_worked_expressions,
-    law_worked_objects, law_worked_statements,
-};
+pub use laws::{law_built_ins_by_age, law_heaps_stay_sound, law_lines_grow, law_tasks_keep};
 pub use reference::Reference;
 pub use signal::Signal;
 pub use visit::Visit;

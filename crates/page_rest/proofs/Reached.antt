@@ -17,8 +17,9 @@ use Rattle.object_heap.specs.Object.{Object}
 use Rattle.object_heap.specs.Property.{Props}
 use Rattle.object_heap.specs.declared.object.Class.{Class}
 use Rattle.object_heap.specs.declared.object.Class.TheVariants as class
-use Rattle.object_shapes.specs.Links.{built_in_count, made_links, parts_links, props_links, proto_links, value_links}
-use Rattle.object_shapes.specs.Shapes.{built_in_globals}
+use Rattle.page_meaning.specs.Places.{built_in_count}
+use Rattle.object_shapes.specs.Links.{made_links, parts_links, props_links, proto_links, value_links}
+use Rattle.page_meaning.specs.Pristine.{built_in_globals}
 use Rattle.page_meaning.specs.Places.{window}
 use Rattle.page_meaning.specs.Store.{Store}
 use Rattle.scope_analysis.specs.Needs.{needed_variables}

@@ -62,9 +62,9 @@ pub refused : (m : ActOf (Option Throw)) (next : Act) (what : Throw) (s t u : St
 refused m next what s t u (fault.Cause v) d r = record { is = λ c n. rw (d.is c n) (r.is c n) }
 refused m next what s t u fault.OutOfMemory d r = tt
 
-pub raised : (what : Throw) (at : ObjId) (s t : Store) → Does (λ _. make (error_object what) (error_fit what)) s at t → Does (λ _. raise what) s (Thrown (Object at)) t
+pub raised : (what : Throw) (at : ObjId) (s t : Store) → Does (λ _. make (error_object what) (error_fit what) refl) s at t → Does (λ _. raise what) s (Thrown (Object at)) t
 raised what at s t d =
-    bind_does (λ _. make (error_object what) (error_fit what)) (λ _ k. ret (Thrown (Object k))) at (Thrown (Object at)) s t t d (record { is = λ c n. refl })
+    bind_does (λ _. make (error_object what) (error_fit what) refl) (λ _ k. ret (Thrown (Object k))) at (Thrown (Object at)) s t t d (record { is = λ c n. refl })
 
 -- what comes before threw, and its fault is handed on
 pub failed : {B : Type 0} (m : Calls → Act) (k : Calls → Value → Act) (f : B → Value) (s t : Store) (e : Failure Value) (r : Result B (Failure Value))
@@ -76,5 +76,5 @@ pub asked_raises : {A : Type 0} (h : Store → A) (k : Calls → A → Act) (s t
 asked_raises h k s t (fault.Cause v) d = record { is = λ c n. d.is c n }
 asked_raises h k s t fault.OutOfMemory d = tt
 
-pub told_property : (base : Value) (x : List ℕ) (s : Store) (v : Value) → v ≡ property_of s base x → Does (λ _. read_property base x) s (Val v) s
+pub told_property : (base : Value) (x : List ℕ) (s : Store) (v : Value) → Ok v ≡ property_of s base x → Does (λ _. read_property base x) s (Val v) s
 told_property base x s v e = record { is = λ c n. rw e refl }

@@ -6,7 +6,8 @@ use Rattle.js_values.specs.declared.value.Value.TheVariants.{Text}
 use Rattle.whole_ops.specs.Arithmetic.{whole_add}
 use Rattle.page_meaning.specs.Convert.{as_number, text_of}
 use Rattle.page_meaning.specs.Errors.{settle}
-use Rattle.page_meaning.specs.Operators.{as_numbers, sum_of, text_or_long}
+use Rattle.page_meaning.specs.Operators.{as_numbers, sum_of}
+use Rattle.page_host.specs.HostNames.{text_or_long}
 use Rattle.page_state.specs.Operating.{is_text}
 
 test_both : (a b n : ℕ) → a ≤ n → nat_le b (n - a) ≡ nat_le (a + b) n

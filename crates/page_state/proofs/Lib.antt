@@ -4,7 +4,7 @@ pub mod Callers
 pub mod Chains
 pub mod Does
 pub mod Entering
-pub mod FunctionTables
+pub mod Finding
 pub mod InTurn
 pub mod Joined
 pub mod LineTexts
@@ -16,4 +16,3 @@ pub mod Taking
 pub mod TopNames
 pub mod Values
 pub mod Visits
-pub mod Youngest

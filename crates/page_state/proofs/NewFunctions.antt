@@ -17,7 +17,8 @@ use Rattle.page_meaning.specs.Calls.{build, built, object_or}
 use Rattle.page_meaning.specs.Functions.{close_over, enter, make_function, object_of}
 use Rattle.page_meaning.specs.Places.{object_prototype}
 use Rattle.page_meaning.specs.Primitives.{bind_name, make, make_environment}
-use Rattle.page_meaning.specs.Properties.{property_of}
+use Rattle.page_host.specs.HostNames.{host_name}
+use Rattle.page_meaning.specs.Reading.{get_at}
 use Rattle.page_meaning.specs.Statements.{exec_all}
 use Rattle.page_meaning.specs.Store.{Store}
 use Rattle.page_state.specs.Does.{Does}
@@ -56,15 +57,21 @@ closed_named c env x names e k s t u v one made new bound =
 
 -- ---- what a construction begins with
 
-pub fresh_made : (f : Value) (name : List ℕ) (found : Value) (p : ObjId) (s t : Store) (r : Result ObjId OutOfMemory) → name ≡ codes "prototype" → found ≡ property_of s f name → p ≡ object_or object_prototype found
-    → IfOk r (λ at. Does (λ _. make (new_object Plain (Some p)) (new_fit Plain (Some p))) s at t) → IfOk r (λ at. Does (λ _. fresh_for f) s at t)
+pub fresh_made : (f : ObjId) (name : List ℕ) (found : Value) (p : ObjId) (s t : Store) (r : Result ObjId OutOfMemory) → name ≡ codes "prototype" → found ≡ get_at s f name → p ≡ object_or object_prototype found
+    → IfOk r (λ at. Does (λ _. make (new_object Plain (Some p)) (new_fit Plain (Some p)) refl) s at t) → IfOk r (λ at. Does (λ _. fresh_for f) s at t)
 fresh_made f name found p s t (Ok at) named read is d =
-    let P : ObjId → Type 0 = λ q. Does (λ _. make (new_object Plain (Some q)) (new_fit Plain (Some q))) s at t in
-    let proto : p ≡ object_or object_prototype (property_of s f (codes "prototype")) = is ∙ ap (object_or object_prototype) (read ∙ ap (property_of s f) named) in
-    asked_does (λ s. object_or object_prototype (property_of s f (codes "prototype"))) (λ _ q. make (new_object Plain (Some q)) (new_fit Plain (Some q))) at s t (subst P proto d)
+    let P : ObjId → Type 0 = λ q. Does (λ _. make (new_object Plain (Some q)) (new_fit Plain (Some q)) refl) s at t in
+    let proto : p ≡ object_or object_prototype (get_at s f (codes "prototype")) = is ∙ ap (object_or object_prototype) (read ∙ ap (get_at s f) named) in
+    asked_does (λ s. object_or object_prototype (get_at s f (codes "prototype"))) (λ _ q. make (new_object Plain (Some q)) (new_fit Plain (Some q)) refl) at s t (subst P proto d)
 fresh_made f name found p s t (Err e) named read is d = tt
 
+-- no host name is called so
+prototype_no_host : host_name (codes "prototype") ≡ None
+unfolding host_name
+prototype_no_host = refl
+
 -- once the object is made, a construction is the call on it
-pub build_goes : (calls : Calls) (f : Value) (c : tree.Code) (env : Option EnvId) (vs : List Value) (o : ObjId) (s t : Store) (n : ℕ) → Does (λ _. fresh_for f) s o t
-    → (build calls f c env vs).run s n ≡ (also (enter (exec_all calls) c env (Object o) vs) (λ v. give (built o v))).run t n
-build_goes calls f c env vs o s t n d = ap (λ (m : Outcome ObjId). then_on m (λ o. also (enter (exec_all calls) c env (Object o) vs) (λ v. give (built o v)))) (d.is calls n)
+pub build_goes : (calls : Calls) (f : ObjId) (c : tree.Code) (env : Option EnvId) (vs : List Value) (o : ObjId) (s t : Store) (n : ℕ) → Does (λ _. fresh_for f) s o t
+    → (build calls (Object f) c env vs).run s n ≡ (also (enter (exec_all calls) c env (Object o) vs) (λ v. give (built o v))).run t n
+build_goes calls f c env vs o s t n d =
+    rw prototype_no_host (ap (λ (m : Outcome ObjId). then_on m (λ o. also (enter (exec_all calls) c env (Object o) vs) (λ v. give (built o v)))) (d.is calls n))

@@ -14,7 +14,7 @@ use Rattle.page_meaning.specs.declared.signal.Signal.{Signal}
 use Rattle.page_meaning.specs.declared.signal.Signal.TheVariants.{Value as Val, Thrown, Return, Break, Continue}
 use Rattle.page_meaning.specs.Act.{Act, Ended, Outcome, Stopped, also, asking, done, nothing, on_value, then_on}
 use Rattle.page_meaning.specs.Errors.{raise}
-use Rattle.page_meaning.specs.Functions.{Declared, declare_globals, define_global, function_place, function_steps, global_variables, make_function, own_global, script_property, variable_place}
+use Rattle.page_meaning.specs.Functions.{Declared, declare_globals, define_global, take_function, function_steps, global_variables, make_function, own_global, script_property, take_variable}
 use Rattle.page_meaning.specs.Places.{window}
 use Rattle.page_meaning.specs.Primitives.{define_at, next_place}
 use Rattle.page_meaning.specs.Properties.{put_in}
@@ -57,7 +57,7 @@ global_then (None, c) next s n = refl
 global_then (Some x, c) next s n = at_named (next_place s.heap) (with_heap s (after_steps s.heap (function_steps c None (length s.heap.objects))))
   where
     at_named : (k : ObjId) (t : Store) → (also (named_global x k done) (λ _. next)).run t n ≡ (named_global x k next).run t n
-    at_named k t = also_done ((asking (own_global x) (function_place x)).run t n) (put_in window x (Object k)) next
+    at_named k t = also_done ((asking (own_global x) (take_function x)).run t n) (put_in window x (Object k)) next
 
 global_first : (d : Option (List ℕ) × tree.Code) (ds : Declared) → declare_globals (d ∷ ds) ≡ declared_global d (declare_globals ds)
 global_first (None, c) ds = refl
@@ -98,53 +98,53 @@ global_named (Some y, b) x c k s t u r named is made put =
 -- ---- where a function is put
 
 module _ (x : List ℕ) (k : ObjId) where
-  pub no_place : (s t : Store) (e : Failure Value) (r : Result (Unit {0}) (Failure Value)) → Raises (λ _. asking (own_global x) (function_place x)) s t e → IsErr r × IsErrAnd r (λ d. d ≡ e) → Gives no_value (λ _. named_global x k done) s t r
-  no_place s t e r d h = failed (λ _. asking (own_global x) (function_place x)) (λ _ _. also (put_in window x (Object k)) (λ _. done)) no_value s t e r d h
+  pub no_place : (s t : Store) (e : Failure Value) (r : Result (Unit {0}) (Failure Value)) → Raises (λ _. asking (own_global x) (take_function x)) s t e → IsErr r × IsErrAnd r (λ d. d ≡ e) → Gives no_value (λ _. named_global x k done) s t r
+  no_place s t e r d h = failed (λ _. asking (own_global x) (take_function x)) (λ _ _. also (put_in window x (Object k)) (λ _. done)) no_value s t e r d h
 
-  pub not_put : (s t u : Store) (e : Failure Value) (r : Result (Unit {0}) (Failure Value)) → Does (λ _. asking (own_global x) (function_place x)) s nothing t → Raises (λ _. put_in window x (Object k)) t u e → IsErr r × IsErrAnd r (λ d. d ≡ e)
+  pub not_put : (s t u : Store) (e : Failure Value) (r : Result (Unit {0}) (Failure Value)) → Does (λ _. asking (own_global x) (take_function x)) s nothing t → Raises (λ _. put_in window x (Object k)) t u e → IsErr r × IsErrAnd r (λ d. d ≡ e)
       → Gives no_value (λ _. named_global x k done) s u r
   not_put s t u e r placed d h =
-      also_gives (λ _. asking (own_global x) (function_place x)) (λ _ _. also (put_in window x (Object k)) (λ _. done)) no_value Undefined s t u r placed
+      also_gives (λ _. asking (own_global x) (take_function x)) (λ _ _. also (put_in window x (Object k)) (λ _. done)) no_value Undefined s t u r placed
       (failed (λ _. put_in window x (Object k)) (λ _ _. done) no_value t u e r d h)
 
-  pub put_there : (s t u : Store) (v : Value) → Does (λ _. asking (own_global x) (function_place x)) s nothing t → Does (λ _. put_in window x (Object k)) t (Val v) u → Gives no_value (λ _. named_global x k done) s u (Ok tt)
+  pub put_there : (s t u : Store) (v : Value) → Does (λ _. asking (own_global x) (take_function x)) s nothing t → Does (λ _. put_in window x (Object k)) t (Val v) u → Gives no_value (λ _. named_global x k done) s u (Ok tt)
   put_there s t u v placed put =
-      also_gives (λ _. asking (own_global x) (function_place x)) (λ _ _. also (put_in window x (Object k)) (λ _. done)) no_value Undefined s t u (Ok tt) placed
+      also_gives (λ _. asking (own_global x) (take_function x)) (λ _ _. also (put_in window x (Object k)) (λ _. done)) no_value Undefined s t u (Ok tt) placed
       (also_gives (λ _. put_in window x (Object k)) (λ _ _. done) no_value v t u u (Ok tt) put (record { is = λ c n. refl }))
 
 -- ---- the place of a name
 
 module _ (x : List ℕ) (s t : Store) (r : Result (Unit {0}) (Failure Value)) where
-  place_as : (o : Option Prop) (next : Act) → o ≡ own_global x s → function_place x o ≡ next → Gives no_value (λ _. next) s t r → Gives no_value (λ _. asking (own_global x) (function_place x)) s t r
+  place_as : (o : Option Prop) (next : Act) → o ≡ own_global x s → take_function x o ≡ next → Gives no_value (λ _. next) s t r → Gives no_value (λ _. asking (own_global x) (take_function x)) s t r
   place_as o next is e g =
       let P : Act → Type 0 = λ a. Gives no_value (λ _. a) s t r in
-      asked_gives (own_global x) (λ _. function_place x) no_value s t r (subst P (sym e ∙ ap (function_place x) is) g)
+      asked_gives (own_global x) (λ _. take_function x) no_value s t r (subst P (sym e ∙ ap (take_function x) is) g)
 
-  pub place_taken : (o : Option Prop) → o ≡ own_global x s → true ≡ takes_place o → Gives no_value (λ _. define_global x) s t r → Gives no_value (λ _. asking (own_global x) (function_place x)) s t r
+  pub place_taken : (o : Option Prop) → o ≡ own_global x s → true ≡ takes_place o → Gives no_value (λ _. define_global x) s t r → Gives no_value (λ _. asking (own_global x) (take_function x)) s t r
   place_taken o is takes g = place_as o (define_global x) is (by_case o takes) g
     where
-      by_case : (o : Option Prop) → true ≡ takes_place o → function_place x o ≡ define_global x
+      by_case : (o : Option Prop) → true ≡ takes_place o → take_function x o ≡ define_global x
       by_case None e = refl
       by_case (Some p) e = rw (← e) refl
 
-  pub place_kept : (o : Option Prop) → o ≡ own_global x s → false ≡ takes_place o → true ≡ keeps_place o → Gives no_value (λ _. done) s t r → Gives no_value (λ _. asking (own_global x) (function_place x)) s t r
+  pub place_kept : (o : Option Prop) → o ≡ own_global x s → false ≡ takes_place o → true ≡ keeps_place o → Gives no_value (λ _. done) s t r → Gives no_value (λ _. asking (own_global x) (take_function x)) s t r
   place_kept o is takes keeps g = place_as o done is (by_case o takes keeps) g
     where
-      by_case : (o : Option Prop) → false ≡ takes_place o → true ≡ keeps_place o → function_place x o ≡ done
+      by_case : (o : Option Prop) → false ≡ takes_place o → true ≡ keeps_place o → take_function x o ≡ done
       by_case None e f = cc
       by_case (Some p) e f = rw (← e, ← f) refl
 
-  pub place_refused : (o : Option Prop) → o ≡ own_global x s → false ≡ takes_place o → false ≡ keeps_place o → Gives no_value (λ _. raise CannotDefine) s t r → Gives no_value (λ _. asking (own_global x) (function_place x)) s t r
+  pub place_refused : (o : Option Prop) → o ≡ own_global x s → false ≡ takes_place o → false ≡ keeps_place o → Gives no_value (λ _. raise CannotDefine) s t r → Gives no_value (λ _. asking (own_global x) (take_function x)) s t r
   place_refused o is takes keeps g = place_as o (raise CannotDefine) is (by_case o takes keeps) g
     where
-      by_case : (o : Option Prop) → false ≡ takes_place o → false ≡ keeps_place o → function_place x o ≡ raise CannotDefine
+      by_case : (o : Option Prop) → false ≡ takes_place o → false ≡ keeps_place o → take_function x o ≡ raise CannotDefine
       by_case None e f = cc
       by_case (Some p) e f = rw (← e, ← f) refl
 
-  pub variable_placed : None ≡ own_global x s → Gives no_value (λ _. define_global x) s t r → Gives no_value (λ _. asking (own_global x) (variable_place x)) s t r
+  pub variable_placed : None ≡ own_global x s → Gives no_value (λ _. define_global x) s t r → Gives no_value (λ _. asking (own_global x) (take_variable x)) s t r
   variable_placed is g =
-      let P : Option Prop → Type 0 = λ o. Gives no_value (λ _. variable_place x o) s t r in
-      asked_gives (own_global x) (λ _. variable_place x) no_value s t r (subst P is g)
+      let P : Option Prop → Type 0 = λ o. Gives no_value (λ _. take_variable x o) s t r in
+      asked_gives (own_global x) (λ _. take_variable x) no_value s t r (subst P is g)
 
 -- ---- a new property
 
@@ -163,17 +163,17 @@ not_defined x change o what s t u e is some d r =
 
 -- ---- variables
 
-pub variables_on : (x : List ℕ) (xs all : List (List ℕ)) (s t u : Store) (r : Result (Unit {0}) (Failure Value)) → all ≡ x ∷ xs → Does (λ _. asking (own_global x) (variable_place x)) s nothing t → Gives no_value (λ _. global_variables xs) t u r
+pub variables_on : (x : List ℕ) (xs all : List (List ℕ)) (s t u : Store) (r : Result (Unit {0}) (Failure Value)) → all ≡ x ∷ xs → Does (λ _. asking (own_global x) (take_variable x)) s nothing t → Gives no_value (λ _. global_variables xs) t u r
     → Gives no_value (λ _. global_variables all) s u r
 variables_on x xs all s t u r is one rest =
     let P : List (List ℕ) → Type 0 = λ a. Gives no_value (λ _. global_variables a) s u r in
-    subst P (sym is) (also_gives (λ _. asking (own_global x) (variable_place x)) (λ _ _. global_variables xs) no_value Undefined s t u r one rest)
+    subst P (sym is) (also_gives (λ _. asking (own_global x) (take_variable x)) (λ _ _. global_variables xs) no_value Undefined s t u r one rest)
 
-pub variables_end : (x : List ℕ) (xs all : List (List ℕ)) (s t : Store) (e : Failure Value) (r : Result (Unit {0}) (Failure Value)) → all ≡ x ∷ xs → Raises (λ _. asking (own_global x) (variable_place x)) s t e → IsErr r × IsErrAnd r (λ d. d ≡ e)
+pub variables_end : (x : List ℕ) (xs all : List (List ℕ)) (s t : Store) (e : Failure Value) (r : Result (Unit {0}) (Failure Value)) → all ≡ x ∷ xs → Raises (λ _. asking (own_global x) (take_variable x)) s t e → IsErr r × IsErrAnd r (λ d. d ≡ e)
     → Gives no_value (λ _. global_variables all) s t r
 variables_end x xs all s t e r is one h =
     let P : List (List ℕ) → Type 0 = λ a. Gives no_value (λ _. global_variables a) s t r in
-    subst P (sym is) (failed (λ _. asking (own_global x) (variable_place x)) (λ _ _. global_variables xs) no_value s t e r one h)
+    subst P (sym is) (failed (λ _. asking (own_global x) (take_variable x)) (λ _ _. global_variables xs) no_value s t e r one h)
 
 pub variables_none : (xs : List (List ℕ)) (s : Store) → xs ≡ [] → Gives no_value (λ _. global_variables xs) s s (Ok tt)
 variables_none xs s none = let P : List (List ℕ) → Type 0 = λ a. Does (λ _. global_variables a) s nothing s in subst P (sym none) (record { is = λ c n. refl })

@@ -6,10 +6,11 @@ use Rattle.js_values.specs.declared.throw.Throw.{Throw}
 use Rattle.js_values.specs.declared.throw.Throw.TheVariants.{CannotSet, NoPrimitive, NoProperties}
 use Rattle.js_values.specs.declared.value.Value.{Value}
 use Rattle.js_values.specs.declared.value.Value.TheVariants.{Undefined, Null, Bool as Truth, Num, Text, Object}
-use Rattle.page_meaning.specs.Act.{give}
+use Rattle.page_meaning.specs.Act.{Calls, give}
 use Rattle.page_meaning.specs.Convert.{a_number, number_of, to_number, to_primitive}
 use Rattle.page_meaning.specs.Errors.{raise, settle}
-use Rattle.page_meaning.specs.Properties.{put_member, with_properties}
+use Rattle.page_meaning.specs.HostPuts.{put_member}
+use Rattle.page_meaning.specs.Properties.{with_properties}
 use Rattle.page_meaning.specs.Store.{Store}
 use Rattle.js_core.specs.declared.memory.Failure.{Failure}
 use Rattle.page_state.specs.Does.{Raises, itself}
@@ -27,13 +28,13 @@ has_properties (Num n) h g = refl
 has_properties (Text t) h g = refl
 has_properties (Object o) h g = refl
 
-pub unset : (v : Value) (x : List ℕ) (w : Value) → ((o : ObjId) → v ≡ Object o → ⊥) → put_member v x w ≡ raise CannotSet
-unset (Object o) x w h = absurd (h o refl)
-unset Undefined x w h = refl
-unset Null x w h = refl
-unset (Truth b) x w h = refl
-unset (Num n) x w h = refl
-unset (Text t) x w h = refl
+pub unset : (calls : Calls) (v : Value) (x : List ℕ) (w : Value) → ((o : ObjId) → v ≡ Object o → ⊥) → put_member calls v x w ≡ raise CannotSet
+unset calls (Object o) x w h = absurd (h o refl)
+unset calls Undefined x w h = refl
+unset calls Null x w h = refl
+unset calls (Truth b) x w h = refl
+unset calls (Num n) x w h = refl
+unset calls (Text t) x w h = refl
 
 -- a value that has no number
 pub number_raises : (v : Value) (what : Throw) (s t : Store) (e : Failure Value) → Err what ≡ number_of v → Raises (λ _. raise what) s t e → Raises (λ calls. to_number calls v) s t e

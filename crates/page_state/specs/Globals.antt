@@ -5,13 +5,13 @@ use Rattle.js_values.specs.declared.ids.ObjId.{ObjId}
 use Rattle.js_values.specs.declared.value.Value.TheVariants.{Object}
 use Rattle.object_heap.specs.declared.property.Prop.{Prop}
 use Rattle.page_meaning.specs.Act.{Act, also, asking, bind}
-use Rattle.page_meaning.specs.Functions.{function_place, make_function, own_global}
+use Rattle.page_meaning.specs.Functions.{take_function, make_function, own_global}
 use Rattle.page_meaning.specs.Places.{window}
 use Rattle.page_meaning.specs.Properties.{put_in}
 
 -- a function that was made gets its place and is put there, before the next act
 abbrev pub named_global : List ℕ → ObjId → Act → Act
-named_global x k next = also (asking (own_global x) (function_place x)) (λ _. also (put_in window x (Object k)) (λ _. next))
+named_global x k next = also (asking (own_global x) (take_function x)) (λ _. also (put_in window x (Object k)) (λ _. next))
 
 -- a declared function is made, and gets its place, before the next act
 abbrev pub declared_global : Option (List ℕ) × tree.Code → Act → Act

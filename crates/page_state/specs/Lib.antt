@@ -1,12 +1,14 @@
-pub mod BuiltIns
 pub mod CodedStore
 pub mod Does
 pub mod Entry
+pub mod Finding
 pub mod Functions
 pub mod Globals
 pub mod LineTexts
 pub mod Listing
+pub mod Made
 pub mod Operating
 pub mod Refusals
+pub mod Sights
 pub mod Turns
 pub mod Updates

@@ -1,6 +1,6 @@
 //! How errors are thrown, as new objects (ECMA-262 5.1 section 15.11).
 
-ghost use Rattle.std.specs.Prelude.{◌≡◌, ◌∷◌, IfOk, Some, codes, pos};
+ghost use Rattle.std.specs.Prelude.{◌≡◌, ◌∷◌, IfOk, Some, codes, pos, refl};
 ghost use Rattle.js_values.specs.declared.value.Value.TheVariants as value;
 ghost use Rattle.js_values.specs.Throw.{code_of, message_of};
 ghost use Rattle.object_heap.specs.Property.{hidden};
@@ -30,8 +30,8 @@ impl State {
 
     // A new error with its own properties.
     fn make_error(&mut self, what: &Throw) -> Result<ObjId, OutOfMemory>
-        ensures { IfOk result (λ at. Does (λ _. make (error_object what.now) (error_fit what.now))
-            self.old at self.new) }
+        ensures { IfOk result (λ at. Does (λ _. make (error_object what.now)
+            (error_fit what.now) refl) self.old at self.new) }
     {
         let props = error_props(self.alloc(), what)?;
         let proto = error_prototype(what.kind());
@@ -72,7 +72,7 @@ fn error_props(alloc: Global, what: &Throw) -> Result<Properties, OutOfMemory>
 }
 
 /// A number of at most 255.
-pub(crate) fn small(n: u8) -> Whole
+pub fn small(n: u8) -> Whole
     ensures { result ≡ Some (pos n) }
 {
     match Whole::new(i64::from(n)) {
@@ -87,9 +87,9 @@ pub fn error_prototype(kind: ErrorKind) -> ObjId
     ensures { result ≡ spec_prototype kind }
 {
     match kind {
-        ErrorKind::Plain => ObjId(83),
-        ErrorKind::Type => ObjId(85),
-        ErrorKind::Range => ObjId(87),
-        ErrorKind::Reference => ObjId(89),
+        ErrorKind::Plain => ObjId(88),
+        ErrorKind::Type => ObjId(90),
+        ErrorKind::Range => ObjId(92),
+        ErrorKind::Reference => ObjId(94),
     }
 }

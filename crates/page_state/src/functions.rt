@@ -80,11 +80,11 @@ impl State {
 
     /// The object that a construction begins with: a new one of the function's `prototype`, or of that of objects where
     /// the `prototype` is none (section 13.2.2).
-    pub fn new_instance(&mut self, function: &Value) -> Result<ObjId, OutOfMemory>
-        ensures { IfOk result (λ at. Does (λ _. fresh_for function.now) self.old at self.new) }
+    pub fn new_instance(&mut self, function: ObjId) -> Result<ObjId, OutOfMemory>
+        ensures { IfOk result (λ at. Does (λ _. fresh_for function) self.old at self.new) }
     {
         let name = ascii_text(self.alloc(), b"prototype")?;
-        let found = self.read_property(function, &name)?;
+        let found = self.get_at(function, &name)?;
         self.new_object(Some(object_or(OBJECT_PROTOTYPE, &found)))
     }
 }

@@ -66,7 +66,7 @@ impl State {
     // The place is made, or is there already, or cannot be taken.
     fn place_function(&mut self, name: &Units) -> Result<(), Fault>
         ensures { Gives no_value (λ _. asking (spec.own_global name.now)
-            (spec.function_place name.now)) self.old self.new result }
+            (spec.take_function name.now)) self.old self.new result }
     {
         let own = self.own(WINDOW, name);
         if takes_place(own) {
@@ -99,7 +99,7 @@ impl State {
 
     fn place_variable(&mut self, name: &Units) -> Result<(), Fault>
         ensures { Gives no_value (λ _. asking (spec.own_global name.now)
-            (spec.variable_place name.now)) self.old self.new result }
+            (spec.take_variable name.now)) self.old self.new result }
     {
         match self.own(WINDOW, name) {
             Some(_) => Ok(()),

@@ -78,9 +78,8 @@ impl State {
     fn prototype_for_instances(&self, function: ObjId) -> Result<Value, OutOfMemory>
         ensures { IfOk result (λ v. v ≡ spec.prototype_for_instances self.now function) }
     {
-        let target = Value::Object(self.target(function));
         let name = ascii_text(self.alloc(), b"prototype")?;
-        self.read_property(&target, &name)
+        self.get_at(self.target(function), &name)
     }
 
     // The function that bound functions lead to from this one.
@@ -116,7 +115,7 @@ impl State {
             self.new result }
     {
         let name = self.to_text(value)?;
-        Ok(Value::Bool(self.has_property(at, &name)))
+        Ok(Value::Bool(self.has_member(at, &name)))
     }
 }
 

@@ -4,14 +4,15 @@ ghost use Rattle.std.specs.Prelude.{◌≡◌, ◌++◌, ◌∷◌, IfOk, OnOk, 
 ghost use Rattle.std.specs.List.{flat_map};
 ghost use Rattle.page_meaning.specs.Lines as spec;
 ghost use Rattle.page_meaning.specs.Properties.{class_at, get_at};
-ghost use Rattle.page_meaning.specs.Tasks as tasks;
+ghost use Rattle.page_state.specs.Does.{Does};
 ghost use Rattle.page_state.specs.LineTexts.{spaced};
 
 use crate::convert::text_of;
 use crate::state::State;
 use js_core::{OutOfMemory, Units, ascii_text, push_ascii};
-use js_values::{ObjId, Value};
+use js_values::{LineKind, ObjId, Value};
 use object_heap::Class;
+use page_meaning::Signal;
 
 impl State {
     /// The text of a value in a line: an object tells its class.
@@ -71,7 +72,7 @@ impl State {
 
     /// The text of the line of an exception that nothing caught: of an error its name and its message.
     pub fn uncaught_text(&self, value: &Value) -> Result<Units, OutOfMemory>
-        ensures { IfOk result (λ t. t ≡ tasks.uncaught_text self.now value.now) }
+        ensures { IfOk result (λ t. t ≡ spec.uncaught_text self.now value.now) }
     {
         match value {
             Value::Object(at) => self.object_text(*at, value),
@@ -80,8 +81,21 @@ impl State {
         }
     }
 
+    /// What a listener or a timer's function threw is put out as a line.
+    pub fn put_uncaught(&mut self, end: &Signal) -> Result<(), OutOfMemory>
+        ensures { OnOk result (Does (λ _. spec.put_uncaught end.now) self.old tt self.new) }
+    {
+        match end {
+            Signal::Thrown(value) => {
+                let text = self.uncaught_text(value)?;
+                self.put_line(LineKind::Uncaught, text)
+            }
+            Signal::Value(_) | Signal::Return(_) | Signal::Break | Signal::Continue => Ok(()),
+        }
+    }
+
     fn object_text(&self, at: ObjId, value: &Value) -> Result<Units, OutOfMemory>
-        ensures { IfOk result (λ t. t ≡ tasks.text_by_class
+        ensures { IfOk result (λ t. t ≡ spec.text_by_class
             (class_at self.now at) self.now value.now) }
     {
         match self.class(at) {
@@ -99,7 +113,7 @@ impl State {
     }
 
     fn error_text(&self, value: &Value) -> Result<Units, OutOfMemory>
-        ensures { IfOk result (λ t. t ≡ tasks.error_text self.now value.now) }
+        ensures { IfOk result (λ t. t ≡ spec.error_text self.now value.now) }
     {
         match value {
             Value::Object(at) => {

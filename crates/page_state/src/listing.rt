@@ -10,7 +10,7 @@ ghost use Rattle.page_state.specs.Listing.{AlsoSeen, is_listed_at, is_seen_at, p
 use crate::places::{BOOLEAN_PROTOTYPE, NUMBER_PROTOTYPE, STRING_PROTOTYPE};
 use crate::state::State;
 use indexmap::IndexSet;
-use js_core::{OutOfMemory, Units};
+use js_core::{OutOfMemory, Units, ascii_text};
 use js_values::{ObjId, Value};
 use object_heap::index_name;
 use std::alloc::Global;
@@ -37,6 +37,7 @@ impl State {
     {
         let mut names = unit_names(self.alloc(), text.as_slice())?;
         let mut seen = IndexSet::new(self.alloc());
+        seen.insert(ascii_text(self.alloc(), b"length")?)?;
         add_units(names.as_slice(), &mut seen)?;
         self.push_up(STRING_PROTOTYPE, seen, &mut names)?;
         Ok(names)

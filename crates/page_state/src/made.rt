@@ -1,6 +1,6 @@
 //! New objects and arrays.
 
-ghost use Rattle.std.specs.Prelude.{◌≡◌, IfOk, Some};
+ghost use Rattle.std.specs.Prelude.{◌≡◌, IfOk, Some, refl};
 ghost use Rattle.object_heap.specs.declared.object.Class.TheVariants.{Plain};
 ghost use Rattle.object_heap.specs.Heap.{new_object};
 ghost use Rattle.object_heap.proofs.Callers.{new_fit};
@@ -17,8 +17,8 @@ use object_heap::Class;
 impl State {
     /// A new plain object of this prototype.
     pub fn new_object(&mut self, proto: Option<ObjId>) -> Result<ObjId, OutOfMemory>
-        ensures { IfOk result (λ at. Does (λ _. make (new_object Plain proto) (new_fit Plain proto))
-            self.old at self.new) }
+        ensures { IfOk result (λ at. Does (λ _. make (new_object Plain proto)
+            (new_fit Plain proto) refl) self.old at self.new) }
     {
         self.heap.alloc(Class::Plain, proto)
     }

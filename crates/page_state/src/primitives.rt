@@ -3,10 +3,10 @@
 ghost use Rattle.std.specs.Prelude.{◌≡◌, ◌++◌, ◌||◌, IfOk, length, nat_le};
 ghost use Rattle.page_state.specs.declared.primitives.PairOp.TheVariants.{Equal};
 ghost use Rattle.page_meaning.specs.Act.{also};
-ghost use Rattle.page_meaning.specs.Convert.{a_number, text_of as spec_text, to_primitive};
+ghost use Rattle.page_meaning.specs.Convert.{a_number, operand_primitive, text_of as spec_text};
 ghost use Rattle.page_meaning.specs.Errors.{settle};
 ghost use Rattle.page_meaning.specs.Operators as spec;
-ghost use Rattle.page_meaning.specs.Operators.{text_limit};
+ghost use Rattle.page_host.specs.HostNames.{text_limit, text_or_long};
 ghost use Rattle.page_state.specs.Does.{Gives, itself};
 ghost use Rattle.page_state.specs.Operating.{is_text, paired, sense_of};
 
@@ -44,7 +44,7 @@ impl State {
 
     // The right side becomes primitive, and then the operator is applied.
     fn beside_primitive(&mut self, op: PairOp, p: &Value, right: &Value) -> Result<Value, Fault>
-        ensures { Gives itself (λ calls. also (to_primitive calls a_number right.now)
+        ensures { Gives itself (λ calls. also (operand_primitive calls a_number right.now)
             (paired op p.now)) self.old self.new result }
     {
         let q = self.to_primitive(right)?;
@@ -76,7 +76,7 @@ impl State {
 
     // The texts of two primitive values, joined.
     fn sum_of_texts(&mut self, p: &Value, q: &Value) -> Result<Value, Fault>
-        ensures { Gives itself (λ _. settle (spec.text_or_long
+        ensures { Gives itself (λ _. settle (text_or_long
             (spec_text p.now ++ spec_text q.now))) self.old self.new result }
     {
         let answer = joined_text(self.alloc(), p, q)?;
@@ -146,7 +146,7 @@ fn is_text(value: &Value) -> bool
 
 // The joined texts of two values, or the error where that is too long.
 fn joined_text(alloc: Global, p: &Value, q: &Value) -> Result<Result<Value, Throw>, OutOfMemory>
-    ensures { IfOk result (λ answer. answer ≡ spec.text_or_long
+    ensures { IfOk result (λ answer. answer ≡ text_or_long
         (spec_text p.now ++ spec_text q.now)) }
 {
     let left = text_of(alloc, p)?;
@@ -156,7 +156,7 @@ fn joined_text(alloc: Global, p: &Value, q: &Value) -> Result<Result<Value, Thro
 
 // The joined text, or the error where it is too long, for which no memory is taken.
 fn join(alloc: Global, left: &[u16], right: &[u16]) -> Result<Result<Value, Throw>, OutOfMemory>
-    ensures { IfOk result (λ answer. answer ≡ spec.text_or_long (left.now ++ right.now)) }
+    ensures { IfOk result (λ answer. answer ≡ text_or_long (left.now ++ right.now)) }
 {
     if are_short(left, right) {
         Ok(Ok(Value::Text(both(alloc, left, right)?)))
@@ -166,7 +166,7 @@ fn join(alloc: Global, left: &[u16], right: &[u16]) -> Result<Result<Value, Thro
 }
 
 /// Whether two texts may be joined: how many units a text may have.
-#[tactic(auto, using(crate::proofs::Joined::both_short), unfolding(page_meaning::specs::Operators::text_limit))]
+#[tactic(auto, using(crate::proofs::Joined::both_short), unfolding(page_host::specs::HostNames::text_limit))]
 pub fn are_short(left: &[u16], right: &[u16]) -> bool
     ensures { result ≡ nat_le (length (left.now ++ right.now)) text_limit }
 {

@@ -17,6 +17,7 @@ use crate::state::State;
 use js_core::{OutOfMemory, Units, Whole};
 use js_values::{ObjId, Throw, Value};
 use object_heap::{Change, Class, array_index};
+use page_host::HostName;
 use std::alloc::Global;
 
 impl State {
@@ -30,21 +31,55 @@ impl State {
         }
     }
 
-    /// The property of a value that can have some, or undefined (section 8.7.1).
+    /// The property of a value that can have some, or undefined (section 8.7.1). The text of a host name may be too long.
     #[tactic(auto, unfolding(page_meaning::specs::Places::boolean_prototype_place, page_meaning::specs::Places::number_prototype_place, page_meaning::specs::Places::string_prototype_place,),)]
-    pub fn read_property(&self, base: &Value, name: &Units) -> Result<Value, OutOfMemory>
-        ensures { IfOk result (λ v. v ≡ spec.property_of self.now base.now name.now) }
+    pub fn property_of(
+        &self,
+        base: &Value,
+        name: &Units,
+    ) -> Result<Result<Value, Throw>, OutOfMemory>
+        ensures { IfOk result (λ read. read ≡ spec.property_of self.now base.now name.now) }
     {
         match base {
-            Value::Object(at) => value_or_undefined(self.get(*at, name)),
+            Value::Object(at) => self.property_at(*at, name),
             Value::Text(text) => match own_of_text(self.alloc(), text, name)? {
-                Some(own) => Ok(own),
-                None => value_or_undefined(self.get(STRING_PROTOTYPE, name)),
+                Some(own) => Ok(Ok(own)),
+                None => Ok(Ok(self.get_at(STRING_PROTOTYPE, name)?)),
             },
-            Value::Num(_) => value_or_undefined(self.get(NUMBER_PROTOTYPE, name)),
-            Value::Bool(_) => value_or_undefined(self.get(BOOLEAN_PROTOTYPE, name)),
-            Value::Undefined | Value::Null => Ok(Value::Undefined),
+            Value::Num(_) => Ok(Ok(self.get_at(NUMBER_PROTOTYPE, name)?)),
+            Value::Bool(_) => Ok(Ok(self.get_at(BOOLEAN_PROTOTYPE, name)?)),
+            Value::Undefined | Value::Null => Ok(Ok(Value::Undefined)),
         }
+    }
+
+    // The property of an object, where a name may be one of the host's.
+    fn property_at(
+        &self,
+        at: ObjId,
+        name: &Units,
+    ) -> Result<Result<Value, Throw>, OutOfMemory>
+        ensures { IfOk result (λ read. read ≡ spec.property_of self.now (Object at) name.now) }
+    {
+        match HostName::of(name) {
+            None => Ok(Ok(self.get_at(at, name)?)),
+            Some(host) => self.named(at, name, host),
+        }
+    }
+
+    /// A property of an object that is none of the host's, or undefined.
+    pub fn get_at(&self, at: ObjId, name: &Units) -> Result<Value, OutOfMemory>
+        ensures { IfOk result (λ v. v ≡ spec.get_at self.now at name.now) }
+    {
+        value_or_undefined(self.get(at, name))
+    }
+
+    /// The property of a value that can have some, as an act.
+    pub fn read_property(&mut self, base: &Value, name: &Units) -> Result<Value, Fault>
+        ensures { Gives itself (λ _. spec.read_property base.now name.now) self.old self.new
+            result }
+    {
+        let read = self.property_of(base, name)?;
+        self.settle(read)
     }
 
     /// `base.name` as a value.
@@ -53,7 +88,7 @@ impl State {
     {
         match base {
             Value::Undefined | Value::Null => Err(self.raise(Throw::NoProperties)),
-            _ => Ok(self.read_property(base, name)?),
+            _ => self.read_property(base, name),
         }
     }
 
@@ -75,7 +110,7 @@ impl State {
             result }
     {
         let name = self.key_of(base, key)?;
-        Ok(self.read_property(base, &name)?)
+        self.read_property(base, &name)
     }
 
     /// Whether it is the length of an array.
@@ -121,23 +156,15 @@ impl State {
         }
     }
 
-    /// A reference to a property takes the value (section 8.7.2).
-    pub fn put_member(&mut self, base: &Value, name: &Units, value: Value) -> Result<Value, Fault>
-        ensures { Gives itself (λ _. spec.put_member base.now name.now value) self.old self.new
-            result }
-    {
-        match base {
-            Value::Object(at) => self.put_in(*at, name, value),
-            _ => Err(self.raise(Throw::CannotSet)),
-        }
-    }
-
     // Deletes a property of an object.
     #[tactic(auto, using(crate::proofs::Does::passed, crate::proofs::Does::refused))]
     fn delete_in(&mut self, at: ObjId, name: &Units) -> Result<bool, Fault>
         ensures { Gives Truth (λ _. spec.delete_member (Object at) name.now) self.old self.new
             result }
     {
+        if self.has_named_host(at, name) {
+            return Err(self.raise(Throw::CannotDelete));
+        }
         match self.delete_at(at, name)? {
             None => Ok(true),
             Some(what) => Err(self.raise(what)),
@@ -186,6 +213,16 @@ impl State {
         self.get(at, name).is_some()
     }
 
+    /// Whether an object has a property or a host name, its own or inherited (section 8.12.6).
+    pub fn has_member(&self, at: ObjId, name: &Units) -> bool
+        ensures { result ≡ spec.has_member self.now at name.now }
+    {
+        match HostName::of(name) {
+            None => self.has_property(at, name),
+            Some(host) => self.shows(at, name, host),
+        }
+    }
+
     /// Whether a value is a function.
     pub fn is_function(&self, value: &Value) -> bool
         ensures { result ≡ spec.is_function (spec.class_of self.now value.now) }
@@ -201,7 +238,7 @@ impl State {
     }
 }
 
-fn value_or_undefined(found: Option<&Value>) -> Result<Value, OutOfMemory>
+pub(crate) fn value_or_undefined(found: Option<&Value>) -> Result<Value, OutOfMemory>
     ensures { IfOk result (λ v. v ≡ unwrap_or (option_copied found.entry) Undefined) }
 {
     match found {

@@ -8,6 +8,9 @@ ghost use Rattle.object_heap.specs.Chain.{get, object_at};
 ghost use Rattle.object_heap.specs.Heap.{look_in, made};
 ghost use Rattle.object_heap.specs.Object.{is_list, whole_object};
 ghost use Rattle.object_heap.specs.Property.{own_property};
+ghost use Rattle.page_host.specs.HostNames.{event_has, host_name, is_handler};
+ghost use Rattle.page_meaning.specs.Classes.{class_at};
+ghost use Rattle.page_meaning.specs.HostNames.{has_host_name, has_named_host, is_kept};
 ghost use Rattle.page_meaning.specs.Primitives.{
   bind_name as spec_bind,
   define_at as spec_define,
@@ -18,21 +21,24 @@ ghost use Rattle.page_meaning.specs.Primitives.{
   put_at as spec_put,
   put_line as spec_line,
 };
-ghost use Rattle.page_meaning.specs.Properties.{class_at};
-ghost use Rattle.page_meaning.specs.Store.{with_heap};
+ghost use Rattle.page_meaning.specs.Store.{silent, with_heap, without_lines};
 ghost use Rattle.page_state.specs.Does.{Does};
 ghost use Rattle.page_state.specs.Refusals.{Refuses};
 
 use js_core::{OutOfMemory, Units};
 use js_values::{EnvId, Line, LineKind, ObjId, Throw, Value};
 use object_heap::{Change, Class, Heap, HeapFault, Prop, Properties};
+use page_host::{HostName, PageHost};
 use std::alloc::Global;
 use std::marker::Model;
 
-/// A page while it runs: its heap, and the lines that it put out.
+/// A page while it runs: its heap, the lines that it put out, and what the host keeps for it.
 pub struct State {
     pub(crate) heap: Heap,
     pub(crate) lines: Vec<Line>,
+    pub(crate) host: PageHost,
+    /// The events under dispatch, which contracts do not see.
+    pub(crate) dispatches: Vec<ObjId>,
 }
 
 // A function of its own, so that the crates above cite it and do not prove it again.
@@ -41,25 +47,46 @@ impl Drop for State {
         let State {
             heap: _heap,
             lines: _lines,
+            host: _host,
+            dispatches: _dispatches,
         } = self;
     }
 }
 
 impl Model for State {
-    ghost use Rattle.page_meaning.specs.Store.{Store};
+    ghost use Rattle.page_meaning.specs.Store.{Store, store_of};
     ghost use Rattle.page_state.specs.CodedStore.{coded_store};
 
     ghost Value = { Store };
 
     ghost coded = { coded_store };
 
-    ghost view = { λ s. record { heap = s.heap; lines = s.lines.items } };
+    ghost view = { λ s. store_of s.heap s.lines.items s.host };
 }
 
 impl State {
+    /// A page that has put out nothing, with these objects and this host.
+    pub fn new(alloc: Global, heap: Heap, host: PageHost) -> State
+        ensures { result ≡ silent heap host }
+    {
+        State {
+            heap,
+            lines: Vec::new(alloc),
+            host,
+            dispatches: Vec::new(alloc),
+        }
+    }
+
     /// Where its memory comes from.
     pub fn alloc(&self) -> Global {
         *self.lines.allocator()
+    }
+
+    /// What the host keeps for it.
+    pub fn host(&self) -> &PageHost
+        ensures { result.now ≡ self.now.host }
+    {
+        &self.host
     }
 
     /// The number of objects.
@@ -137,6 +164,53 @@ impl State {
         self.heap.alloc_whole(class, proto, props)
     }
 
+    /// Whether an object has the host name itself.
+    pub fn has_host_name(&self, at: ObjId, name: HostName) -> bool
+        ensures { result ≡ has_host_name self.now.host.nodes (class_at self.now at) name }
+    {
+        match self.class(at) {
+            Class::Node(node) => self.host.has_name(*node, name),
+            Class::Event(_) => name.is_of_event(),
+            Class::Plain
+            | Class::List
+            | Class::Page { .. }
+            | Class::Native(_)
+            | Class::Bound { .. }
+            | Class::Fault
+            | Class::Math
+            | Class::Window => false,
+        }
+    }
+
+    /// Whether the name is a host name of the object itself.
+    pub fn has_named_host(&self, at: ObjId, name: &Units) -> bool
+        ensures { result ≡ has_named_host self.now.host.nodes (class_at self.now at)
+            (host_name name.now) }
+    {
+        match HostName::of(name) {
+            Some(host) => self.has_host_name(at, host),
+            None => false,
+        }
+    }
+
+    // Whether nothing may be put or defined there: a host name of its own, and a handler of a node.
+    fn is_kept(&self, at: ObjId, name: &Units) -> bool
+        ensures { result ≡ is_kept self.now.host.nodes (class_at self.now at) name.now }
+    {
+        match self.class(at) {
+            Class::Node(_) => is_handler(name) || self.has_named_host(at, name),
+            Class::Event(_) => self.has_named_host(at, name),
+            Class::Plain
+            | Class::List
+            | Class::Page { .. }
+            | Class::Native(_)
+            | Class::Bound { .. }
+            | Class::Fault
+            | Class::Math
+            | Class::Window => false,
+        }
+    }
+
     /// Puts a value to a property, and tells what is thrown, if something is (section 8.12.5).
     pub fn put_at(
         &mut self,
@@ -146,6 +220,9 @@ impl State {
     ) -> Result<Option<Throw>, OutOfMemory>
         ensures { IfOk result (λ t. Does (λ _. spec_put at name.now value) self.old t self.new) }
     {
+        if self.is_kept(at, name) {
+            return Ok(Some(Throw::CannotSet));
+        }
         refusal(self.heap.put(at, name, value))
     }
 
@@ -159,6 +236,9 @@ impl State {
         ensures { IfOk result (λ t. Does (λ _. spec_define at name.now change.now) self.old t
             self.new) }
     {
+        if self.is_kept(at, name) {
+            return Ok(Some(Throw::CannotDefine));
+        }
         refusal(self.heap.define_own(at, name, change))
     }
 
@@ -214,9 +294,9 @@ impl State {
         self.lines.as_slice()
     }
 
-    /// Lets go of its lines. Takes no memory.
+    /// Drops its lines. Takes no memory.
     pub fn clear_lines(&mut self)
-        ensures { self.new ≡ record { heap = self.old.heap; lines = [] } }
+        ensures { self.new ≡ without_lines self.old }
     {
         self.lines.clear();
     }
@@ -228,6 +308,14 @@ impl State {
         self.lines.push(Line { kind, text })?;
         Ok(())
     }
+}
+
+/// Whether it is the name of a handler: it begins with `on`.
+pub fn is_handler(name: &Units) -> bool
+    ensures { result ≡ is_handler name.now }
+{
+    let units = name.as_slice();
+    units.len() >= 2 && units[0] == 0x6f && units[1] == 0x6e
 }
 
 // What the heap refused.

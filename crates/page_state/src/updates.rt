@@ -6,7 +6,7 @@ ghost use Rattle.js_values.specs.declared.value.Value.TheVariants.{Num};
 ghost use Rattle.page_meaning.specs.Act.{also};
 ghost use Rattle.page_meaning.specs.Names.{read as spec_read, write as spec_write};
 ghost use Rattle.page_meaning.specs.Operators as spec;
-ghost use Rattle.page_meaning.specs.Properties.{put_member as spec_put};
+ghost use Rattle.page_meaning.specs.HostPuts.{put_member as spec_put};
 ghost use Rattle.page_state.specs.Does.{Gives, itself};
 ghost use Rattle.page_state.specs.Updates.{changed, put_back};
 
@@ -104,7 +104,7 @@ impl State {
         value: &Value,
     ) -> Result<Value, Fault>
         ensures { Gives itself (λ calls. spec.update_with calls up prefix
-            (spec_put base.now name.now) value.now) self.old self.new result }
+            (spec_put calls base.now name.now) value.now) self.old self.new result }
     {
         let old = self.to_number(value)?;
         self.change_member(up, prefix, base, name, old)
@@ -119,8 +119,8 @@ impl State {
         name: &Units,
         old: Whole,
     ) -> Result<Value, Fault>
-        ensures { Gives itself (λ _. changed up prefix (spec_put base.now name.now) (Num old))
-            self.old self.new result }
+        ensures { Gives itself (λ calls. changed up prefix (spec_put calls base.now name.now)
+            (Num old)) self.old self.new result }
     {
         let new = self.one_more(up, old)?;
         self.put_back_member(prefix, base, name, old, new)
@@ -135,8 +135,8 @@ impl State {
         old: Whole,
         new: Whole,
     ) -> Result<Value, Fault>
-        ensures { Gives itself (λ _. put_back prefix (spec_put base.now name.now) (Num old)
-            (Num new)) self.old self.new result }
+        ensures { Gives itself (λ calls. put_back prefix (spec_put calls base.now name.now)
+            (Num old) (Num new)) self.old self.new result }
     {
         let _put = self.put_member(base, name, Value::Num(new))?;
         Ok(updated(prefix, old, new))

@@ -7,7 +7,7 @@ use Rattle.std.proofs.lemmas.List.Elements.{All-head, All-tail}
 use Rattle.std.proofs.lemmas.List.Folds.{list_all-append}
 use Rattle.std.proofs.lemmas.Slice.Eq.{bytes_eq-Decides}
 use Rattle.built_in_paths.specs.Paths.{names_of, path_of}
-use Rattle.object_shapes.specs.Links.{built_in_count}
+use Rattle.page_meaning.specs.Places.{built_in_count}
 use Rattle.js_core.specs.Tree as tree
 use Rattle.js_core.specs.Tree.{call, code, expr, func, member, name, no_exprs}
 use Rattle.js_values.specs.Throw.{kind_name}

@@ -3,7 +3,8 @@ use Rattle.std.proofs.Common.{◌≡◌, refl, ℕ, suc, ◌+◌, ◌<◌, ◌�
 use Rattle.std.proofs.lemmas.Bool.{and_parts, eqb-true}
 use Rattle.std.proofs.lemmas.List.{length-append}
 use Rattle.std.proofs.lemmas.List.Elements.{All-head, All-tail}
-use Rattle.object_shapes.specs.Links.{all_below, built_in_count, value_links}
+use Rattle.object_shapes.specs.Links.{all_below, value_links}
+use Rattle.page_meaning.specs.Places.{built_in_count}
 use Rattle.js_core.specs.Tree.{Fields}
 use Rattle.js_print.specs.Lexemes.{stmt_lexemes}
 use Rattle.js_print.specs.Spelling.{text_of}

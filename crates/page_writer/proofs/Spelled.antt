@@ -7,7 +7,7 @@ use Rattle.std.proofs.lemmas.Int.{ints}
 use Rattle.std.proofs.lemmas.List.Sums.{AllPass-from_list_all}
 use Rattle.std.proofs.lemmas.Option.{get_or_from_slice_get, slice_get_past, slice_get_within}
 use Rattle.built_in_paths.specs.Paths.{names_of, path_of, paths}
-use Rattle.object_shapes.specs.Links.{built_in_count}
+use Rattle.page_meaning.specs.Places.{built_in_count}
 use Rattle.heap_walker.specs.Weight.{value_units}
 use Rattle.js_core.specs.Whole.{largest}
 use Rattle.js_core.specs.declared.keyword.Keyword.TheVariants as keyword

@@ -4,7 +4,7 @@ use Rattle.std.specs.Prelude.{nat_le}
 use Rattle.std.specs.List.{list_all}
 use Rattle.std.proofs.lemmas.Bool.{and_from, and_parts, leb-true}
 use Rattle.built_in_paths.specs.Paths.{names_of, path_of}
-use Rattle.object_shapes.specs.Links.{built_in_count}
+use Rattle.page_meaning.specs.Places.{built_in_count}
 use Rattle.js_core.specs.Height.{code_height, expr_height, exprs_height}
 use Rattle.js_core.specs.Tree as tree
 use Rattle.js_core.specs.Tree.{name, func, member, index, literal, no_stmts, then_stmt}

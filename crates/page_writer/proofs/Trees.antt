@@ -2,7 +2,7 @@
 use Rattle.std.proofs.Common.{◌≡◌, ◌∙◌, refl, sym, ap, ℕ, ◌-◌, Bool, true, false, List, [], ◌∷◌, ◌++◌, Option, Some, None, append_assoc, append-nil, nat_eq}
 use Rattle.std.specs.Prelude.{if◌then◌else◌}
 use Rattle.built_in_paths.specs.Paths.{dot, names_of, path_of, with_unit}
-use Rattle.object_shapes.specs.Links.{built_in_count}
+use Rattle.page_meaning.specs.Places.{built_in_count}
 use Rattle.js_core.specs.Tree as tree
 use Rattle.js_core.specs.Tree.{name, member}
 use Rattle.js_core.specs.declared.token.Punct.TheVariants as punct

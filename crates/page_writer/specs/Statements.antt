@@ -1,7 +1,7 @@
 -- The statements of a saved page as trees (ECMA-262 5.1 sections 11 and 12).
 use Rattle.std.specs.Prelude.{ℕ, ℤ, pos, nat_abs, ◌-◌, Bool, List, [], ◌∷◌, Option, Some, None, codes}
 use Rattle.built_in_paths.specs.Paths.{names_of, path_of}
-use Rattle.object_shapes.specs.Links.{built_in_count}
+use Rattle.page_meaning.specs.Places.{built_in_count}
 use Rattle.js_core.specs.Tree as tree
 use Rattle.js_core.specs.Tree.{name, num, text, bool, null, list, literal, func, member, index, call, construct, unary, assign, no_exprs, then_expr, one_expr, no_holes, no_fields, then_field, code, expr, return, no_stmts, then_stmt}
 use Rattle.js_core.specs.declared.operators.UnaryOp.TheVariants.{Minus, Void}

@@ -1,7 +1,7 @@
 -- Which statements can be written, and the law that they are trees that tokens have.
 use Rattle.std.specs.Prelude.{ℕ, ℤ, ◌+◌, ◌-◌, ◌≤◌, Bool, true, ◌&&◌, IsTrue, List, Option, Some, None, nat_le}
 use Rattle.std.specs.List.{list_all}
-use Rattle.object_shapes.specs.Links.{built_in_count}
+use Rattle.page_meaning.specs.Places.{built_in_count}
 use Rattle.js_core.specs.Height.{code_height, stmts_height}
 use Rattle.js_core.specs.Tree.{func, no_stmts, then_stmt}
 use Rattle.js_core.specs.Whole.{is_whole, largest}

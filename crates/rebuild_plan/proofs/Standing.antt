@@ -21,7 +21,8 @@ use Rattle.page_meaning.specs.Places.{window}
 use Rattle.page_meaning.specs.Store.{Store}
 use Rattle.heap_walker.specs.Still.{Still, made_links}
 use Rattle.heap_walker.specs.Things.{IsWalk, class_links, globals_of, is_in, needs_links, needs_of, roots}
-use Rattle.object_shapes.specs.Links.{all_below, built_in_count, props_links, proto_links, value_links, values_links}
+use Rattle.object_shapes.specs.Links.{all_below, props_links, proto_links, value_links, values_links}
+use Rattle.page_meaning.specs.Places.{built_in_count}
 use Rattle.rebuild_plan.specs.Compact.{compact, maker_as, maker_of, moved_needs, moved_prop, moved_props, moved_proto, moved_value, moved_values, place_of, placed, thing_of, things_at}
 use Rattle.rebuild_plan.specs.Plan.{define_length, defines, fill, fills, has_length, has_prototype, makes, plan, prevents, thing_place}
 use Rattle.rebuild_plan.specs.Stands.{maker_names, standing}

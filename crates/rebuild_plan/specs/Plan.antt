@@ -7,7 +7,7 @@ use Rattle.object_heap.specs.Function.{prototype_name}
 use Rattle.object_heap.specs.Property.{Props, own_property}
 use Rattle.object_heap.specs.declared.property.Prop.{Prop}
 use Rattle.page_meaning.specs.Places.{window}
-use Rattle.object_shapes.specs.Links.{built_in_count}
+use Rattle.page_meaning.specs.Places.{built_in_count}
 use Rattle.rebuild_plan.specs.Compact.{Compact, Thing}
 use Rattle.rebuild_plan.specs.declared.statement.Maker.{Maker}
 use Rattle.rebuild_plan.specs.declared.statement.Maker.TheVariants.{List as Array, Func, Bind}

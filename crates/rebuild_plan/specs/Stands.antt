@@ -2,7 +2,8 @@
 use Rattle.std.specs.Prelude.{ℕ, suc, ◌+◌, Bool, true, ◌&&◌, nat_eq, List, [], ◌∷◌, ◌++◌, IsTrue}
 use Rattle.heap_walker.specs.Still.{Still}
 use Rattle.heap_walker.specs.Things.{IsWalk, needs_links}
-use Rattle.object_shapes.specs.Links.{all_below, built_in_count, proto_links, value_links, values_links}
+use Rattle.object_shapes.specs.Links.{all_below, proto_links, value_links, values_links}
+use Rattle.page_meaning.specs.Places.{built_in_count}
 use Rattle.page_meaning.specs.Store.{Store}
 use Rattle.rebuild_plan.specs.Compact.{compact}
 use Rattle.rebuild_plan.specs.Plan.{plan}

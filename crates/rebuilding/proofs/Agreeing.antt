@@ -33,7 +33,7 @@ use Rattle.rebuilding.proofs.Naming.{base_at, built_in, built_in_paired, IsPair,
 use Rattle.rebuilding.proofs.Rounds.{base_rel}
 use Rattle.object_shapes.specs.Shapes.{built_in_at}
 use Rattle.rebuilding.proofs.Basics.{all_at}
-use Rattle.object_shapes.specs.Links.{built_in_count}
+use Rattle.page_meaning.specs.Places.{built_in_count}
 
 -- ---- places
 

@@ -31,7 +31,7 @@ use Rattle.page_writer.specs.Statements.{object_function}
 use Rattle.rebuilding.specs.Scene.{IsRunning, Scene, inside}
 use Rattle.rebuilding.proofs.Paths.{built_in_found, name_read}
 use Rattle.object_shapes.specs.Shapes.{built_in_at}
-use Rattle.object_shapes.specs.Links.{built_in_count}
+use Rattle.page_meaning.specs.Places.{built_in_count}
 
 -- what goes on with a value, once it is there
 pub also_on : (f : Value → Act) {o : Outcome Signal} {v : Value} {t : Store} {k : ℕ} → o ≡ Ended (Val v) t k → then_on o (on_value f) ≡ (f v).run t k

@@ -13,7 +13,8 @@ use Rattle.js_values.specs.declared.value.Value.{Value}
 use Rattle.js_values.specs.declared.value.Value.TheVariants as value
 use Rattle.object_heap.specs.Define.{with_value}
 use Rattle.object_heap.specs.Property.{Props}
-use Rattle.object_shapes.specs.Links.{built_in_count, props_links, proto_links, value_links, values_links}
+use Rattle.page_meaning.specs.Places.{built_in_count}
+use Rattle.object_shapes.specs.Links.{props_links, proto_links, value_links, values_links}
 use Rattle.rebuild_plan.specs.Compact.{moved_needs, moved_props, moved_proto, moved_value, moved_values, place_of, placed}
 use Rattle.rebuilding.specs.Rebuilt.{nth}
 use Rattle.rebuilding.specs.Sites.{site, sited_needs, sited_props, sited_proto, sited_value, sited_values}

@@ -22,7 +22,7 @@ use Rattle.rebuilding.specs.Sites.{site}
 use Rattle.rebuilding.proofs.Staying.{Stands, place_other, place_there, running_changed, site_place, site_thing, stays_changed}
 use Rattle.rebuilding.proofs.WindowStays.{is_built, window_defined}
 use Rattle.object_shapes.specs.Shapes.{IsWindow, built_in_at}
-use Rattle.object_shapes.specs.Links.{built_in_count}
+use Rattle.page_meaning.specs.Places.{built_in_count}
 
 -- ---- what is closed
 

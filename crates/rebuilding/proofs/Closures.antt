@@ -25,7 +25,7 @@ use Rattle.rebuilding.specs.Scene.{IsBinding, IsRunning, Scene, bare, env_at, na
 use Rattle.rebuilding.proofs.Lasting.{binding_stays}
 use Rattle.rebuilding.proofs.Staying.{low_there, made_there, none_below, running_after, running_made, some_below, stays_made, stays_on}
 use Rattle.rebuilding.proofs.Placed.{function_low}
-use Rattle.object_shapes.specs.Links.{built_in_count}
+use Rattle.page_meaning.specs.Places.{built_in_count}
 
 -- ---- a function and its `prototype`
 

@@ -32,7 +32,8 @@ use Rattle.rebuilding.specs.Sites.{site, sited_props, sited_proto, sited_value, 
 use Rattle.heap_walker.proofs.Callers.{links_in_walk, made_among, props_among}
 use Rattle.rebuilding.proofs.Naming.{based_at, built_in_paired, rebuilt_world, site_of_built_in, thing_at, thing_paired}
 use Rattle.rebuilding.proofs.Placed.{is_thing_at, place_in}
-use Rattle.object_shapes.specs.Links.{built_in_count, props_links, proto_links, value_links, values_links}
+use Rattle.page_meaning.specs.Places.{built_in_count}
+use Rattle.object_shapes.specs.Links.{props_links, proto_links, value_links, values_links}
 
 -- built in or walked
 abbrev pub IsKnown : List ℕ → ℕ → Type 0

@@ -35,7 +35,8 @@ use Rattle.rebuilding.proofs.Placed.{array_low, error_low, function_low, needs_s
 use Rattle.rebuilding.proofs.Stages.{IsFresh, MadeProps}
 use Rattle.rebuilding.proofs.Lasting.{bound_same, proto_is}
 use Rattle.object_shapes.specs.Shapes.{HasBoundLength, HasShape}
-use Rattle.object_shapes.specs.Links.{built_in_count, all_below}
+use Rattle.page_meaning.specs.Places.{built_in_count}
+use Rattle.object_shapes.specs.Links.{all_below}
 
 -- ---- what is bound
 

@@ -23,9 +23,10 @@ use Rattle.rebuilding.proofs.Defining.{and_props, defines_succeed}
 use Rattle.rebuilding.proofs.Going.{Allowed, Going, going_begins}
 use Rattle.rebuilding.proofs.PropertyNames.{both_keys, moved_all, moved_keys, rebuilt_props}
 use Rattle.rebuilding.proofs.WindowStays.{is_built}
-use Rattle.object_shapes.specs.Shapes.{IsWindow, built_in_at, built_in_globals}
+use Rattle.object_shapes.specs.Shapes.{IsWindow, built_in_at}
+use Rattle.page_meaning.specs.Pristine.{built_in_globals}
 use Rattle.rebuilding.proofs.Placed.{some_built_in}
-use Rattle.object_shapes.specs.Links.{built_in_count}
+use Rattle.page_meaning.specs.Places.{built_in_count}
 
 pub at_window : (sites : List ℕ) → site sites window.0 ≡ window.0
 at_window sites = rw (lt-ltb 0 built_in_count some_built_in) refl

@@ -23,7 +23,8 @@ use Rattle.rebuilding.specs.Running.{HasChanged, Stays, short_change, whole_chan
 use Rattle.rebuilding.specs.Scene.{IsRunning, Scene}
 use Rattle.rebuilding.specs.Sites.{site}
 use Rattle.rebuilding.proofs.WindowStays.{is_built}
-use Rattle.object_shapes.specs.Links.{built_in_count, value_links, all_below}
+use Rattle.page_meaning.specs.Places.{built_in_count}
+use Rattle.object_shapes.specs.Links.{value_links, all_below}
 
 -- ---- what statements may name and write
 

@@ -20,7 +20,8 @@ use Rattle.rebuilding.specs.Scene.{IsBinding, IsRoundOf, Scene, bare, named, nee
 use Rattle.rebuilding.specs.Sites.{site, sited, sited_proto, sited_value, sited_values}
 use Rattle.rebuilding.proofs.Placed.{array_low, error_low, function_low, needs_stay, proto_built_in, proto_stays, site_stays, value_stays, values_stay}
 use Rattle.rebuilding.proofs.Stages.{IsFresh}
-use Rattle.object_shapes.specs.Links.{built_in_count, value_links, values_links, all_below}
+use Rattle.page_meaning.specs.Places.{built_in_count}
+use Rattle.object_shapes.specs.Links.{value_links, values_links, all_below}
 use Rattle.object_shapes.specs.Shapes.{HasShape}
 
 -- ---- prototypes

@@ -27,7 +27,8 @@ use Rattle.page_meaning.specs.Pristine.{array_prototype_props, built, object_pro
 use Rattle.rebuilding.specs.Scene.{IsRunning, Scene, elements, is_site, list_length, list_of}
 use Rattle.rebuilding.proofs.Indices.{are_named, decimal_not_length, decimal_other, decimal_same, index_of_decimal, no_index_among}
 use Rattle.object_shapes.specs.Shapes.{IsWindow, built_in_at}
-use Rattle.object_shapes.specs.Links.{built_in_count, all_below}
+use Rattle.page_meaning.specs.Places.{built_in_count}
+use Rattle.object_shapes.specs.Links.{all_below}
 
 -- ---- elements
 

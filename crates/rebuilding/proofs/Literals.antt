@@ -37,7 +37,8 @@ use Rattle.rebuilding.proofs.Calling.{also_on}
 use Rattle.rebuilding.proofs.Reading.{value_read}
 use Rattle.rebuilding.proofs.Staying.{low_there, make_run, none_below, running_made, some_below}
 use Rattle.object_shapes.specs.Shapes.{built_in_at}
-use Rattle.object_shapes.specs.Links.{built_in_count, value_links, all_below}
+use Rattle.page_meaning.specs.Places.{built_in_count}
+use Rattle.object_shapes.specs.Links.{value_links, all_below}
 
 -- ---- an object literal in the heap
 

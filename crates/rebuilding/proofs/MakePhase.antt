@@ -28,7 +28,8 @@ use Rattle.rebuilding.proofs.Lasting.{fresh_stays}
 use Rattle.rebuilding.proofs.Targets.{target_kept}
 use Rattle.object_shapes.specs.Shapes.{HasShape, built_in_at}
 use Rattle.rebuilding.proofs.Basics.{all_at}
-use Rattle.object_shapes.specs.Links.{built_in_count, proto_links, all_below}
+use Rattle.page_meaning.specs.Places.{built_in_count}
+use Rattle.object_shapes.specs.Links.{proto_links, all_below}
 
 -- ---- what holds of each maker
 

@@ -52,7 +52,8 @@ use Rattle.rebuilding.proofs.Calling.{also_on, constructor_class, constructor_na
 use Rattle.rebuilding.proofs.Reading.{arguments_read, reference_read}
 use Rattle.rebuilding.proofs.Staying.{low_there, made_there, make_run, none_below, running_made, site_there, some_below, stays_made}
 use Rattle.rebuilding.proofs.Placed.{array_low, error_low, function_low}
-use Rattle.object_shapes.specs.Links.{built_in_count, proto_links, value_links, values_links, all_below}
+use Rattle.page_meaning.specs.Places.{built_in_count}
+use Rattle.object_shapes.specs.Links.{proto_links, value_links, values_links, all_below}
 
 -- ---- what is made
 

@@ -23,7 +23,7 @@ use Rattle.rebuilding.specs.Rebuilt.{nth}
 use Rattle.rebuilding.specs.Sites.{site}
 use Rattle.rebuilding.proofs.Basics.{found_below}
 use Rattle.rebuilding.proofs.Placed.{site_thing}
-use Rattle.object_shapes.specs.Links.{built_in_count}
+use Rattle.page_meaning.specs.Places.{built_in_count}
 
 -- ---- the world
 

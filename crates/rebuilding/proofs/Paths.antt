@@ -32,7 +32,7 @@ use Rattle.page_meaning.specs.declared.signal.Signal.TheVariants.{Value as Val}
 use Rattle.page_writer.specs.Statements.{path_expr, path_from}
 use Rattle.rebuilding.specs.Scene.{IsRunning, Scene, env_at, inside}
 use Rattle.object_shapes.specs.Shapes.{built_in_at}
-use Rattle.object_shapes.specs.Links.{built_in_count}
+use Rattle.page_meaning.specs.Places.{built_in_count}
 
 -- ---- what is held in a page before its scripts
 

@@ -14,7 +14,7 @@ use Rattle.rebuilding.specs.Scene.{IsRunning, Scene, is_site}
 use Rattle.rebuilding.proofs.Going.{Going}
 use Rattle.rebuilding.proofs.Basics.{all_at, not_in}
 use Rattle.rebuilding.proofs.Placed.{some_built_in}
-use Rattle.object_shapes.specs.Links.{built_in_count}
+use Rattle.page_meaning.specs.Places.{built_in_count}
 
 -- ---- sites
 

@@ -21,7 +21,8 @@ use Rattle.heap_walker.proofs.Callers.{thing_of}
 use Rattle.rebuilding.specs.Rebuilt.{nth}
 use Rattle.rebuilding.specs.Sites.{site, sited_needs, sited_proto, sited_value, sited_values}
 use Rattle.rebuilding.proofs.Basics.{found_below}
-use Rattle.object_shapes.specs.Links.{built_in_count, is_thing, proto_links, value_links, values_links, all_below}
+use Rattle.page_meaning.specs.Places.{built_in_count}
+use Rattle.object_shapes.specs.Links.{is_thing, proto_links, value_links, values_links, all_below}
 
 -- ---- lists
 

@@ -27,7 +27,8 @@ use Rattle.page_meaning.specs.Convert.{as_number, number_of, text_in}
 use Rattle.page_meaning.specs.Errors.{on_refusal, settle}
 use Rattle.page_meaning.specs.Expressions.{assigned, eval, eval_args}
 use Rattle.page_meaning.specs.Places.{at_place, window}
-use Rattle.page_meaning.specs.Properties.{class_at, get_index, key_of, put_member, stored}
+use Rattle.page_meaning.specs.Properties.{class_at, get_index, key_of, stored}
+use Rattle.page_meaning.specs.HostPuts.{put_member}
 use Rattle.page_meaning.specs.Store.{Store, with_heap}
 use Rattle.page_meaning.specs.declared.signal.Signal.{Signal}
 use Rattle.page_meaning.specs.declared.signal.Signal.TheVariants.{Value as Val}
@@ -41,7 +42,8 @@ use Rattle.rebuilding.proofs.Indices.{decimal_not_length}
 use Rattle.rebuilding.proofs.List.{element_found, thing_put_in, with_thing}
 use Rattle.rebuilding.proofs.Paths.{built_in_found, global_read, list_read, path_read, pristine_count}
 use Rattle.object_shapes.specs.Shapes.{built_in_at}
-use Rattle.object_shapes.specs.Links.{built_in_count, value_links, values_links, all_below}
+use Rattle.page_meaning.specs.Places.{built_in_count}
+use Rattle.object_shapes.specs.Links.{value_links, values_links, all_below}
 
 -- ---- numbers
 

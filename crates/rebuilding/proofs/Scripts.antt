@@ -27,7 +27,7 @@ use Rattle.rebuild_plan.specs.declared.statement.Rebuild.{Rebuild}
 use Rattle.rebuilding.specs.Scene.{inside, IsRunning, list_of, Scene}
 use Rattle.object_shapes.specs.Shapes.{built_in_at, IsWindow}
 use Rattle.rebuilding.proofs.Placed.{some_built_in}
-use Rattle.object_shapes.specs.Links.{built_in_count}
+use Rattle.page_meaning.specs.Places.{built_in_count}
 
 -- ---- the page when its statements begin
 

@@ -26,7 +26,8 @@ use Rattle.page_meaning.specs.Descriptors.{change_in, define_in, descriptor_prop
 use Rattle.page_meaning.specs.Expressions.{assigned, eval}
 use Rattle.page_meaning.specs.Places.{at_place, window}
 use Rattle.page_meaning.specs.Primitives.{next_place}
-use Rattle.page_meaning.specs.Properties.{is_length_of, put_member}
+use Rattle.page_meaning.specs.Properties.{is_length_of}
+use Rattle.page_meaning.specs.HostPuts.{put_member}
 use Rattle.page_meaning.specs.Statements.{exec}
 use Rattle.page_meaning.specs.Store.{Store, with_heap}
 use Rattle.page_meaning.specs.declared.signal.Signal.{Signal}
@@ -51,7 +52,8 @@ use Rattle.rebuilding.proofs.Reading.{thing_assigned, thing_put_and_given}
 use Rattle.rebuilding.proofs.Rows.{define_ran, length_defined, other_defined, prevent_ran}
 use Rattle.rebuilding.proofs.Staying.{all_through, site_stands, site_there, stands_site, stays_changed, stays_made, stays_on}
 use Rattle.rebuilding.proofs.WindowStays.{is_built}
-use Rattle.object_shapes.specs.Links.{built_in_count, value_links, all_below}
+use Rattle.page_meaning.specs.Places.{built_in_count}
+use Rattle.object_shapes.specs.Links.{value_links, all_below}
 
 length_not_built : is_built length_name ≡ false
 unfolding is_built

@@ -19,7 +19,7 @@ use Rattle.rebuilding.specs.Scene.{IsRunning, Scene, is_site}
 use Rattle.rebuilding.specs.Sites.{site}
 use Rattle.object_shapes.specs.Shapes.{IsWindow}
 use Rattle.rebuilding.proofs.Basics.{not_in}
-use Rattle.object_shapes.specs.Links.{built_in_count}
+use Rattle.page_meaning.specs.Places.{built_in_count}
 
 -- ---- sites
 

@@ -34,7 +34,7 @@ use Rattle.rebuilding.proofs.Placed.{at_or, function_low, number_at, place_built
 use Rattle.rebuilding.proofs.Stages.{IsFresh, MadeProps}
 use Rattle.rebuilding.proofs.Lasting.{proto_is}
 use Rattle.object_shapes.specs.Shapes.{HasShape, built_in_at}
-use Rattle.object_shapes.specs.Links.{built_in_count}
+use Rattle.page_meaning.specs.Places.{built_in_count}
 
 -- ---- a length of its own
 

@@ -9,8 +9,10 @@ use Rattle.object_heap.specs.Heap.{Contents}
 use Rattle.object_heap.specs.Object.{Object}
 use Rattle.object_heap.specs.Property.{Props}
 use Rattle.object_heap.specs.declared.object.Class.{Class}
-use Rattle.object_shapes.specs.Links.{built_in_count, is_thing, props_links, proto_links, value_links, values_links}
-use Rattle.object_shapes.specs.Shapes.{built_in_at, built_in_globals}
+use Rattle.page_meaning.specs.Places.{built_in_count}
+use Rattle.object_shapes.specs.Links.{is_thing, props_links, proto_links, value_links, values_links}
+use Rattle.object_shapes.specs.Shapes.{built_in_at}
+use Rattle.page_meaning.specs.Pristine.{built_in_globals}
 use Rattle.page_meaning.specs.Places.{window}
 use Rattle.page_meaning.specs.Store.{Store}
 use Rattle.heap_walker.specs.Still.{Still}

@@ -40,7 +40,8 @@ use Rattle.rebuild_plan.specs.declared.statement.Rebuild.TheVariants.{Make, Defi
 use Rattle.rebuilding.specs.Scene.{IsRoundOf, IsRunning, Scene, inside}
 use Rattle.rebuilding.specs.Sites.{site, sited, sited_needs, sited_proto, sited_value, sited_values}
 use Rattle.object_shapes.specs.Shapes.{built_in_at}
-use Rattle.object_shapes.specs.Links.{built_in_count, value_links, all_below}
+use Rattle.page_meaning.specs.Places.{built_in_count}
+use Rattle.object_shapes.specs.Links.{value_links, all_below}
 
 -- ---- what is asked for
 

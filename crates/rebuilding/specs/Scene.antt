@@ -17,7 +17,7 @@ use Rattle.page_meaning.specs.Descriptors.{open_property}
 use Rattle.page_meaning.specs.Names.{Here}
 use Rattle.page_meaning.specs.Places.{array_prototype, at_place, window}
 use Rattle.object_shapes.specs.Shapes.{IsWindow, built_in_at}
-use Rattle.object_shapes.specs.Links.{built_in_count}
+use Rattle.page_meaning.specs.Places.{built_in_count}
 
 -- the environment of the catch clause, and the place of the list
 pub record Scene : Type 0 where

@@ -8,7 +8,7 @@ use Rattle.object_heap.specs.Define.{with_value}
 use Rattle.object_heap.specs.Environment.{Bound}
 use Rattle.object_heap.specs.Property.{Props}
 use Rattle.object_heap.specs.declared.property.Prop.{Prop}
-use Rattle.object_shapes.specs.Links.{built_in_count}
+use Rattle.page_meaning.specs.Places.{built_in_count}
 
 -- of what a plan names by this place
 abbrev pub site : List ℕ → ℕ → ℕ

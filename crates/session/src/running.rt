@@ -2,12 +2,14 @@
 
 ghost use Rattle.std.specs.Prelude.{◌≡◌, [], IfOk, OnErr, OnOk, false, true};
 ghost use Rattle.page_meaning.specs.Pages.{after_scripts, do_event, load_of};
+ghost use Rattle.page_meaning.specs.Store.{without_lines};
 
 use code_numbering::script_code;
-use js_core::{OutOfMemory, Script};
-use js_values::{Event, Line};
+use js_core::{OutOfMemory, Script, Units, ascii_text};
+use js_values::{Event, Line, LineKind, NodeId};
 use page_check::CheckedPage;
 use page_machine::{Task, run_task};
+use page_start::pristine;
 use page_state::State;
 use std::alloc::Global;
 use std::marker::Model;
@@ -41,11 +43,15 @@ impl Model for Session {
 
 /// The page once its scripts have run, in document order.
 pub fn load(alloc: Global, page: CheckedPage) -> Result<Session, OutOfMemory>
-    ensures page { IfOk result (λ s. s.page ≡ load_of page.scripts) }
+    ensures page { IfOk result (λ s. s.page ≡ load_of (record {
+      nodes = page.nodes;
+      scripts = page.scripts;
+    })) }
     ensures fresh { IfOk result (λ s. s.is_spent ≡ false) }
 {
-    let mut state = State::pristine(alloc)?;
-    run_scripts(alloc, &mut state, page.into_scripts())?;
+    let (dom, scripts) = page.into_parts();
+    let mut state = pristine(alloc, dom)?;
+    run_scripts(alloc, &mut state, scripts)?;
     Ok(Session {
         state,
         is_spent: false,
@@ -63,14 +69,69 @@ fn run_scripts(alloc: Global, state: &mut State, scripts: Vec<Script>) -> Result
     Ok(())
 }
 
-// What a host event does to a page. What is not built yet is no event.
+// What a host event does to a page.
 fn act_on(state: &mut State, event: &Event) -> Result<(), OutOfMemory>
     ensures { OnOk result (state.new ≡ do_event event.now state.old) }
 {
     match event {
         Event::Call(name) => run_task(state, Task::Name(name.clone()?)),
-        Event::Fire { .. } | Event::Input { .. } | Event::Tick(_) | Event::Dom => Ok(()),
+        Event::Fire {
+            kind,
+            at,
+            bubbles,
+            cancelable,
+        } => fire(state, kind, at, *bubbles, *cancelable),
+        Event::Input { text, at } => input(state, text, at),
+        Event::Tick(time) => run_task(state, Task::Passes(*time)),
+        Event::Dom => put_dom(state),
     }
+}
+
+// The element with the id, or a line where there is none.
+fn element(state: &mut State, id: &Units) -> Result<Option<NodeId>, OutOfMemory> {
+    let found = state.host().dom().find_id(id);
+    if found.is_none() {
+        let text = Units::of(state.alloc(), &[])?;
+        state.put_line(LineKind::NoElement, text)?;
+    }
+    Ok(found)
+}
+
+// An event is dispatched at the element with the id.
+fn fire(
+    state: &mut State,
+    kind: &Units,
+    at: &Units,
+    bubbles: bool,
+    cancelable: bool,
+) -> Result<(), OutOfMemory> {
+    match element(state, at)? {
+        Some(node) => run_task(
+            state,
+            Task::Fires(kind.clone()?, bubbles, cancelable, node),
+        ),
+        None => Ok(()),
+    }
+}
+
+// The value is set, where the element takes one, and then `input` is dispatched.
+fn input(state: &mut State, text: &Units, at: &Units) -> Result<(), OutOfMemory> {
+    match element(state, at)? {
+        Some(node) => {
+            state.set_input(node, text.clone()?);
+            let kind = ascii_text(state.alloc(), b"input")?;
+            run_task(state, Task::Fires(kind, true, false, node))
+        }
+        None => Ok(()),
+    }
+}
+
+// The text of the document is put out.
+fn put_dom(state: &mut State) -> Result<(), OutOfMemory> {
+    let mut units = Vec::new(state.alloc());
+    state.host().dom().dom_text(NodeId(0), &mut units)?;
+    let text = Units::of(state.alloc(), units.as_slice())?;
+    state.put_line(LineKind::Dom, text)
 }
 
 impl Session {
@@ -98,16 +159,16 @@ impl Session {
         &self.state
     }
 
-    /// The lines that it put out since it was loaded, or since they were let go of. Takes no memory.
+    /// The lines that it put out since it was loaded, or since they were dropped. Takes no memory.
     pub fn lines(&self) -> &[Line]
         ensures { result.now ≡ self.now.page.lines }
     {
         self.state.lines()
     }
 
-    /// Lets go of its lines. Takes no memory.
+    /// Drops its lines. Takes no memory.
     pub fn clear_lines(&mut self)
-        ensures page { self.new.page ≡ record { heap = self.old.page.heap; lines = [] } }
+        ensures page { self.new.page ≡ without_lines self.old.page }
         ensures spent { self.new.is_spent ≡ self.old.is_spent }
     {
         self.state.clear_lines();

@@ -161,7 +161,7 @@ key_waits f v base s m r e h =
 
 -- a property by its name, and one by its key
 pub member_target : {E : Type 0} (f : Where) (x : List ℕ) (v : Value) (base : Option Value) (u : Value) (s t : Store) (m : Meter) (r : Result Next E) → kind_of (spot_node f) ≡ Member x
-    → IfOk r (λ n. Leads (rest_target_member x v u) (weigh_target (spot_node f) base) s m n t m)
+    → IfOk r (λ n. Leads (rest_target_member (calls_at m.depth) x v u) (weigh_target (spot_node f) base) s m n t m)
     → IfOk r (λ n. TargetGoes f v base u s m n t)
 member_target f x v base u s t m r e h = rw e h
 

@@ -203,7 +203,7 @@ fn go_key(
 
 // The right side runs, once the base and the name are known; where there is an operator, the property is read before.
 fn run_right(
-    state: &State,
+    state: &mut State,
     spot: Spot,
     op: Option<BinaryOp>,
     base: &Value,
@@ -211,7 +211,7 @@ fn run_right(
     meter: &Meter,
 ) -> Result<Next, OutOfMemory>
     requires { kind_of (spot_node spot) ≡ Kind.AssignIndex op }
-    ensures { IfOk result (λ n. RunsNamed spot op base.now name state.now meter.now n) }
+    ensures { IfOk result (λ n. RunsNamed spot op base.now name state.old meter.now n state.new) }
 {
     let mut got = Values::new(state.alloc());
     got.push(base.clone()?)?;
@@ -221,7 +221,10 @@ fn run_right(
             run_part(state, spot, 2, got, 2, meter)
         }
         Some(_) => {
-            let old = state.read_property(base, &name)?;
+            let old = match state.read_property(base, &name) {
+                Ok(old) => old,
+                Err(fault) => return give(Err(fault)),
+            };
             got.push(Value::Text(name))?;
             got.push(old)?;
             run_part(state, spot, 2, got, 2, meter)

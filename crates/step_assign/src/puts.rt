@@ -5,7 +5,7 @@ ghost use Rattle.page_meaning.specs.Act.{also};
 ghost use Rattle.page_meaning.specs.Convert.{text_in};
 ghost use Rattle.page_meaning.specs.Expressions.{assigned};
 ghost use Rattle.page_meaning.specs.Operators.{operate};
-ghost use Rattle.page_meaning.specs.Properties as spec_properties;
+ghost use Rattle.page_meaning.specs.HostPuts.{put_member as spec_put};
 ghost use Rattle.page_frames.specs.RestProperties as spec;
 ghost use Rattle.page_state.specs.Does.{Gives, itself};
 
@@ -20,7 +20,7 @@ pub(crate) fn put_member(
     name: &Units,
     value: Value,
 ) -> Result<Value, Fault>
-    ensures { Gives itself (λ _. assigned (spec_properties.put_member base.now name.now) value)
+    ensures { Gives itself (λ calls. assigned (spec_put calls base.now name.now) value)
         state.old state.new result }
 {
     let given = value.clone()?;
@@ -38,7 +38,7 @@ fn put_operated(
     value: &Value,
 ) -> Result<Value, Fault>
     ensures { Gives itself (λ calls. also (operate calls op old.now value.now)
-        (assigned (spec_properties.put_member base.now name.now))) state.old state.new result }
+        (assigned (spec_put calls base.now name.now))) state.old state.new result }
 {
     let new = state.operate(op, old, value)?;
     put_member(state, base, name, new)

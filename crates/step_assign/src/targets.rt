@@ -98,7 +98,7 @@ fn go_part(
 
 // A property takes the value, by its name.
 fn put_member(state: &mut State, name: &Units, value: Value, base: &Value) -> Result<Value, Fault>
-    ensures { Gives itself (λ _. spec.rest_target_member name.now value base.now)
+    ensures { Gives itself (λ calls. spec.rest_target_member calls name.now value base.now)
         state.old state.new result }
 {
     let tested = state.with_properties(base)?;

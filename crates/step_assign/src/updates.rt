@@ -3,7 +3,8 @@
 ghost use Rattle.std.specs.Prelude.{◌≡◌};
 ghost use Rattle.page_meaning.specs.Act.{also};
 ghost use Rattle.page_meaning.specs.Operators.{update_with};
-ghost use Rattle.page_meaning.specs.Properties.{put_member, read_property};
+ghost use Rattle.page_meaning.specs.HostPuts.{put_member};
+ghost use Rattle.page_meaning.specs.Properties.{read_property};
 ghost use Rattle.page_frames.specs.RestProperties as spec;
 ghost use Rattle.page_state.specs.Does.{Gives, itself};
 
@@ -50,7 +51,8 @@ fn update_named(
     name: &Units,
 ) -> Result<Value, Fault>
     ensures { Gives itself (λ calls. also (read_property base.now name.now)
-        (update_with calls up prefix (put_member base.now name.now))) state.old state.new result }
+        (update_with calls up prefix (put_member calls base.now name.now))) state.old
+        state.new result }
 {
     let old = state.read_property(base, name)?;
     state.update_member(up, prefix, base, name, &old)

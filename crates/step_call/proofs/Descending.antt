@@ -89,7 +89,7 @@ with_made (Ended Continue w n) made = refl
 with_made (Stopped w) made = refl
 
 -- a construction has one
-pub page_constructed : {E : Type 0} (at : ObjId) (c : tree.Code) (env : Option EnvId) (args : List Value) (made : ObjId) (w s t : Store) (m m1 : Meter) (r : Result Next E) → Does (λ _. fresh_for (Object at)) w made s
+pub page_constructed : {E : Type 0} (at : ObjId) (c : tree.Code) (env : Option EnvId) (args : List Value) (made : ObjId) (w s t : Store) (m m1 : Meter) (r : Result Next E) → Does (λ _. fresh_for at) w made s
     → IfOk r (λ n. Descends (λ calls. bind (enter (exec_all calls) c env (Object made) args) (λ s. ret (with_fresh (Some (Object made)) s))) s m n t m1)
     → IfOk r (λ n. Descends (λ calls. build calls (Object at) c env args) w m n t m1)
 page_constructed at c env args made w s t m m1 (Err x) d h = h
@@ -97,7 +97,7 @@ page_constructed at c env args made w s t m m1 (Ok n) d h = λ k lower.
     let a : Leads (bind (enter (exec_all (calls_at k)) c env (Object made) args) (λ s. ret (with_fresh (Some (Object made)) s))) heavy s m n t m1 = h k lower in
     record {
       follows =
-          build_goes (calls_at k) (Object at) c env args made w s m.steps d
+          build_goes (calls_at k) at c env args made w s m.steps d
           ∙ with_made ((enter (exec_all (calls_at k)) c env (Object made) args).run s m.steps) made ∙ a.follows;
       levels = a.levels;
       lighter = a.lighter;

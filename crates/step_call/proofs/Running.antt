@@ -147,10 +147,10 @@ makes_text at f w t m m1 r e h =
 -- ---- bound functions
 
 pub bound_made : (target : ObjId) (this : Value) (args : List Value) (formals : ℕ) (at : ObjId) (w t : Store) → formals ≡ length_of target w
-    → Does (λ _. make (bound_object target this args formals) (bound_fit target this args formals)) w at t → Does (λ _. bind_to target this args) w (Val (Object at)) t
+    → Does (λ _. make (bound_object target this args formals) (bound_fit target this args formals) refl) w at t → Does (λ _. bind_to target this args) w (Val (Object at)) t
 bound_made target this args formals at w t e d =
-    asked_does (length_of target) (λ _ n. bind (make (bound_object target this args n) (bound_fit target this args n)) object_of) (Val (Object at)) w t
-    (bind_does (λ _. make (bound_object target this args (length_of target w)) (bound_fit target this args (length_of target w))) (λ _. object_of) at (Val (Object at)) w t t (rw e at d)
+    asked_does (length_of target) (λ _ n. bind (make (bound_object target this args n) (bound_fit target this args n) refl) object_of) (Val (Object at)) w t
+    (bind_does (λ _. make (bound_object target this args (length_of target w)) (bound_fit target this args (length_of target w)) refl) (λ _. object_of) at (Val (Object at)) w t t (rw e at d)
     (given (Object at) t))
 
 pub may_bind : (v : Value) (at : ObjId) (vs : List Value) (s t : Store) (r : Result Value (Failure Value)) → v ≡ Object at → true ≡ is_callable v s → Gives itself (λ _. bind_to at (argument vs 0) (drop 1 vs)) s t r

@@ -73,7 +73,7 @@ pub(crate) fn construct_page(
         Descends (λ calls.
         build calls (Object at) code env args.now) state.old meter.old n state.new meter.new) }
 {
-    let made = state.new_instance(&Value::Object(at))?;
+    let made = state.new_instance(at)?;
     let fresh = Some(Value::Object(made));
     enter_body(state, code, env, Value::Object(made), args, fresh, meter)
 }

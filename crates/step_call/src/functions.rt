@@ -1,6 +1,6 @@
 //! What the prototype of functions has, and the text of an array, which calls its `join` (ECMA-262 5.1 sections 15.3.4 and 15.4.4.2).
 
-ghost use Rattle.std.specs.Prelude.{◌≡◌, ◌≢◌, ◌∷◌, ◌-◌, [], IfOk, drop};
+ghost use Rattle.std.specs.Prelude.{◌≡◌, ◌≢◌, ◌∷◌, ◌-◌, [], IfOk, drop, refl};
 ghost use Rattle.object_heap.specs.Define.{length_name, number};
 ghost use Rattle.object_heap.specs.Property.{fixed};
 ghost use Rattle.page_meaning.specs.Elements.{on_list};
@@ -231,7 +231,7 @@ fn make_bound(
 ) -> Result<ObjId, OutOfMemory>
     ensures { IfOk result (λ at.
         Does (λ _. make (spec.bound_object target this args formals)
-        (spec.bound_fit target this args formals)) state.old at state.new) }
+        (spec.bound_fit target this args formals) refl) state.old at state.new) }
 {
     let props = bound_props(state.alloc(), formals, args.len() as u64)?;
     let class = Class::Bound { target, this, args };
@@ -288,7 +288,7 @@ fn text_maker(state: &State, list: ObjId) -> Result<Value, OutOfMemory>
     ensures { IfOk result (λ v. v ≡ spec.text_maker list state.now) }
 {
     let name = ascii_text(state.alloc(), b"join")?;
-    let join = state.read_property(&Value::Object(list), &name)?;
+    let join = state.get_at(list, &name)?;
     if state.is_function(&join) {
         Ok(join)
     } else {

@@ -11,6 +11,7 @@ ghost use Rattle.page_state.specs.Turns.{Ends};
 ghost use Rattle.step_call.specs.Callees.{Descends};
 
 use crate::functions::run_function;
+use event_dispatch::begin_row;
 use js_core::OutOfMemory;
 use js_values::{BuiltIn, Value};
 use object_heap::Values;
@@ -41,6 +42,9 @@ pub(crate) fn run_native(
         RowFamily::Function => run_function(state, which, this, values, meter),
         RowFamily::List => run_list(state, which, this, values, meter),
         RowFamily::Visit => begin_visit(state, which, this, values, meter),
+        RowFamily::Node => give(dom_host::row(state, which, this, values)),
+        RowFamily::Timer => give(timer_rows::row(state, which, values)),
+        RowFamily::Dispatch => begin_row(state, this, values, meter),
     }
 }
 
@@ -130,6 +134,38 @@ fn family_of(which: BuiltIn) -> RowFamily
         | BuiltIn::MathMin
         | BuiltIn::MathPow
         | BuiltIn::MathRound => RowFamily::Text,
+        _ => host_family_of(which),
+    }
+}
+
+// Those of nodes, events and timers; all others act on objects and values.
+fn host_family_of(which: BuiltIn) -> RowFamily {
+    match which {
+        BuiltIn::NodePrototypeInsertBefore
+        | BuiltIn::NodePrototypeReplaceChild
+        | BuiltIn::NodePrototypeRemoveChild
+        | BuiltIn::NodePrototypeAppendChild
+        | BuiltIn::NodePrototypeHasChildNodes
+        | BuiltIn::NodePrototypeGetAttribute
+        | BuiltIn::NodePrototypeSetAttribute
+        | BuiltIn::NodePrototypeRemoveAttribute
+        | BuiltIn::NodePrototypeHasAttribute
+        | BuiltIn::NodePrototypeAddEventListener
+        | BuiltIn::NodePrototypeRemoveEventListener => RowFamily::Node,
+        BuiltIn::NodePrototypeGetElementById
+        | BuiltIn::NodePrototypeCreateElement
+        | BuiltIn::NodePrototypeCreateTextNode
+        | BuiltIn::NodePrototypeCreateComment
+        | BuiltIn::NodePrototypeCreateEvent
+        | BuiltIn::EventPrototypeInitEvent
+        | BuiltIn::EventPrototypeStopPropagation
+        | BuiltIn::EventPrototypePreventDefault => RowFamily::Node,
+        BuiltIn::NodePrototypeDispatchEvent => RowFamily::Dispatch,
+        BuiltIn::SetTimeout
+        | BuiltIn::SetInterval
+        | BuiltIn::SetIntervalFrom
+        | BuiltIn::ClearTimeout
+        | BuiltIn::ClearInterval => RowFamily::Timer,
         _ => RowFamily::Object,
     }
 }

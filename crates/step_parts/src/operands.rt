@@ -93,7 +93,10 @@ fn member(state: &State, base: &Value, name: &Units) -> Result<Option<Value>, Ou
 {
     match base {
         Value::Undefined | Value::Null => Ok(None),
-        _ => Ok(Some(state.read_property(base, name)?)),
+        _ => match state.property_of(base, name)? {
+            Ok(value) => Ok(Some(value)),
+            Err(_) => Ok(None),
+        },
     }
 }
 

@@ -1,3 +1,4 @@
+use Rattle.std.specs.Prelude.{refl}
 use Rattle.js_values.specs.declared.value.Value.TheVariants.{Object}
 use Rattle.object_heap.specs.Heap.{new_object}
 use Rattle.object_heap.proofs.Callers.{new_fit}
@@ -8,4 +9,4 @@ use Rattle.page_state.proofs.Callers.{bind_gives}
 use Rattle.builtin_object.proofs.objects.new_with.Goals as goal
 
 pub returns : goal.returns
-returns c = bind_gives (λ _. make (new_object Plain c.args.proto) (new_fit Plain c.args.proto)) (λ _. object.with_given c.args.descriptors.now) (λ x. Object x) c.in_ok-at.at c.args.state.now c.new_object.new.self c.with_given.new.state c.with_given.result c.in_ok-at.ensures c.with_given.ensures
+returns c = bind_gives (λ _. make (new_object Plain c.args.proto) (new_fit Plain c.args.proto) refl) (λ _. object.with_given c.args.descriptors.now) (λ x. Object x) c.in_ok-at.at c.args.state.now c.new_object.new.self c.with_given.new.state c.with_given.result c.in_ok-at.ensures c.with_given.ensures

@@ -8,7 +8,7 @@ use Rattle.step_assign.proofs.targets.go_part.Goals as goal
 pub returns-in-Member : goal.returns-in-Member
 returns-in-Member c =
     member_target c.args.frame.spot c.in-Member.name c.args.frame.value c.args.frame.base c.args.part c.args.state.now c.put_member.new.state c.args.meter.now c.give.result (sym c.kind.ensures ∙ c.in-Member.is)
-    (c.give.ensures (λ _. rest_target_member c.in-Member.name c.args.frame.value c.args.part) c.args.state.now c.put_member.new.state (weigh_target (spot_node c.args.frame.spot) c.args.frame.base) c.args.meter.now
+    (c.give.ensures (λ calls. rest_target_member calls c.in-Member.name c.args.frame.value c.args.part) c.args.state.now c.put_member.new.state (weigh_target (spot_node c.args.frame.spot) c.args.frame.base) c.args.meter.now
     c.put_member.ensures)
 
 pub returns-in-None : goal.returns-in-None

@@ -1,0 +1,59 @@
+//! Rows of attributes (DOM Level 2 Core, interface Element). A name is put in lower case; only `setAttribute` judges it.
+
+ghost use Rattle.std.specs.Prelude.{◌≡◌};
+ghost use Rattle.js_values.specs.declared.built_in.BuiltIn.TheVariants as built_in;
+ghost use Rattle.page_meaning.specs.NodeRows.{node_row};
+ghost use Rattle.page_state.specs.Does.{Gives, itself};
+
+use crate::tests::{element, text};
+use js_values::Value;
+use page_state::{Fault, State};
+
+/// `getAttribute`, which gives null where there is none.
+pub(crate) fn get(state: &mut State, this: &Value, args: &[Value]) -> Result<Value, Fault>
+    ensures { Gives itself (λ calls. node_row calls
+        built_in.NodePrototypeGetAttribute this.now args.now) state.old state.new result }
+{
+    let node = element(state, this)?;
+    let name = text(state, args, 0)?;
+    match state.host().dom().content(node).attributes.get(&name) {
+        Some(value) => Ok(Value::Text(value.clone()?)),
+        None => Ok(Value::Null),
+    }
+}
+
+/// `setAttribute`
+pub(crate) fn set(state: &mut State, this: &Value, args: &[Value]) -> Result<Value, Fault>
+    ensures { Gives itself (λ calls. node_row calls
+        built_in.NodePrototypeSetAttribute this.now args.now) state.old state.new result }
+{
+    let node = element(state, this)?;
+    let name = text(state, args, 0)?;
+    let value = text(state, args, 1)?;
+    match state.set_attribute(node, &name, &value)? {
+        None => Ok(Value::Undefined),
+        Some(what) => Err(state.raise(what)),
+    }
+}
+
+/// `removeAttribute`
+pub(crate) fn remove(state: &mut State, this: &Value, args: &[Value]) -> Result<Value, Fault>
+    ensures { Gives itself (λ calls. node_row calls
+        built_in.NodePrototypeRemoveAttribute this.now args.now) state.old state.new result }
+{
+    let node = element(state, this)?;
+    let name = text(state, args, 0)?;
+    state.remove_attribute(node, &name);
+    Ok(Value::Undefined)
+}
+
+/// `hasAttribute`
+pub(crate) fn has(state: &mut State, this: &Value, args: &[Value]) -> Result<Value, Fault>
+    ensures { Gives itself (λ calls. node_row calls
+        built_in.NodePrototypeHasAttribute this.now args.now) state.old state.new result }
+{
+    let node = element(state, this)?;
+    let name = text(state, args, 0)?;
+    let found = state.host().dom().content(node).attributes.get(&name).is_some();
+    Ok(Value::Bool(found))
+}

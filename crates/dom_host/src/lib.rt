@@ -1,0 +1,10 @@
+//! What the prototypes of nodes and events hold, but for dispatch (DOM Level 2 Core and Events).
+#![tactic(auto)]
+
+mod attributes;
+mod events;
+mod nodes;
+mod rows;
+mod tests;
+
+pub use rows::row;

@@ -1,0 +1,8 @@
+//! A page before its scripts: the built-in objects by age, and the objects of its nodes (ECMA-262 5.1 section 15).
+#![tactic(auto)]
+
+mod methods;
+mod pristine;
+mod tables;
+
+pub use pristine::pristine;

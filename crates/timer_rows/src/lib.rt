@@ -1,0 +1,6 @@
+//! The functions of timers (HTML, timers).
+#![tactic(auto)]
+
+mod rows;
+
+pub use rows::row;

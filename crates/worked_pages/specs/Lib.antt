@@ -1,0 +1,5 @@
+pub mod Expressions
+pub mod Objects
+pub mod Pages
+pub mod Statements
+pub mod Worked
