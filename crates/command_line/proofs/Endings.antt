@@ -1,29 +1,47 @@
 -- How commands end, by what their parts answer.
-use Rattle.std.proofs.Common.{◌≡◌, ℕ, ◌≤◌, true, false, List, [], ◌∷◌, length, Option, Some, None, refl, sym, ap, subst, inl, inr, arith}
+use Rattle.std.proofs.Common.{◌≡◌, ℕ, ◌≤◌, true, false, List, [], ◌∷◌, ◌++◌, length, Option, Some, None, IfSome, Result, Ok as Good, Err, Vec, Global, refl, sym, ap, ◌∙◌, subst, inl, inr, arith, IfOk, IfErr}
 use Rattle.std.specs.Prelude.{◌⊎◌}
 use Rattle.page_io.specs.Content.{Told}
 use Rattle.page_io.specs.Faults.{Rose}
+use Rattle.page_io.specs.Seen.{FilesSeen, KeeperSeen, SinkSeen}
+use Rattle.page_io.specs.Taken.{Takes, TakesFront}
 use Rattle.page_check.specs.Accept.{IsRefused}
 use Rattle.page_check.specs.declared.page.Refusal.{Refusal}
 use Rattle.page_check.specs.declared.page.Refusal.TheVariants.{NotPage}
 use Rattle.page_meaning.specs.Pages.{run_of}
 use Rattle.js_values.specs.declared.event.Event.{Event}
 use Rattle.command_line.specs.declared.status.Status.{Status}
-use Rattle.command_line.specs.declared.status.Status.TheVariants.{Ok, PageRefused, Usage, EventsRefused, ReadFault, WriteFault, TooLarge, OutOfMemory}
+use Rattle.command_line.specs.declared.status.Status.TheVariants.{Ok, PageRefused, Usage, EventsRefused, ReadFault, WriteFault, TooLarge, OutOfMemory, KeeperFault, NoSession, VersionsUsed}
 use Rattle.command_line.specs.declared.command.Work.TheVariants.{Replay, Save}
 use Rattle.command_line.specs.Bare.{IsBareAs, IsNotRun, is_bare}
-use Rattle.command_line.specs.Command.{Command, check, instrument, session}
+use Rattle.command_line.specs.Checking.{Tells}
+use Rattle.command_line.specs.Command.{Command, check, instrument, session, park, fetch, parked, drop_row}
 use Rattle.command_line.specs.Moving.{IsAnswer}
 use Rattle.command_line.specs.Opening.{OpensTo}
 use Rattle.command_line.specs.Page.{page_limit, Page, IsAccepted, IsPage, opened}
-use Rattle.command_line.specs.Reading.{StopsAtPage, StopsAtEvents}
+use Rattle.command_line.specs.Reading.{AreRead, StopsAtPage, StopsAtEvents}
 use Rattle.command_line.specs.Replay.{IsEventFile}
-use Rattle.command_line.specs.Stages.{Seen, Of, Held, ReadFailed, Stops, Stage, page_file, acceptance, bareness, event_file, moving, writing, EndsAt, work_of, Ends}
-use Rattle.command_line.specs.Texts.{PutsNothing, PutsText, Puts}
+use Rattle.command_line.specs.Stages.{Seen, seen_between, unasked, unread, unwritten, Of, Held, ReadFailed, Stops, StopsWriting, Stage, page_file, acceptance, bareness, event_file, moving, next_row, one_row, all_rows, Passes, PassesAll, EndsAt, EndsBy, Lasts, reading, work_of, work_behind, words, Ends}
+use Rattle.command_line.specs.Texts.{Answers, Changes, Gives, IsPut, KeepsRows, PutsNothing, PutsText, Puts, Rows, RowsAfter, TextOf, Writes}
 use Rattle.command_line.proofs.Moves.{SavingLaws}
-use Rattle.command_line.proofs.Works.{Both, told_begins, told_large, told_movable, told_saves}
+use Rattle.command_line.proofs.Works.{told_begins, told_large, told_movable, told_saves}
 use Rattle.opened_pages.specs.Opened.{HaveNumbers}
 use Rattle.page_writer.specs.Page.{saved_page}
+
+-- ---- lists of stages
+
+pub ends_within : (gs hs : List Stage) (status : Status) (seen : Seen) → EndsAt gs status seen → EndsAt (gs ++ hs) status seen
+ends_within [] hs status seen h = absurd h
+ends_within (g ∷ gs) hs status seen (inl h) = inl h
+ends_within (g ∷ gs) hs status seen (inr h) = inr (h.0, ends_within gs hs status seen h.1)
+
+pub ends_behind : (gs hs : List Stage) (status : Status) (seen : Seen) → PassesAll gs seen → EndsAt hs status seen → EndsAt (gs ++ hs) status seen
+ends_behind [] hs status seen p h = h
+ends_behind (g ∷ gs) hs status seen p h = inr (p.0, ends_behind gs hs status seen p.1 h)
+
+pub passes_both : (gs hs : List Stage) (seen : Seen) → PassesAll gs seen → PassesAll hs seen → PassesAll (gs ++ hs) seen
+passes_both [] hs seen p q = q
+passes_both (g ∷ gs) hs seen p q = (p.0, passes_both gs hs seen p.1 q)
 
 -- ---- what is told of the bytes of a name
 
@@ -60,20 +78,17 @@ told_events None events h = tt
 told_events (Some None) events h = absurd h
 told_events (Some (Some file)) events h = (events, h)
 
--- ---- reading and accepting a page, before what stands behind
+-- ---- reading and accepting a page
 
-stops_at_page : (p : List ℕ) (gs : List Stage) (status : Status) (seen : Seen) → StopsAtPage IsRefused status (seen.files_before.content p)
-    → (status ≡ ReadFault → ReadFailed p seen) → EndsAt (page_file p ∷ acceptance p ∷ gs) status seen
-stops_at_page p gs Ok seen h f = absurd h
-stops_at_page p gs (PageRefused None) seen h f = inl h
-stops_at_page p gs (PageRefused (Some r)) seen h f =
+-- reading the page ends a command that takes any page
+stops_at_page : (p : List ℕ) (status : Status) (seen : Seen) → StopsAtPage IsRefused status (seen.files_before.content p)
+    → (status ≡ ReadFault → ReadFailed p seen.files_before seen.files_now) → EndsAt (page_file p ∷ acceptance p ∷ []) status seen
+stops_at_page p (PageRefused None) seen h f = inl h
+stops_at_page p (PageRefused (Some r)) seen h f =
     let both = told_fits (seen.files_before.content p) (λ b. IsRefused b r) h in inr (both.0, inl both.1)
-stops_at_page p gs Usage seen h f = absurd h
-stops_at_page p gs (EventsRefused i) seen h f = absurd h
-stops_at_page p gs ReadFault seen h f = inl (f refl)
-stops_at_page p gs WriteFault seen h f = absurd h
-stops_at_page p gs (TooLarge w) seen h f = absurd h
-stops_at_page p gs OutOfMemory seen h f = inl tt
+stops_at_page p ReadFault seen h f = inl (f refl)
+stops_at_page p OutOfMemory seen h f = inl tt
+stops_at_page p status seen h f = absurd h
 
 -- a page that is not run is not accepted, or is one that cannot be run
 not_run_at : (p : List ℕ) (gs : List Stage) (seen : Seen) (told : Told) (r : Refusal) → seen.files_before.content p ≡ told
@@ -92,164 +107,137 @@ not_run_at p gs seen (Some (Some bytes)) r e h = by h.1
         ) in
         subst (λ (c : Refusal). EndsAt (page_file p ∷ acceptance p ∷ bareness p ∷ gs) (PageRefused (Some c)) seen) (sym other.0) ends
 
+-- reading the page ends a command that runs it
 stops_at_bare : (p : List ℕ) (gs : List Stage) (status : Status) (seen : Seen) → StopsAtPage IsNotRun status (seen.files_before.content p)
-    → (status ≡ ReadFault → ReadFailed p seen) → EndsAt (page_file p ∷ acceptance p ∷ bareness p ∷ gs) status seen
-stops_at_bare p gs Ok seen h f = absurd h
+    → (status ≡ ReadFault → ReadFailed p seen.files_before seen.files_now) → EndsAt (page_file p ∷ acceptance p ∷ bareness p ∷ gs) status seen
 stops_at_bare p gs (PageRefused None) seen h f = inl h
 stops_at_bare p gs (PageRefused (Some r)) seen h f = not_run_at p gs seen (seen.files_before.content p) r refl h
-stops_at_bare p gs Usage seen h f = absurd h
-stops_at_bare p gs (EventsRefused i) seen h f = absurd h
 stops_at_bare p gs ReadFault seen h f = inl (f refl)
-stops_at_bare p gs WriteFault seen h f = absurd h
-stops_at_bare p gs (TooLarge w) seen h f = absurd h
 stops_at_bare p gs OutOfMemory seen h f = inl tt
-
-behind_acceptance : (p : List ℕ) (gs : List Stage) (status : Status) (seen : Seen) (page : Page) → Held seen p (λ b. IsPage b page)
-    → EndsAt gs status seen → EndsAt (page_file p ∷ acceptance p ∷ gs) status seen
-behind_acceptance p gs status seen page h s = let both = told_accepted (seen.files_before.content p) page h in inr (both.0, inr (both.1, s))
-
-behind_bareness : (p : List ℕ) (gs : List Stage) (status : Status) (seen : Seen) (page : Page) → Held seen p (λ b. IsPage b page) → is_bare page.nodes ≡ true
-    → EndsAt gs status seen → EndsAt (page_file p ∷ acceptance p ∷ bareness p ∷ gs) status seen
-behind_bareness p gs status seen page h bare s =
-    behind_acceptance p (bareness p ∷ gs) status seen page h (inr (told_bare (seen.files_before.content p) page bare h, s))
+stops_at_bare p gs status seen h f = absurd h
 
 -- ---- check
 
--- reading the page ends a check
-pub check_stops : (p : List ℕ) (status : Status) (seen : Seen) → StopsAtPage IsRefused status (seen.files_before.content p)
-    → (status ≡ ReadFault → ReadFailed p seen) → EndsAt (work_of (check p)) status seen
-check_stops p status seen h f = stops_at_page p (writing ∷ []) status seen h f
+pub check_refuses : (p : List ℕ) (status : Status) (seen : Seen) → StopsAtPage IsRefused status (seen.files_before.content p)
+    → (status ≡ ReadFault → ReadFailed p seen.files_before seen.files_now) → KeepsRows seen → Gives (check p) (Err status) seen
+check_refuses p status seen h f k = (stops_at_page p status seen h f, k)
 
--- or writing does
-pub check_writes : (p : List ℕ) (status : Status) (seen : Seen) (page : Page) → Held seen p (λ b. IsPage b page) → Stops writing status seen
-    → EndsAt (work_of (check p)) status seen
-check_writes p status seen page h s = behind_acceptance p (writing ∷ []) status seen page h (inl s)
+pub check_gives : (p : List ℕ) (text : Vec ℕ Global) (seen : Seen) (page : Page) → Held seen p (λ b. IsPage b page) → Held seen p (λ b. Tells b text.items)
+    → KeepsRows seen → Gives (check p) (Good text) seen
+check_gives p text seen page h t k = let both = told_accepted (seen.files_before.content p) page h in ((both.0, (both.1, tt)), t, k)
 
 -- ---- instrument
 
--- reading the page ends it
-pub instrument_stops : (p : List ℕ) (status : Status) (seen : Seen) → StopsAtPage IsNotRun status (seen.files_before.content p)
-    → (status ≡ ReadFault → ReadFailed p seen) → EndsAt (work_of (instrument p)) status seen
-instrument_stops p status seen h f = stops_at_bare p (writing ∷ []) status seen h f
+pub instrument_gives : (p : List ℕ) (r : Result (Vec ℕ Global) Status) (seen : Seen) → IfOk r (λ text. Held seen p (λ b. OpensTo b text.items))
+    → IfOk r (λ _. Held seen p (λ b. IsBareAs b true)) → IfErr r (λ status. StopsAtPage IsNotRun status (seen.files_before.content p))
+    → (r ≡ Err ReadFault → ReadFailed p seen.files_before seen.files_now) → KeepsRows seen → Gives (instrument p) r seen
+instrument_gives p (Good text) seen h bare s f k =
+    let both = told_opened (seen.files_before.content p) text.items h in ((both.0, (both.1, (bare, tt))), h, k)
+instrument_gives p (Err status) seen h bare s f k = (stops_at_bare p [] status seen s (λ e. f (ap Err e)), k)
 
--- or writing does
-pub instrument_writes : (p : List ℕ) (text : List ℕ) (status : Status) (seen : Seen) → Held seen p (λ b. OpensTo b text) → Held seen p (λ b. IsBareAs b true)
-    → Stops writing status seen → EndsAt (work_of (instrument p)) status seen
-instrument_writes p text status seen h bare s =
-    let both = told_opened (seen.files_before.content p) text h in inr (both.0, inr (both.1, inr (bare, inl s)))
+-- ---- a page and its events
 
--- ---- the events
+stops_at_events : (e : List ℕ) (status : Status) (seen : Seen) → StopsAtEvents status (seen.files_before.content e)
+    → (status ≡ ReadFault → ReadFailed e seen.files_before seen.files_now) → EndsAt (event_file e ∷ []) status seen
+stops_at_events e (EventsRefused i) seen h f = inl h
+stops_at_events e ReadFault seen h f = inl (f refl)
+stops_at_events e OutOfMemory seen h f = inl tt
+stops_at_events e status seen h f = absurd h
 
-stops_at_events : (e : List ℕ) (gs : List Stage) (status : Status) (seen : Seen) → StopsAtEvents status (seen.files_before.content e)
-    → (status ≡ ReadFault → ReadFailed e seen) → EndsAt (event_file e ∷ gs) status seen
-stops_at_events e gs Ok seen h f = absurd h
-stops_at_events e gs (PageRefused r) seen h f = absurd h
-stops_at_events e gs Usage seen h f = absurd h
-stops_at_events e gs (EventsRefused i) seen h f = inl h
-stops_at_events e gs ReadFault seen h f = inl (f refl)
-stops_at_events e gs WriteFault seen h f = absurd h
-stops_at_events e gs (TooLarge w) seen h f = absurd h
-stops_at_events e gs OutOfMemory seen h f = inl tt
+passes_bare : (p : List ℕ) (seen : Seen) (page : Page) → Held seen p (λ b. IsPage b page) → is_bare page.nodes ≡ true
+    → PassesAll (page_file p ∷ acceptance p ∷ bareness p ∷ []) seen
+passes_bare p seen page h bare =
+    let both = told_accepted (seen.files_before.content p) page h in (both.0, (both.1, (told_bare (seen.files_before.content p) page bare h, tt)))
+
+pub page_stops_reading : (p e : List ℕ) (status : Status) (seen : Seen) → StopsAtPage IsNotRun status (seen.files_before.content p)
+    → (status ≡ ReadFault → ReadFailed p seen.files_before seen.files_now) → EndsAt (reading p e) status seen
+page_stops_reading p e status seen h f = stops_at_bare p (event_file e ∷ []) status seen h f
+
+pub events_stop_reading : (p e : List ℕ) (status : Status) (seen : Seen) (page : Page) → Held seen p (λ b. IsPage b page) → is_bare page.nodes ≡ true
+    → StopsAtEvents status (seen.files_before.content e) → (status ≡ ReadFault → ReadFailed e seen.files_before seen.files_now)
+    → EndsAt (reading p e) status seen
+events_stop_reading p e status seen page h bare s f =
+    ends_behind (page_file p ∷ acceptance p ∷ bareness p ∷ []) (event_file e ∷ []) status seen (passes_bare p seen page h bare) (stops_at_events e status seen s f)
+
+pub passes_reading : (p e : List ℕ) (seen : Seen) (page : Page) (events : List Event) → AreRead (seen.files_before.content p) (seen.files_before.content e) page events
+    → PassesAll (reading p e) seen
+passes_reading p e seen page events read =
+    passes_both (page_file p ∷ acceptance p ∷ bareness p ∷ []) (event_file e ∷ []) seen (passes_bare p seen page read.of_page read.bare)
+    (told_events (seen.files_before.content e) events read.of_file, tt)
 
 -- ---- replay
 
--- reading the page ends the session
-pub replay_stops : (p e : List ℕ) (status : Status) (seen : Seen) → StopsAtPage IsNotRun status (seen.files_before.content p)
-    → (status ≡ ReadFault → ReadFailed p seen) → EndsAt (work_of (session Replay p e)) status seen
-replay_stops p e status seen h f = stops_at_bare p (event_file e ∷ writing ∷ []) status seen h f
+pub replay_refuses : (p e : List ℕ) (status : Status) (seen : Seen) → EndsAt (reading p e) status seen → KeepsRows seen
+    → Gives (session Replay p e) (Err status) seen
+replay_refuses p e status seen h k = (h, k)
 
--- or reading the events does
-pub replay_events : (p e : List ℕ) (status : Status) (seen : Seen) (page : Page) → Held seen p (λ b. IsPage b page) → is_bare page.nodes ≡ true
-    → StopsAtEvents status (seen.files_before.content e) → (status ≡ ReadFault → ReadFailed e seen)
-    → EndsAt (work_of (session Replay p e)) status seen
-replay_events p e status seen page h bare s f =
-    behind_bareness p (event_file e ∷ writing ∷ []) status seen page h bare (stops_at_events e (writing ∷ []) status seen s f)
-
--- or writing does
-pub replay_writes : (p e : List ℕ) (status : Status) (seen : Seen) (page : Page) (events : List Event) → Held seen p (λ b. IsPage b page) → is_bare page.nodes ≡ true
-    → Held seen e (λ f. IsEventFile f events) → Stops writing status seen → EndsAt (work_of (session Replay p e)) status seen
-replay_writes p e status seen page events h bare g s =
-    behind_bareness p (event_file e ∷ writing ∷ []) status seen page h bare (inr (told_events (seen.files_before.content e) events g, inl s))
+pub replay_gives : (p e : List ℕ) (text : Vec ℕ Global) (seen : Seen) (page : Page) (events : List Event)
+    → AreRead (seen.files_before.content p) (seen.files_before.content e) page events → TextOf (session Replay p e) seen text.items → KeepsRows seen
+    → Gives (session Replay p e) (Good text) seen
+replay_gives p e text seen page events read t k = (passes_reading p e seen page events read, t, k)
 
 -- ---- save
 
--- reading the page ends the session
-pub save_stops : (p e : List ℕ) (status : Status) (seen : Seen) → StopsAtPage IsNotRun status (seen.files_before.content p)
-    → (status ≡ ReadFault → ReadFailed p seen) → EndsAt (work_of (session Save p e)) status seen
-save_stops p e status seen h f = stops_at_bare p (event_file e ∷ moving p e ∷ writing ∷ []) status seen h f
+-- reading ends it: no text is put
+pub reading_is_refusal : (p e : List ℕ) (status : Status) (seen : Seen) → EndsAt (reading p e) status seen → PutsNothing seen → PutsText (session Save p e) status seen
+reading_is_refusal p e Ok seen (inl h) n = absurd h
+reading_is_refusal p e Ok seen (inr (a, inl h)) n = absurd h
+reading_is_refusal p e Ok seen (inr (a, inr (b, inl h))) n = absurd h
+reading_is_refusal p e Ok seen (inr (a, inr (b, inr (c, inl h)))) n = absurd h
+reading_is_refusal p e Ok seen (inr (a, inr (b, inr (c, inr h)))) n = absurd h.1
+reading_is_refusal p e WriteFault seen (inl h) n = absurd h
+reading_is_refusal p e WriteFault seen (inr (a, inl h)) n = absurd h
+reading_is_refusal p e WriteFault seen (inr (a, inr (b, inl h))) n = absurd h
+reading_is_refusal p e WriteFault seen (inr (a, inr (b, inr (c, inl h)))) n = absurd h
+reading_is_refusal p e WriteFault seen (inr (a, inr (b, inr (c, inr h)))) n = absurd h.1
+reading_is_refusal p e OutOfMemory seen h n = inl n
+reading_is_refusal p e status seen h n = n
 
--- or reading the events does
-pub save_events : (p e : List ℕ) (status : Status) (seen : Seen) (page : Page) → Held seen p (λ b. IsPage b page) → is_bare page.nodes ≡ true
-    → StopsAtEvents status (seen.files_before.content e) → (status ≡ ReadFault → ReadFailed e seen)
-    → EndsAt (work_of (session Save p e)) status seen
-save_events p e status seen page h bare s f =
-    behind_bareness p (event_file e ∷ moving p e ∷ writing ∷ []) status seen page h bare (stops_at_events e (moving p e ∷ writing ∷ []) status seen s f)
+keeps_saving : (p e : List ℕ) (status : Status) (seen : Seen) → KeepsRows seen → RowsAfter (session Save p e) status seen
+keeps_saving p e Ok seen k = k
+keeps_saving p e WriteFault seen k = k
+keeps_saving p e status seen k = k
 
-module _ (p e : List ℕ) (seen : Seen) (page : Page) (events : List Event) (both : Both (seen.files_before.content p) (seen.files_before.content e) page events) where
+pub save_stops : (p e : List ℕ) (status : Status) (seen : Seen) → EndsAt (reading p e) status seen → PutsNothing seen → KeepsRows seen → Lasts seen
+    → Answers (session Save p e) status seen
+save_stops p e status seen h n k lasts = record {
+  ends = inl (ends_within (reading p e) (moving p e ∷ []) status seen h);
+  puts = reading_is_refusal p e status seen h n;
+  rows = keeps_saving p e status seen k;
+  lasts = lasts;
+}
+
+module _ (p e : List ℕ) (seen : Seen) (page : Page) (events : List Event) (read : AreRead (seen.files_before.content p) (seen.files_before.content e) page events) where
   -- what was answered of the page as it is ends it
   moving_ends : (status : Status) → IsAnswer (run_of (opened page) events) seen.out_before seen.out_now status
-      → EndsAt (moving p e ∷ writing ∷ []) status seen
-  moving_ends Ok a = inr (told_movable _ _ page events both a.0 a.1, inl tt)
-  moving_ends WriteFault a = inr (told_movable _ _ page events both a.0 a.1, inl a.3)
-  moving_ends (PageRefused r) a = absurd a
-  moving_ends (TooLarge w) a = inl (told_large _ _ page events both a.1.0 w a.1.1)
-  moving_ends OutOfMemory a = inl tt
-  moving_ends Usage a = absurd a
-  moving_ends (EventsRefused i) a = absurd a
-  moving_ends ReadFault a = absurd a
-
-  pub save_answers : (status : Status) → is_bare page.nodes ≡ true → IsAnswer (run_of (opened page) events) seen.out_before seen.out_now status
-      → EndsAt (work_of (session Save p e)) status seen
-  save_answers status bare a =
-      behind_bareness p (event_file e ∷ moving p e ∷ writing ∷ []) status seen page both.of_page bare
-      (inr (told_events (seen.files_before.content e) events both.of_file, moving_ends status a))
+      → EndsBy (reading p e ++ moving p e ∷ []) status seen
+  moving_ends Ok a = inr (passes_both (reading p e) (moving p e ∷ []) seen (passes_reading p e seen page events read) (told_movable _ _ page events read a.0 a.1, tt), tt)
+  moving_ends WriteFault a = inr (passes_both (reading p e) (moving p e ∷ []) seen (passes_reading p e seen page events read) (told_movable _ _ page events read a.0 a.1, tt), a.3)
+  moving_ends (TooLarge w) a = inl (ends_behind (reading p e) (moving p e ∷ []) (TooLarge w) seen (passes_reading p e seen page events read) (inl (told_large _ _ page events read a.1.0 w a.1.1)))
+  moving_ends OutOfMemory a = inl (ends_behind (reading p e) (moving p e ∷ []) OutOfMemory seen (passes_reading p e seen page events read) (inl tt))
+  moving_ends status a = absurd a
 
   -- and tells what is put
-  pub save_puts : (laws : SavingLaws) (status : Status) → (¬ (status ≡ OutOfMemory) → HaveNumbers page.kind page.scripts)
+  save_puts : (laws : SavingLaws) (status : Status) → (¬ (status ≡ OutOfMemory) → HaveNumbers page.kind page.scripts)
       → IsAnswer (run_of (opened page) events) seen.out_before seen.out_now status → PutsText (session Save p e) status seen
   save_puts laws Ok numbered a =
-      (saved_page (run_of (opened page) events) a.0, told_saves _ _ page events both a.0 laws (numbered (λ e. cc)) a.1, a.2)
+      (saved_page (run_of (opened page) events) a.0, told_saves _ _ page events read a.0 laws (numbered (λ e. cc)) a.1, a.2)
   save_puts laws WriteFault numbered a =
-      (saved_page (run_of (opened page) events) a.0, told_saves _ _ page events both a.0 laws (numbered (λ e. cc)) a.1, a.2)
-  save_puts laws (PageRefused r) numbered a = absurd a
+      (saved_page (run_of (opened page) events) a.0, told_saves _ _ page events read a.0 laws (numbered (λ e. cc)) a.1, a.2)
   save_puts laws (TooLarge w) numbered a = ap (λ s. s.taken) a.0
   save_puts laws OutOfMemory numbered (inl a) = inl (ap (λ s. s.taken) a)
   save_puts laws OutOfMemory numbered (inr a) =
-      inr (saved_page (run_of (opened page) events) a.0, told_begins _ _ page events both a.0 a.1, a.2)
-  save_puts laws Usage numbered a = absurd a
-  save_puts laws (EventsRefused i) numbered a = absurd a
-  save_puts laws ReadFault numbered a = absurd a
+      inr (saved_page (run_of (opened page) events) a.0, told_begins _ _ page events read a.0 a.1, a.2)
+  save_puts laws status numbered a = absurd a
 
--- ---- nothing is put where reading ends the command
-
--- so it is for want of memory, too
-puts_without_memory : (command : Command) (seen : Seen) → PutsNothing seen → PutsText command OutOfMemory seen
-puts_without_memory (check p) seen e = e
-puts_without_memory (instrument p) seen e = e
-puts_without_memory (session Replay p f) seen e = e
-puts_without_memory (session Save p f) seen e = inl e
-
-pub page_puts : (Why : List ℕ → Refusal → Type 0) (command : Command) (status : Status) (seen : Seen) (told : Told) → StopsAtPage Why status told
-    → seen.out_now.taken ≡ seen.out_before.taken → PutsText command status seen
-page_puts Why command Ok seen told h e = absurd h
-page_puts Why command (PageRefused r) seen told h e = e
-page_puts Why command Usage seen told h e = e
-page_puts Why command (EventsRefused i) seen told h e = e
-page_puts Why command ReadFault seen told h e = e
-page_puts Why command WriteFault seen told h e = absurd h
-page_puts Why command (TooLarge w) seen told h e = absurd h
-page_puts Why command OutOfMemory seen told h e = puts_without_memory command seen e
-
-pub events_put : (command : Command) (status : Status) (seen : Seen) (told : Told) → StopsAtEvents status told
-    → seen.out_now.taken ≡ seen.out_before.taken → PutsText command status seen
-events_put command Ok seen told h e = absurd h
-events_put command (PageRefused r) seen told h e = e
-events_put command Usage seen told h e = e
-events_put command (EventsRefused i) seen told h e = e
-events_put command ReadFault seen told h e = e
-events_put command WriteFault seen told h e = absurd h
-events_put command (TooLarge w) seen told h e = absurd h
-events_put command OutOfMemory seen told h e = puts_without_memory command seen e
+  pub save_answers : (laws : SavingLaws) (status : Status) → (¬ (status ≡ OutOfMemory) → HaveNumbers page.kind page.scripts)
+      → IsAnswer (run_of (opened page) events) seen.out_before seen.out_now status → KeepsRows seen → Lasts seen → Answers (session Save p e) status seen
+  save_answers laws status numbered a k lasts = record {
+    ends = moving_ends status a;
+    puts = save_puts laws status numbered a;
+    rows = keeps_saving p e status seen k;
+    lasts = lasts;
+  }
 
 -- ---- counts
 
@@ -258,28 +246,52 @@ pub rose_later : (a b c : ℕ) → a ≤ b → Rose b c → Rose a c
 rose_later a b c h (inl r) = inl (omega (arith, h, r))
 rose_later a b c h (inr r) = inr r
 
+-- none of the stages is that of the words
+abbrev IsAfterWords : List Stage → Type 0
+IsAfterWords [] = Unit {0}
+IsAfterWords (words c ∷ gs) = ⊥
+IsAfterWords (g ∷ gs) = IsAfterWords gs
+
 -- ---- the command of the words
 
 pub obeyed : (asked : Option Command) (command : Command) (status : Status) (seen : Seen) → Some command ≡ asked
-    → EndsAt (work_of command) status seen → Ends asked status seen
-obeyed asked command status seen e h = subst (λ (a : Option Command). Ends a status seen) e (inr (refl, h))
+    → EndsBy (work_of command) status seen → Ends asked status seen
+obeyed asked command status seen e h = subst (λ (a : Option Command). Ends a status seen) e (by h)
+  where
+    by : EndsBy (work_of command) status seen → Ends (Some command) status seen
+    by (inl h) = inl (inr (refl, h))
+    by (inr h) = inr ((refl, h.0), h.1)
 
 pub puts_obeyed : (asked : Option Command) (command : Command) (status : Status) (seen : Seen) → Some command ≡ asked
     → PutsText command status seen → Puts asked status seen
 puts_obeyed asked command status seen e h = subst (λ (a : Option Command). Puts a status seen) e h
 
+pub rows_obeyed : (asked : Option Command) (command : Command) (status : Status) (seen : Seen) → Some command ≡ asked
+    → RowsAfter command status seen → Rows asked status seen
+rows_obeyed asked command status seen e h = subst (λ (a : Option Command). Rows a status seen) e h
+
 pub no_words : (asked : Option Command) (seen : Seen) → None ≡ asked → Ends asked Usage seen
-no_words asked seen e = subst (λ (a : Option Command). Ends a Usage seen) e (inl tt)
+no_words asked seen e = subst (λ (a : Option Command). Ends a Usage seen) e (inl (inl tt))
 
-neither : {A B P : Type 0} → (A → ⊥) → (B → ⊥) → A ⊎ (P × B) → ⊥
-neither f g (inl a) = f a
-neither f g (inr b) = g b.1
+-- no stage but that of the words ends a command as words that are none
+no_usage_in : (gs : List Stage) (seen : Seen) → IsAfterWords gs → ¬ EndsAt gs Usage seen
+no_usage_in [] seen a h = h
+no_usage_in (words c ∷ gs) seen a h = a
+no_usage_in (page_file p ∷ gs) seen a (inr h) = no_usage_in gs seen a h.1
+no_usage_in (acceptance p ∷ gs) seen a (inr h) = no_usage_in gs seen a h.1
+no_usage_in (bareness p ∷ gs) seen a (inr h) = no_usage_in gs seen a h.1
+no_usage_in (event_file e ∷ gs) seen a (inr h) = no_usage_in gs seen a h.1
+no_usage_in (moving p e ∷ gs) seen a (inr h) = no_usage_in gs seen a h.1
+no_usage_in (next_row name ∷ gs) seen a (inr h) = no_usage_in gs seen a h.1
+no_usage_in (one_row name version ∷ gs) seen a (inr h) = no_usage_in gs seen a h.1
+no_usage_in (all_rows ∷ gs) seen a (inr h) = no_usage_in gs seen a h.1
+no_usage_in (g ∷ gs) seen a (inl h) = absurd h
 
--- no command ends as words that are none
-pub no_usage : (command : Command) (seen : Seen) → ¬ EndsAt (work_of command) Usage seen
-no_usage (check p) seen = neither (λ x. x) (neither (λ x. x) (neither (λ x. x) (λ x. x)))
-no_usage (instrument p) seen = neither (λ x. x) (neither (λ x. x) (neither (λ x. x) (neither (λ x. x) (λ x. x))))
-no_usage (session Replay p e) seen =
-    neither (λ x. x) (neither (λ x. x) (neither (λ x. x) (neither (λ x. x) (neither (λ x. x) (λ x. x)))))
-no_usage (session Save p e) seen =
-    neither (λ x. x) (neither (λ x. x) (neither (λ x. x) (neither (λ x. x) (neither (λ x. x) (neither (λ x. x) (λ x. x))))))
+after_words : (command : Command) → IsAfterWords (work_of command)
+after_words (session Replay p e) = tt
+after_words (session Save p e) = tt
+after_words command = tt
+
+pub no_usage : (command : Command) (seen : Seen) → ¬ EndsBy (work_of command) Usage seen
+no_usage command seen (inl h) = no_usage_in (work_of command) seen (after_words command) h
+no_usage command seen (inr h) = h.1

@@ -1,9 +1,12 @@
+pub mod Answering
 pub mod Causes
+pub mod Drops
 pub mod Endings
 pub mod Judgement
 pub mod Moves
 pub mod Numbers
 pub mod Outcomes
+pub mod Parks
 pub mod Pieces
 pub mod Refusals
 pub mod Stopping

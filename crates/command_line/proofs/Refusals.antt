@@ -11,7 +11,7 @@ use Rattle.command_line.specs.Opening.{IsOpened, OpensTo}
 use Rattle.command_line.specs.Reading.{IsPageFile, IsUntaken, StopsAtPage}
 use Rattle.command_line.specs.Stages.{Of}
 use Rattle.command_line.specs.declared.status.Status.{Status}
-use Rattle.command_line.specs.declared.status.Status.TheVariants.{Ok, PageRefused, Usage, EventsRefused, ReadFault, WriteFault, TooLarge, OutOfMemory}
+use Rattle.command_line.specs.declared.status.Status.TheVariants.{PageRefused, OutOfMemory}
 
 -- a page that was read is not taken
 told_untaken : (Why : List ℕ → Refusal → Type 0) (told : Told) (bytes : List ℕ) (status : Status) → Of told (λ held. IsPageFile held bytes) → IsUntaken Why bytes status
@@ -21,12 +21,7 @@ told_untaken Why None bytes (PageRefused (Some r)) h u = tt
 told_untaken Why (Some None) bytes (PageRefused (Some r)) h u = absurd h
 told_untaken Why (Some (Some held)) bytes (PageRefused (Some r)) h u = (h.fits, subst (λ (b : List ℕ). Why b r) h.same u)
 told_untaken Why told bytes (PageRefused None) h u = absurd u
-told_untaken Why told bytes Ok h u = absurd u
-told_untaken Why told bytes Usage h u = absurd u
-told_untaken Why told bytes (EventsRefused i) h u = absurd u
-told_untaken Why told bytes ReadFault h u = absurd u
-told_untaken Why told bytes WriteFault h u = absurd u
-told_untaken Why told bytes (TooLarge w) h u = absurd u
+told_untaken Why told bytes status h u = absurd u
 
 pub told_untaken_if : {T : Type 0} (Why : List ℕ → Refusal → Type 0) (told : Told) (bytes others : List ℕ) (r : Result T Status) → others ≡ bytes → Of told (λ held. IsPageFile held bytes)
     → IfErr r (IsUntaken Why others) → IfErr r (λ status. StopsAtPage Why status told)
@@ -39,12 +34,7 @@ refused_not_run bytes (Good t) u = tt
 refused_not_run bytes (Err OutOfMemory) u = tt
 refused_not_run bytes (Err (PageRefused (Some r))) u = inl u
 refused_not_run bytes (Err (PageRefused None)) u = absurd u
-refused_not_run bytes (Err Ok) u = absurd u
-refused_not_run bytes (Err Usage) u = absurd u
-refused_not_run bytes (Err (EventsRefused i)) u = absurd u
-refused_not_run bytes (Err ReadFault) u = absurd u
-refused_not_run bytes (Err WriteFault) u = absurd u
-refused_not_run bytes (Err (TooLarge w)) u = absurd u
+refused_not_run bytes (Err status) u = absurd u
 
 -- or it is accepted
 pub told_accepted_if : {T : Type 0} (told : Told) (bytes others : List ℕ) (P : List ℕ → T → Type 0) (Q : List ℕ → T → Type 0) (r : Result T Status)

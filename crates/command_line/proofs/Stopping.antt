@@ -1,5 +1,6 @@
 -- With which status a command stops at a stage, where nothing outside failed and memory did not run out.
-use Rattle.std.proofs.Common.{◌≡◌, ℕ, ◌<◌, false, List, length, Option, Some, None, refl}
+use Rattle.std.proofs.Common.{◌≡◌, ℕ, ◌<◌, false, List, length, Option, Some, None, IfSome, refl}
+use Rattle.std.specs.FinMap.{get}
 use Rattle.page_io.specs.Content.{Told}
 use Rattle.heap_walker.specs.declared.weight.Weight.{Weight}
 use Rattle.page_check.specs.Accept.{IsRefused}
@@ -11,7 +12,8 @@ use Rattle.command_line.specs.declared.status.Status.TheVariants as status
 use Rattle.command_line.specs.Command.{Command}
 use Rattle.command_line.specs.Page.{page_limit}
 use Rattle.command_line.specs.Saving.{IsTooLarge}
-use Rattle.command_line.specs.Stages.{Seen, Of, Held, IsNoEventFile, Stage, words, page_file, acceptance, bareness, event_file, moving, writing, Stops, IsQuiet}
+use Rattle.command_line.specs.Parking.{AreUsed}
+use Rattle.command_line.specs.Stages.{Seen, Of, Held, IsNoEventFile, Stage, words, page_file, acceptance, bareness, event_file, moving, next_row, one_row, all_rows, Stops, StopsWriting, IsQuiet}
 
 -- ---- of told bytes
 
@@ -41,7 +43,9 @@ StopsAs (acceptance p) seen s = (r : Refusal) × (s ≡ status.PageRefused (Some
 StopsAs (bareness p) seen s = (s ≡ status.PageRefused (Some NotPage)) × Held seen p (λ bytes. IsBareAs bytes false)
 StopsAs (event_file e) seen s = (i : ℕ) × (s ≡ status.EventsRefused i) × Held seen e (λ file. IsNoEventFile file i)
 StopsAs (moving p e) seen s = (w : Weight) × (s ≡ status.TooLarge w) × Held seen p (λ bytes. Held seen e (λ file. IsTooLarge bytes file w))
-StopsAs writing seen s = s ≡ status.Ok
+StopsAs (next_row name) seen s = (s ≡ status.VersionsUsed) × IfSome seen.keeper_before.table (AreUsed name)
+StopsAs (one_row name version) seen s = (s ≡ status.NoSession) × IfSome seen.keeper_before.table (λ t. get t (name, version) ≡ None)
+StopsAs all_rows seen s = ⊥
 
 module _ (seen : Seen) (quiet : IsQuiet seen) where
   stops_words : (c : Option Command) (s : Status) → Stops (words c) s seen → StopsAs (words c) seen s
@@ -49,26 +53,15 @@ module _ (seen : Seen) (quiet : IsQuiet seen) where
   stops_words c s h = absurd h
 
   stops_page : (p : List ℕ) (s : Status) → ¬ (s ≡ status.OutOfMemory) → Stops (page_file p) s seen → StopsAs (page_file p) seen s
-  stops_page p status.Ok n h = absurd h
   stops_page p (status.PageRefused None) n h = (refl, h)
-  stops_page p (status.PageRefused (Some r)) n h = absurd h
-  stops_page p status.Usage n h = absurd h
-  stops_page p (status.EventsRefused i) n h = absurd h
   stops_page p status.ReadFault n h = absurd (quiet.reads h.rose)
-  stops_page p status.WriteFault n h = absurd h
-  stops_page p (status.TooLarge w) n h = absurd h
   stops_page p status.OutOfMemory n h = absurd (n refl)
+  stops_page p s n h = absurd h
 
   stops_acceptance : (p : List ℕ) (s : Status) → ¬ (s ≡ status.OutOfMemory) → Stops (acceptance p) s seen → StopsAs (acceptance p) seen s
-  stops_acceptance p status.Ok n h = absurd h
-  stops_acceptance p (status.PageRefused None) n h = absurd h
   stops_acceptance p (status.PageRefused (Some r)) n h = (r, refl, h)
-  stops_acceptance p status.Usage n h = absurd h
-  stops_acceptance p (status.EventsRefused i) n h = absurd h
-  stops_acceptance p status.ReadFault n h = absurd h
-  stops_acceptance p status.WriteFault n h = absurd h
-  stops_acceptance p (status.TooLarge w) n h = absurd h
   stops_acceptance p status.OutOfMemory n h = absurd (n refl)
+  stops_acceptance p s n h = absurd h
 
   stops_bareness : (p : List ℕ) (s : Status) → ¬ (s ≡ status.OutOfMemory) → Stops (bareness p) s seen → StopsAs (bareness p) seen s
   stops_bareness p (status.PageRefused (Some NotPage)) n h = (refl, h)
@@ -76,34 +69,33 @@ module _ (seen : Seen) (quiet : IsQuiet seen) where
   stops_bareness p s n h = absurd h
 
   stops_events : (e : List ℕ) (s : Status) → ¬ (s ≡ status.OutOfMemory) → Stops (event_file e) s seen → StopsAs (event_file e) seen s
-  stops_events e status.Ok n h = absurd h
-  stops_events e (status.PageRefused r) n h = absurd h
-  stops_events e status.Usage n h = absurd h
   stops_events e (status.EventsRefused i) n h = (i, refl, h)
   stops_events e status.ReadFault n h = absurd (quiet.reads h.rose)
-  stops_events e status.WriteFault n h = absurd h
-  stops_events e (status.TooLarge w) n h = absurd h
   stops_events e status.OutOfMemory n h = absurd (n refl)
+  stops_events e s n h = absurd h
 
   stops_moving : (p e : List ℕ) (s : Status) → ¬ (s ≡ status.OutOfMemory) → Stops (moving p e) s seen → StopsAs (moving p e) seen s
-  stops_moving p e status.Ok n h = absurd h
-  stops_moving p e (status.PageRefused r) n h = absurd h
-  stops_moving p e status.Usage n h = absurd h
-  stops_moving p e (status.EventsRefused i) n h = absurd h
-  stops_moving p e status.ReadFault n h = absurd h
-  stops_moving p e status.WriteFault n h = absurd h
   stops_moving p e (status.TooLarge w) n h = (w, refl, h)
   stops_moving p e status.OutOfMemory n h = absurd (n refl)
+  stops_moving p e s n h = absurd h
 
-  stops_writing : (s : Status) → ¬ (s ≡ status.OutOfMemory) → Stops writing s seen → StopsAs writing seen s
-  stops_writing status.Ok n h = refl
-  stops_writing (status.PageRefused r) n h = absurd h
-  stops_writing status.Usage n h = absurd h
-  stops_writing (status.EventsRefused i) n h = absurd h
-  stops_writing status.ReadFault n h = absurd h
-  stops_writing status.WriteFault n h = absurd (quiet.puts h)
-  stops_writing (status.TooLarge w) n h = absurd h
-  stops_writing status.OutOfMemory n h = absurd (n refl)
+  stops_next : (name : List ℕ) (s : Status) → ¬ (s ≡ status.OutOfMemory) → Stops (next_row name) s seen → StopsAs (next_row name) seen s
+  stops_next name status.VersionsUsed n h = (refl, h)
+  stops_next name status.KeeperFault n h = absurd (quiet.calls h)
+  stops_next name status.OutOfMemory n h = absurd (n refl)
+  stops_next name s n h = absurd h
+
+  stops_row : (name : List ℕ) (version : ℕ) (s : Status) → ¬ (s ≡ status.OutOfMemory) → Stops (one_row name version) s seen
+      → StopsAs (one_row name version) seen s
+  stops_row name version status.NoSession n h = (refl, h)
+  stops_row name version status.KeeperFault n h = absurd (quiet.calls h)
+  stops_row name version status.OutOfMemory n h = absurd (n refl)
+  stops_row name version s n h = absurd h
+
+  stops_rows : (s : Status) → ¬ (s ≡ status.OutOfMemory) → Stops all_rows s seen → StopsAs all_rows seen s
+  stops_rows status.KeeperFault n h = absurd (quiet.calls h)
+  stops_rows status.OutOfMemory n h = absurd (n refl)
+  stops_rows s n h = absurd h
 
   pub stops_as : (g : Stage) (s : Status) → ¬ (s ≡ status.OutOfMemory) → Stops g s seen → StopsAs g seen s
   stops_as (words c) s n h = stops_words c s h
@@ -112,4 +104,13 @@ module _ (seen : Seen) (quiet : IsQuiet seen) where
   stops_as (bareness p) s n h = stops_bareness p s n h
   stops_as (event_file e) s n h = stops_events e s n h
   stops_as (moving p e) s n h = stops_moving p e s n h
-  stops_as writing s n h = stops_writing s n h
+  stops_as (next_row name) s n h = stops_next name s n h
+  stops_as (one_row name version) s n h = stops_row name version s n h
+  stops_as all_rows s n h = stops_rows s n h
+
+  -- a quiet command that writes its text ends well
+  pub writes_well : (s : Status) → ¬ (s ≡ status.OutOfMemory) → StopsWriting s seen.out_before seen.out_now → s ≡ status.Ok
+  writes_well status.Ok n h = refl
+  writes_well status.WriteFault n h = absurd (quiet.puts h)
+  writes_well status.OutOfMemory n h = absurd (n refl)
+  writes_well s n h = absurd h

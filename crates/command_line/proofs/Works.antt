@@ -11,6 +11,7 @@ use Rattle.page_writer.specs.Page.{saved_page}
 use Rattle.command_line.specs.declared.command.Work.TheVariants.{Replay, Save}
 use Rattle.command_line.specs.Moving.{CanBeSaved, IsOverweight}
 use Rattle.command_line.specs.Page.{Page, IsPage, opened}
+use Rattle.command_line.specs.Reading.{AreRead}
 use Rattle.command_line.specs.Replay.{IsEventFile}
 use Rattle.command_line.specs.Saving.{Begins, IsAfter, IsMovable, IsTooLarge, Saves}
 use Rattle.command_line.specs.Stages.{Of}
@@ -48,12 +49,7 @@ abbrev is_after : (bytes content : List ℕ) (of : Page) (events : List Event) (
     → IsWalk (run_of (opened of) events) things → IsAfter bytes content (run_of (opened of) events) things
 is_after bytes content of events things of_page of_file walk = record { page = of; events = events; of_page = of_page; of_file = of_file; state = refl; walked = walk }
 
--- the page and the events of two names
-pub record Both (page file : Told) (of : Page) (events : List Event) : Type 0 where
-  pub of_page : Of page (λ bytes. IsPage bytes of)
-  pub of_file : Of file (λ content. IsEventFile content events)
-
-module _ (page file : Told) (of : Page) (events : List Event) (both : Both page file of events) (things : List ℕ) where
+module _ (page file : Told) (of : Page) (events : List Event) (both : AreRead page file of events) (things : List ℕ) where
   pub told_saves : (laws : SavingLaws) → HaveNumbers of.kind of.scripts
       → CanBeSaved (run_of (opened of) events) things
       → Of page (λ p. Of file (λ e. Writes Save p e (saved_page (run_of (opened of) events) things)))

@@ -1,10 +1,12 @@
 pub mod Bare
 pub mod Checking
 pub mod Command
+pub mod Keeping
 pub mod Moving
 pub mod Notes
 pub mod Opening
 pub mod Page
+pub mod Parking
 pub mod Reading
 pub mod Replay
 pub mod Saving

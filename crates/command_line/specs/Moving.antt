@@ -36,3 +36,13 @@ IsAnswer s old new (TooLarge w) = (new ≡ old) × ((things : List ℕ) × IsOve
 IsAnswer s old new OutOfMemory =
     (new ≡ old) ⊎ ((things : List ℕ) × IsWalk s things × TakesFront old.taken new.taken (saved_page s things))
 IsAnswer s old new status = ⊥
+
+-- the whole text of a page that can be saved
+abbrev pub IsSaved : Store → List ℕ → Type 0
+IsSaved s text = (things : List ℕ) × CanBeSaved s things × (text ≡ saved_page s things)
+
+-- why there is none: it is too large, or memory ran out
+abbrev pub IsNotSaved : Store → Status → Type 0
+IsNotSaved s (TooLarge w) = (things : List ℕ) × IsOverweight s things w
+IsNotSaved s OutOfMemory = Unit {0}
+IsNotSaved s status = ⊥

@@ -7,7 +7,7 @@ use Rattle.page_io.specs.Faults.{Rose, CountsFaults}
 use Rattle.page_io.specs.Seen.{SinkSeen}
 use Rattle.page_io.specs.Taken.{Takes, TakesFront}
 use Rattle.command_line.specs.declared.status.Status.{Status}
-use Rattle.command_line.specs.declared.status.Status.TheVariants.{Ok, PageRefused, Usage, EventsRefused, ReadFault, WriteFault, TooLarge, OutOfMemory}
+use Rattle.command_line.specs.declared.status.Status.TheVariants.{Ok, PageRefused, Usage, EventsRefused, ReadFault, WriteFault, TooLarge, OutOfMemory, KeeperFault, NoSession, VersionsUsed}
 use Rattle.page_check.specs.declared.page.Refusal.{Refusal}
 use Rattle.page_check.specs.declared.page.Refusal.TheVariants.{NotUtf8, NotPage, NotTokens, NotScript, NotStrict, Early, TooDeep, ReservedName, NotForm}
 use Rattle.early_rules.specs.EarlyRules.{rule_number}
@@ -38,6 +38,9 @@ note_words ReadFault = codes "read fault"
 note_words WriteFault = codes "write fault"
 note_words (TooLarge w) = codes "too large: " ++ (decimal w.things ++ (codes " things, " ++ (decimal w.text ++ codes " text")))
 note_words OutOfMemory = codes "out of memory"
+note_words KeeperFault = codes "keeper fault"
+note_words NoSession = codes "no such session"
+note_words VersionsUsed = codes "no version left"
 
 -- the words and LF; nothing where the command ended well
 abbrev pub note_of : Status → List ℕ

@@ -1,12 +1,15 @@
 -- What reading a file of a command says.
-use Rattle.std.specs.Prelude.{◌≡◌, ℕ, ◌<◌, ◌≤◌, List, length, Some, None, Result, Err}
+use Rattle.std.specs.Prelude.{◌≡◌, true, ℕ, ◌<◌, ◌≤◌, List, length, Some, None, Result, Err}
 use Rattle.page_io.specs.Content.{Told}
 use Rattle.page_io.specs.Faults.{Rose}
 use Rattle.page_io.specs.Seen.{FilesSeen}
 use Rattle.page_check.specs.declared.page.Refusal.{Refusal}
 use Rattle.command_line.specs.declared.status.Status.{Status}
 use Rattle.command_line.specs.declared.status.Status.TheVariants.{PageRefused, EventsRefused, ReadFault, OutOfMemory}
-use Rattle.command_line.specs.Page.{page_limit}
+use Rattle.js_values.specs.declared.event.Event.{Event}
+use Rattle.command_line.specs.Bare.{is_bare}
+use Rattle.command_line.specs.Page.{page_limit, Page, IsPage}
+use Rattle.command_line.specs.Replay.{IsEventFile}
 use Rattle.command_line.specs.Stages.{Of, IsNoEventFile}
 
 -- what a page file holds, where that is not too long
@@ -39,3 +42,9 @@ StopsAtEvents status file = ⊥
 pub record CountsReads {T : Type 0} (before now : FilesSeen) (name : List ℕ) (result : Result T Status) : Type 0 where
   pub later : before.faults ≤ now.faults
   pub rose : result ≡ Err ReadFault → Rose before.faults now.faults × (now.failed ≡ Some name)
+
+-- the page, which can be run, and the events that two files hold
+pub record AreRead (page file : Told) (of : Page) (events : List Event) : Type 0 where
+  pub of_page : Of page (λ bytes. IsPage bytes of)
+  pub bare : is_bare of.nodes ≡ true
+  pub of_file : Of file (λ content. IsEventFile content events)

@@ -3,6 +3,8 @@
 ghost use Rattle.std.specs.Prelude.{◌≡◌, map, option_map, string_bytes};
 ghost use Rattle.command_line.specs.Command as spec;
 
+use crate::session_words::{is_session_name, version_of};
+
 /// What is done with a page and its events.
 #[derive(Clone, Copy, PartialEq, Eq)]
 pub enum Work {
@@ -21,24 +23,25 @@ pub enum Command<'a> {
     Instrument(&'a str),
     /// `replay P E` or `save P E`: what is done with the page file P and the event file E.
     Session(Work, &'a str, &'a str),
+    /// `park P E NAME`: keeps the page file P as it is after the event file E, as the next version of the name.
+    Park(&'a str, &'a str, &'a str),
+    /// `fetch NAME V`: writes the page that is kept under this name and version.
+    Fetch(&'a str, u64),
+    /// `parked`: lists what is kept.
+    Parked,
+    /// `drop NAME V`: drops what is kept under this name and version.
+    Drop(&'a str, u64),
 }
 
-// `check P`.
-fn check_of(words: &[String]) -> Option<Command<'_>>
-    ensures { option_map spec.view result ≡ spec.check_of (map string_bytes words.now) }
+// `check P` and `instrument P`.
+fn page_of(words: &[String]) -> Option<&str>
+    ensures check { option_map (λ page. spec.check page.now) result
+        ≡ spec.page_of spec.check (map string_bytes words.now) }
+    ensures instrument { option_map (λ page. spec.instrument page.now) result
+        ≡ spec.page_of spec.instrument (map string_bytes words.now) }
 {
     match words {
-        [page] => Some(Command::Check(page.as_str())),
-        _ => None,
-    }
-}
-
-// `instrument P`.
-fn instrument_of(words: &[String]) -> Option<Command<'_>>
-    ensures { option_map spec.view result ≡ spec.instrument_of (map string_bytes words.now) }
-{
-    match words {
-        [page] => Some(Command::Instrument(page.as_str())),
+        [page] => Some(page.as_str()),
         _ => None,
     }
 }
@@ -53,6 +56,46 @@ fn session_of(work: Work, words: &[String]) -> Option<Command<'_>>
     }
 }
 
+// `park P E NAME`.
+fn park_of(words: &[String]) -> Option<Command<'_>>
+    ensures { option_map spec.view result ≡ spec.park_of (map string_bytes words.now) }
+{
+    match words {
+        [page, events, name] if is_session_name(name) => Some(Command::Park(
+            page.as_str(),
+            events.as_str(),
+            name.as_str(),
+        )),
+        _ => None,
+    }
+}
+
+// `fetch NAME V` and `drop NAME V`.
+fn row_of(words: &[String]) -> Option<(&str, u64)>
+    ensures fetch { option_map (λ row. spec.fetch row.0.now row.1) result
+        ≡ spec.row_of spec.fetch (map string_bytes words.now) }
+    ensures dropped { option_map (λ row. spec.drop_row row.0.now row.1) result
+        ≡ spec.row_of spec.drop_row (map string_bytes words.now) }
+{
+    match words {
+        [name, version] if is_session_name(name) => match version_of(version) {
+            Some(version) => Some((name.as_str(), version)),
+            None => None,
+        },
+        _ => None,
+    }
+}
+
+// `parked`.
+fn parked_of(words: &[String]) -> Option<Command<'_>>
+    ensures { option_map spec.view result ≡ spec.parked_of (map string_bytes words.now) }
+{
+    match words {
+        [] => Some(Command::Parked),
+        _ => None,
+    }
+}
+
 /// The command of these words, or `None` where they are no command line. The verb comes first.
 pub fn command_of(words: &[String]) -> Option<Command<'_>>
     ensures { option_map spec.view result ≡ spec.command_of (map string_bytes words.now) }
@@ -61,10 +104,14 @@ pub fn command_of(words: &[String]) -> Option<Command<'_>>
         return None;
     };
     match verb.as_str() {
-        "check" => check_of(words),
-        "instrument" => instrument_of(words),
+        "check" => page_of(words).map(Command::Check),
+        "instrument" => page_of(words).map(Command::Instrument),
         "replay" => session_of(Work::Replay, words),
         "save" => session_of(Work::Save, words),
+        "park" => park_of(words),
+        "fetch" => row_of(words).map(|(name, version)| Command::Fetch(name, version)),
+        "parked" => parked_of(words),
+        "drop" => row_of(words).map(|(name, version)| Command::Drop(name, version)),
         _ => None,
     }
 }

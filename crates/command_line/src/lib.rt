@@ -6,11 +6,15 @@ mod command;
 mod instrument;
 mod laws;
 mod notes;
+mod parking;
 mod program;
 mod reading;
 mod replay;
+mod row_lines;
 mod save;
+mod saved_text;
 mod saving;
+mod session_words;
 mod status;
 mod system;
 

@@ -157,6 +157,9 @@ fn put_note<N: Sink>(notes: &mut N, status: Status) -> Result<(), PutFault>
         Status::WriteFault => notes.put(b"write fault\n"),
         Status::TooLarge(weight) => put_weight(notes, weight),
         Status::OutOfMemory => notes.put(b"out of memory\n"),
+        Status::KeeperFault => notes.put(b"keeper fault\n"),
+        Status::NoSession => notes.put(b"no such session\n"),
+        Status::VersionsUsed => notes.put(b"no version left\n"),
     }
 }
 

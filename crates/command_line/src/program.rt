@@ -1,47 +1,101 @@
 //! The top call of the program.
 
-ghost use Rattle.std.specs.Prelude.{◌≡◌, ◌↔◌, None, map, string_bytes};
-ghost use Rattle.command_line.specs.Command.{command_of};
+ghost use Rattle.std.specs.Prelude.{◌≡◌, ◌≤◌, ◌↔◌, None, map, string_bytes};
+ghost use Rattle.command_line.specs.Command.{command_of, view};
 ghost use Rattle.command_line.specs.Notes.{note_of, Noted};
-ghost use Rattle.command_line.specs.Stages.{seen_between, stages_of, Ends, Keeps, Lasts};
-ghost use Rattle.command_line.specs.Texts.{Puts};
+ghost use Rattle.command_line.specs.Stages.{seen_between, stages_of, work_of, Ends, Keeps, Lasts};
+ghost use Rattle.command_line.specs.Texts.{Answers, IsPut, Puts, Rows};
 
 use crate::check::check;
 use crate::command;
 use crate::command::{Command, Work};
 use crate::instrument::instrument;
 use crate::notes::write_note;
+use crate::parking::{drop_row, fetch, park, parked};
 use crate::replay::replay;
 use crate::save::save;
 use crate::status::Status;
 use page_io::{Files, Keeper, Sink};
 use std::alloc::Global;
 
-// Does what the words ask for.
-fn obey<F: Files, O: Sink>(alloc: Global, words: &[String], files: &mut F, out: &mut O) -> Status
-    ensures usage { (result ≡ Status.Usage) ↔ (command_of (map string_bytes words.now) ≡ None) }
-    ensures untouched { result ≡ Status.Usage → (files.new ≡ files.old) × (out.new ≡ out.old) }
-    ensures ends { Ends (command_of (map string_bytes words.now)) result
-        (seen_between (F.seen files.old) (F.seen files.new) (O.seen out.old) (O.seen out.new)) }
-    ensures puts { Puts (command_of (map string_bytes words.now)) result
-        (seen_between (F.seen files.old) (F.seen files.new) (O.seen out.old) (O.seen out.new)) }
-    ensures lasts { Lasts
-        (seen_between (F.seen files.old) (F.seen files.new) (O.seen out.old) (O.seen out.new)) }
+// Puts the text of a command, or ends as what came in its place says.
+fn put_text<O: Sink>(text: Result<Vec<u8>, Status>, out: &mut O) -> Status
+    ensures put { IsPut text result (O.seen out.old) (O.seen out.new) }
+    ensures later { (O.seen out.old).faults ≤ (O.seen out.new).faults }
 {
-    match command::command_of(words) {
-        None => Status::Usage,
-        Some(Command::Check(page)) => check(alloc, page, files, out),
-        Some(Command::Instrument(page)) => instrument(alloc, page, files, out),
-        Some(Command::Session(Work::Replay, page, events)) => {
-            replay(alloc, page, events, files, out)
-        }
-        Some(Command::Session(Work::Save, page, events)) => save(alloc, page, events, files, out),
+    match text {
+        Ok(text) => match out.put(&text) {
+            Ok(()) => Status::Ok,
+            Err(_) => Status::WriteFault,
+        },
+        Err(status) => status,
     }
 }
 
-/// Does what the words of the command line ask for: reads the files that they name from `files`, puts the text of the
-/// command to `out`, and one line to `notes` where it does not end well. How it ends is the answer: the first cause in
-/// the order of the work (`specs/Stages.antt`).
+// Does what a command asks for.
+fn perform<F: Files, O: Sink, K: Keeper>(
+    alloc: Global,
+    command: Command<'_>,
+    files: &mut F,
+    out: &mut O,
+    keeper: &mut K,
+) -> Status
+    ensures answers { Answers (view command.entry) result
+        (seen_between (F.seen files.old) (F.seen files.new) (K.seen keeper.old) (K.seen keeper.new)
+        (O.seen out.old) (O.seen out.new)) }
+    ensures kept { Keeps (work_of (view command.entry)) keeper.old keeper.new }
+{
+    match command {
+        Command::Check(page) => put_text(check(alloc, page, files), out),
+        Command::Instrument(page) => put_text(instrument(alloc, page, files), out),
+        Command::Session(Work::Replay, page, events) => {
+            put_text(replay(alloc, page, events, files), out)
+        }
+        Command::Session(Work::Save, page, events) => save(alloc, page, events, files, out),
+        Command::Park(page, events, name) => {
+            put_text(park(alloc, page, events, name, files, keeper), out)
+        }
+        Command::Fetch(name, version) => put_text(fetch(alloc, name, version, keeper), out),
+        Command::Parked => put_text(parked(alloc, keeper), out),
+        Command::Drop(name, version) => put_text(drop_row(alloc, name, version, keeper), out),
+    }
+}
+
+// Does what the words ask for.
+fn obey<F: Files, O: Sink, K: Keeper>(
+    alloc: Global,
+    words: &[String],
+    files: &mut F,
+    out: &mut O,
+    keeper: &mut K,
+) -> Status
+    ensures usage { (result ≡ Status.Usage) ↔ (command_of (map string_bytes words.now) ≡ None) }
+    ensures untouched { result ≡ Status.Usage
+        → (files.new ≡ files.old) × (out.new ≡ out.old) × (keeper.new ≡ keeper.old) }
+    ensures ends { Ends (command_of (map string_bytes words.now)) result
+        (seen_between (F.seen files.old) (F.seen files.new) (K.seen keeper.old) (K.seen keeper.new)
+        (O.seen out.old) (O.seen out.new)) }
+    ensures puts { Puts (command_of (map string_bytes words.now)) result
+        (seen_between (F.seen files.old) (F.seen files.new) (K.seen keeper.old) (K.seen keeper.new)
+        (O.seen out.old) (O.seen out.new)) }
+    ensures rows { Rows (command_of (map string_bytes words.now)) result
+        (seen_between (F.seen files.old) (F.seen files.new) (K.seen keeper.old) (K.seen keeper.new)
+        (O.seen out.old) (O.seen out.new)) }
+    ensures lasts { Lasts
+        (seen_between (F.seen files.old) (F.seen files.new) (K.seen keeper.old) (K.seen keeper.new)
+        (O.seen out.old) (O.seen out.new)) }
+    ensures kept { Keeps (stages_of (command_of (map string_bytes words.now)))
+        keeper.old keeper.new }
+{
+    match command::command_of(words) {
+        None => Status::Usage,
+        Some(command) => perform(alloc, command, files, out, keeper),
+    }
+}
+
+/// Does what the words of the command line ask for: reads the files that they name from `files`, keeps sessions in
+/// `keeper`, puts the text of the command to `out`, and one line to `notes` where it does not end well. How it ends is the
+/// answer: the first cause in the order of the work (`specs/Stages.antt`).
 pub fn run<F: Files, O: Sink, N: Sink, K: Keeper>(
     alloc: Global,
     words: &[String],
@@ -51,20 +105,26 @@ pub fn run<F: Files, O: Sink, N: Sink, K: Keeper>(
     keeper: &mut K,
 ) -> Status
     ensures usage { (result ≡ Status.Usage) ↔ (command_of (map string_bytes words.now) ≡ None) }
-    ensures untouched { result ≡ Status.Usage → (files.new ≡ files.old) × (out.new ≡ out.old) }
+    ensures untouched { result ≡ Status.Usage
+        → (files.new ≡ files.old) × (out.new ≡ out.old) × (keeper.new ≡ keeper.old) }
     ensures ends { Ends (command_of (map string_bytes words.now)) result
-        (seen_between (F.seen files.old) (F.seen files.new) (O.seen out.old) (O.seen out.new)) }
+        (seen_between (F.seen files.old) (F.seen files.new) (K.seen keeper.old) (K.seen keeper.new)
+        (O.seen out.old) (O.seen out.new)) }
     ensures puts { Puts (command_of (map string_bytes words.now)) result
-        (seen_between (F.seen files.old) (F.seen files.new) (O.seen out.old) (O.seen out.new)) }
+        (seen_between (F.seen files.old) (F.seen files.new) (K.seen keeper.old) (K.seen keeper.new)
+        (O.seen out.old) (O.seen out.new)) }
+    ensures rows { Rows (command_of (map string_bytes words.now)) result
+        (seen_between (F.seen files.old) (F.seen files.new) (K.seen keeper.old) (K.seen keeper.new)
+        (O.seen out.old) (O.seen out.new)) }
     ensures lasts { Lasts
-        (seen_between (F.seen files.old) (F.seen files.new) (O.seen out.old) (O.seen out.new)) }
+        (seen_between (F.seen files.old) (F.seen files.new) (K.seen keeper.old) (K.seen keeper.new)
+        (O.seen out.old) (O.seen out.new)) }
     ensures note { Noted (note_of result) (N.seen notes.old) (N.seen notes.new) }
     ensures silent { result ≡ Status.Ok → notes.new ≡ notes.old }
     ensures kept { Keeps (stages_of (command_of (map string_bytes words.now)))
         keeper.old keeper.new }
 {
-    let _ = keeper;
-    let status = obey(alloc, words, files, out);
+    let status = obey(alloc, words, files, out, keeper);
     write_note(notes, status);
     status
 }

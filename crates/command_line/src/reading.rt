@@ -6,9 +6,9 @@ ghost use Rattle.command_line.specs.Bare as spec;
 ghost use Rattle.command_line.specs.Bare.{IsBareAs, IsNotRun};
 ghost use Rattle.command_line.specs.Opening.{IsOpened, OpensTo};
 ghost use Rattle.command_line.specs.Page.{IsPage};
-ghost use Rattle.command_line.specs.Reading.{IsPageFile, IsUntaken, StopsAtPage, StopsAtEvents, CountsReads};
+ghost use Rattle.command_line.specs.Reading.{AreRead, IsPageFile, IsUntaken, StopsAtPage, StopsAtEvents, CountsReads};
 ghost use Rattle.command_line.specs.Replay.{IsEventFile};
-ghost use Rattle.command_line.specs.Stages.{Of};
+ghost use Rattle.command_line.specs.Stages.{seen_between, reading, unasked, unwritten, EndsAt, Lasts, Of};
 
 use crate::status::Status;
 use event_file::{EventFault, NotEvents, events};
@@ -196,5 +196,29 @@ pub fn read_events<F: Files>(alloc: Global, files: &mut F, name: &str) -> Result
         Ok(list) => Ok(list),
         Err(EventFault::Cause(NotEvents(number))) => Err(Status::EventsRefused(number)),
         Err(EventFault::OutOfMemory) => Err(Status::OutOfMemory),
+    }
+}
+
+/// Reads and accepts a page that can be run, and reads its events. The first cause to end is the answer.
+pub fn read_session<F: Files>(
+    alloc: Global,
+    page: &str,
+    events: &str,
+    files: &mut F,
+) -> Result<(CheckedPage, Vec<Event>), Status>
+    ensures ok { IfOk result (λ read. AreRead ((F.seen files.old).content page.now)
+        ((F.seen files.old).content events.now) read.0 read.1.items) }
+    ensures stops { IfErr result (λ status. EndsAt (reading page.now events.now) status
+        (seen_between (F.seen files.old) (F.seen files.new) unasked unasked unwritten unwritten)) }
+    ensures lasts { Lasts
+        (seen_between (F.seen files.old) (F.seen files.new) unasked unasked unwritten unwritten) }
+{
+    let page = match read_bare(alloc, files, page) {
+        Ok(page) => page,
+        Err(status) => return Err(status),
+    };
+    match read_events(alloc, files, events) {
+        Ok(list) => Ok((page, list)),
+        Err(status) => Err(status),
     }
 }

@@ -1,19 +1,19 @@
-//! What `replay` does.
+//! What `replay` writes.
 
 ghost use Rattle.std.specs.Prelude.{◌≡◌, IfOk};
 ghost use Rattle.js_values.specs.Line.{lines_text};
 ghost use Rattle.page_meaning.specs.Pages.{lines_of_run, run_all, run_of};
 ghost use Rattle.command_line.specs.declared.command.Work.TheVariants.{Replay as ReplayWork};
 ghost use Rattle.command_line.specs.Command as command;
-ghost use Rattle.command_line.specs.Stages.{seen_between, work_of, EndsAt, Lasts};
-ghost use Rattle.command_line.specs.Texts.{PutsText};
+ghost use Rattle.command_line.specs.Stages.{seen_between, unasked, unwritten, Lasts};
+ghost use Rattle.command_line.specs.Texts.{Gives};
 
-use crate::reading::{read_events, read_page};
+use crate::reading::read_session;
 use crate::status::Status;
 use js_core::OutOfMemory;
 use js_values::{Event, Line};
 use page_check::CheckedPage;
-use page_io::{Files, Sink};
+use page_io::Files;
 use session::{Session, load};
 use std::alloc::Global;
 
@@ -48,35 +48,25 @@ fn replayed_text(alloc: Global, page: CheckedPage, list: &[Event]) -> Result<Vec
     text_of(alloc, session.lines())
 }
 
-/// Writes the lines of the page and the events of these names. The order is: reading and accepting the page, reading the
-/// events, loading and acting, writing. The first cause to end is the answer.
-pub fn replay<F: Files, O: Sink>(
+/// The lines of the page and the events of these names. The order is: reading and accepting the page, reading the events,
+/// loading and acting. The first cause to end is the answer.
+pub fn replay<F: Files>(
     alloc: Global,
     page: &str,
     events: &str,
     files: &mut F,
-    out: &mut O,
-) -> Status
-    ensures ends { EndsAt (work_of (command.session ReplayWork page.now events.now)) result
-        (seen_between (F.seen files.old) (F.seen files.new) (O.seen out.old) (O.seen out.new)) }
-    ensures puts { PutsText (command.session ReplayWork page.now events.now) result
-        (seen_between (F.seen files.old) (F.seen files.new) (O.seen out.old) (O.seen out.new)) }
+) -> Result<Vec<u8>, Status>
+    ensures gives { Gives (command.session ReplayWork page.now events.now) result
+        (seen_between (F.seen files.old) (F.seen files.new) unasked unasked unwritten unwritten) }
     ensures lasts { Lasts
-        (seen_between (F.seen files.old) (F.seen files.new) (O.seen out.old) (O.seen out.new)) }
+        (seen_between (F.seen files.old) (F.seen files.new) unasked unasked unwritten unwritten) }
 {
-    let page = match read_page(alloc, files, page) {
-        Ok(page) => page,
-        Err(status) => return status,
+    let (page, list) = match read_session(alloc, page, events, files) {
+        Ok(read) => read,
+        Err(status) => return Err(status),
     };
-    let list = match read_events(alloc, files, events) {
-        Ok(list) => list,
-        Err(status) => return status,
-    };
-    let Ok(text) = replayed_text(alloc, page, &list) else {
-        return Status::OutOfMemory;
-    };
-    match out.put(&text) {
-        Ok(()) => Status::Ok,
-        Err(_) => Status::WriteFault,
+    match replayed_text(alloc, page, &list) {
+        Ok(text) => Ok(text),
+        Err(OutOfMemory) => Err(Status::OutOfMemory),
     }
 }

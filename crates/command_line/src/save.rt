@@ -2,10 +2,10 @@
 
 ghost use Rattle.command_line.specs.declared.command.Work.TheVariants.{Save as SaveWork};
 ghost use Rattle.command_line.specs.Command.{session};
-ghost use Rattle.command_line.specs.Stages.{seen_between, work_of, EndsAt, Lasts};
-ghost use Rattle.command_line.specs.Texts.{PutsText};
+ghost use Rattle.command_line.specs.Stages.{seen_between, unasked};
+ghost use Rattle.command_line.specs.Texts.{Answers};
 
-use crate::reading::{read_bare, read_events};
+use crate::reading::read_session;
 use crate::saving::save_page;
 use crate::status::Status;
 use moved_pages::{law_accepted_scripts_are_in_form, law_moved_pages_go_on};
@@ -24,24 +24,17 @@ pub fn save<F: Files, O: Sink>(
     files: &mut F,
     out: &mut O,
 ) -> Status
-    ensures ends { EndsAt (work_of (session SaveWork page.now events.now)) result
-        (seen_between (F.seen files.old) (F.seen files.new) (O.seen out.old) (O.seen out.new)) }
-    ensures puts { PutsText (session SaveWork page.now events.now) result
-        (seen_between (F.seen files.old) (F.seen files.new) (O.seen out.old) (O.seen out.new)) }
-    ensures lasts { Lasts
-        (seen_between (F.seen files.old) (F.seen files.new) (O.seen out.old) (O.seen out.new)) }
+    ensures { Answers (session SaveWork page.now events.now) result
+        (seen_between (F.seen files.old) (F.seen files.new) unasked unasked
+        (O.seen out.old) (O.seen out.new)) }
 {
     law_one_answer();
     law_accepted_scripts_are_in_form();
     law_moved_pages_go_on();
     law_opened_pages_are_accepted();
     law_opened_pages_put_out_the_same();
-    let page = match read_bare(alloc, files, page) {
-        Ok(page) => page,
-        Err(status) => return status,
-    };
-    let list = match read_events(alloc, files, events) {
-        Ok(list) => list,
+    let (page, list) = match read_session(alloc, page, events, files) {
+        Ok(read) => read,
         Err(status) => return status,
     };
     save_page(alloc, page, &list, out)

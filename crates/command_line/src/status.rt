@@ -23,6 +23,12 @@ pub enum Status {
     TooLarge(Weight),
     /// 7: memory ran out.
     OutOfMemory,
+    /// 8: the keeper of sessions failed.
+    KeeperFault,
+    /// 9: there is no session of this name and version.
+    NoSession,
+    /// 11: the name has a session of the last version.
+    VersionsUsed,
 }
 
 impl Status {
@@ -42,6 +48,9 @@ impl Status {
             Status::WriteFault => 5,
             Status::TooLarge(_) => 6,
             Status::OutOfMemory => 7,
+            Status::KeeperFault => 8,
+            Status::NoSession => 9,
+            Status::VersionsUsed => 11,
         }
     }
 }

@@ -7,27 +7,27 @@ ghost use Rattle.command_line.specs.Notes.{note_of, Noted};
 use crate::notes::write_note;
 use crate::program::run;
 use crate::status::Status;
-use page_io::{Files, Keeper, MemoryKeeper, RealFiles, RealSink, Sink};
+use page_io::{Files, Keeper, RealFiles, RealSink, Sink};
 use std::alloc::Global;
 use std::io;
 use std::io::{ErrorKind, Write};
 use std::process::ExitCode;
 use std::rt::Env;
 
-/// Does what the words behind the program's name ask for, over the files of the system, and puts the text of the command
-/// to `out` and its note to `notes`. Words that are no UTF-8 are no command line.
-pub fn run_on_system<R: Env + std::fs::Files + AllocGlobal, O: Write + Drop, N: Write + Drop>(
-    rt: &R,
-    out: O,
-    notes: N,
-) -> ExitCode
-    ensures { exit_status result < 8 }
+/// Does what the words after the program's name ask for, over the files of the system, keeps sessions in `keeper`, and puts
+/// the text of the command to `out` and its note to `notes`. Words that are no UTF-8 are no command line.
+pub fn run_on_system<R, O, N, K>(rt: &R, out: O, notes: N, mut keeper: K) -> ExitCode
+where
+    R: Env + std::fs::Files + AllocGlobal,
+    O: Write + Drop,
+    N: Write + Drop,
+    K: Keeper + Drop,
+    ensures { exit_status result < 12 }
 {
     let words = words_of(rt);
     let mut files = RealFiles::new(rt);
     let mut out = RealSink::new(out);
     let mut notes = RealSink::new(notes);
-    let mut keeper = MemoryKeeper::new(rt.alloc(), Vec::new(rt.alloc()));
     let status = ended(
         rt.alloc(),
         words,
@@ -61,7 +61,8 @@ fn ended<F: Files, O: Sink, N: Sink, K: Keeper>(
     ensures note { Noted (note_of result) (N.seen notes.old) (N.seen notes.new) }
     ensures unreadable { IsErr words
         → (result ≡ Status.Usage) ⊎ (result ≡ Status.OutOfMemory) }
-    ensures untouched { IsErr words → (files.new ≡ files.old) × (out.new ≡ out.old) }
+    ensures untouched { IsErr words
+        → (files.new ≡ files.old) × (out.new ≡ out.old) × (keeper.new ≡ keeper.old) }
 {
     match words {
         Ok(words) => run(alloc, &words, files, out, notes, keeper),

@@ -2,8 +2,15 @@
 #![tactic(auto)]
 
 use command_line::run_on_system;
+use shelf::SqliteKeeper;
 use std::process::ExitCode;
 
+// Where sessions are kept, in the folder of the call.
+const SESSIONS: &str = "imagen.db";
+
 fn main(rt: HostRuntime) -> ExitCode {
-    run_on_system(&rt, rt.stdout(), rt.stderr())
+    match String::from_str(rt.alloc(), SESSIONS) {
+        Ok(path) => run_on_system(&rt, rt.stdout(), rt.stderr(), SqliteKeeper::new(&rt, path)),
+        Err(_) => ExitCode::from(7),
+    }
 }

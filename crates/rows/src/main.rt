@@ -1,6 +1,7 @@
 //! Runs the commands on rows of examples, which are data, and tells each row that ends otherwise than it says.
 #![tactic(auto)]
 
+mod kept;
 mod row;
 mod text;
 
@@ -18,10 +19,11 @@ fn shown(bytes: &[u8]) -> &str {
 // Tells how a row ends that says otherwise.
 fn tell<R: Print>(rt: &R, name: &str, number: u64, ending: &Ending) -> io::Result<()> {
     println!(rt;
-        "{name} {number}: status {}, text {:?}, note {:?}",
+        "{name} {number}: status {}, text {:?}, note {:?}, rows {:?}",
         ending.status,
         shown(&ending.text),
-        shown(&ending.note)
+        shown(&ending.note),
+        shown(&ending.kept)
     )
 }
 

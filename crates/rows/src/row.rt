@@ -1,20 +1,22 @@
 //! Rows of examples.
 
+use crate::kept::{KeptRow, keeper_of, kept_at, kept_text};
 use crate::text::{malformed, number_at, numbers_at, pairs_at, text_at, text_of, words_at};
 use command_line::run;
 use js_core::OutOfMemory;
-use page_io::{MemoryFiles, MemoryKeeper, MemorySink};
+use page_io::{MemoryFiles, MemorySink};
 use serde_json::Value;
 use std::alloc::Global;
 use std::io;
 use std::io::{Error, ErrorKind};
 
-/// How a command ended, what it wrote, and its note.
+/// How a command ended, what it wrote, its note, and what is kept then.
 #[derive(Drop)]
 pub struct Ending {
     pub status: u64,
     pub text: Vec<u8>,
     pub note: Vec<u8>,
+    pub kept: Vec<u8>,
 }
 
 /// A command, what it finds outside, and how it is to end.
@@ -24,10 +26,13 @@ pub struct Row {
     // what the names `p` and `e` hold
     page: Option<Vec<u8>>,
     events: Option<Vec<u8>>,
+    // the rows that are kept before
+    kept: Vec<KeptRow>,
     // how many bytes the output takes, and the notes
     room: u64,
     // the calls that fail, by their numbers; a put also with how many bytes it takes
     reads: Vec<u64>,
+    calls: Vec<u64>,
     puts: Vec<(u64, u64)>,
     notes: Vec<(u64, u64)>,
     wanted: Ending,
@@ -101,19 +106,22 @@ impl Row {
             words: words_at(alloc, &row, "words")?,
             page: page_of(alloc, &row)?,
             events: events_of(alloc, &row)?,
+            kept: kept_at(alloc, &row, "kept")?,
             room: number_at(&row, "room", ROOM)?,
             reads: numbers_at(alloc, &row, "reads")?,
+            calls: numbers_at(alloc, &row, "calls")?,
             puts: pairs_at(alloc, &row, "puts")?,
             notes: pairs_at(alloc, &row, "notes")?,
             wanted: Ending {
                 status: number_at(&row, "status", 0)?,
                 text: text_at(alloc, &row, "text")?,
                 note: text_at(alloc, &row, "note")?,
+                kept: text_at(alloc, &row, "rows")?,
             },
         })
     }
 
-    /// How the command of the row ends, over files, an output and notes in memory.
+    /// How the command of the row ends, over files, an output, notes and a keeper in memory.
     pub fn run(&self, alloc: Global) -> io::Result<Ending> {
         let mut held = Vec::new(alloc);
         push_file(alloc, &mut held, "p", &self.page)?;
@@ -123,7 +131,7 @@ impl Row {
         let mut out = MemorySink::new(alloc, self.room, puts).map_err(no_memory)?;
         let puts = self.notes.to_vec(alloc)?;
         let mut notes = MemorySink::new(alloc, self.room, puts).map_err(no_memory)?;
-        let mut keeper = MemoryKeeper::new(alloc, Vec::new(alloc));
+        let mut keeper = keeper_of(alloc, &self.kept, &self.calls)?;
         let status = run(
             alloc,
             &self.words,
@@ -136,6 +144,7 @@ impl Row {
             status: u64::from(status.code()),
             text: out.bytes().to_vec(alloc)?,
             note: notes.bytes().to_vec(alloc)?,
+            kept: kept_text(alloc, &mut keeper)?,
         })
     }
 
@@ -144,5 +153,6 @@ impl Row {
         self.wanted.status == ending.status
             && self.wanted.text == ending.text
             && self.wanted.note == ending.note
+            && self.wanted.kept == ending.kept
     }
 }

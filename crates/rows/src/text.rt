@@ -75,8 +75,8 @@ pub fn number_at(row: &Value, key: &str, without: u64) -> io::Result<u64> {
     }
 }
 
-// The items at a key, none where it is absent.
-fn items_at<'a>(row: &'a Value, key: &str) -> &'a [Value] {
+/// The items at a key, none where it is absent.
+pub fn items_at<'a>(row: &'a Value, key: &str) -> &'a [Value] {
     match row.get(key).and_then(Value::as_array) {
         Some(items) => items.as_slice(),
         None => &[],

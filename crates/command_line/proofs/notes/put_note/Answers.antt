@@ -13,3 +13,6 @@ returns-in-EventsRefused-clause-ok g c =
 pub returns-in-EventsRefused-clause-fault : goal.returns-in-EventsRefused-clause-fault
 returns-in-EventsRefused-clause-fault g c =
     rw c.in-EventsRefused.is (rw (c.as_bytes-number.ensures.value, c.format.ensures.text) at c.put_three.ensures.fault)
+
+pub returns-in-KeeperFault-clause-fault : goal.returns-in-KeeperFault-clause-fault
+returns-in-KeeperFault-clause-fault g c = rw c.in-KeeperFault.is c.put-in-KeeperFault.ensures.fault
