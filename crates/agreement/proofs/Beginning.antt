@@ -37,7 +37,7 @@ pristine_of opens opened fits = record {
   opens = opens;
   opened = opened;
   fits = fits;
-  before = record { one = []; two = [] };
+  before = record { one = []; two = []; one_clock = 0; two_clock = 0 };
   objects = same_below built_in_count;
   nodes = [];
   slots = [];

@@ -16,13 +16,19 @@ use Rattle.page_meaning.specs.declared.signal.Signal.{Signal}
 use Rattle.page_meaning.specs.declared.signal.Signal.TheVariants as signal
 use Rattle.heap_relations.specs.Naming.{Agree, Base, Before, Constant, env_id, In, Larger, Named, named, Sealed, Slot, World}
 use Rattle.heap_relations.specs.Related.{Each, ValueRel}
+use Rattle.host_relations.specs.Hosts.{HostRel}
+use Rattle.host_relations.specs.Timers.{Clocks}
 use Rattle.object_shapes.specs.Links.{all_below, value_links}
 use Rattle.page_meaning.specs.Places.{built_in_count}
 use Rattle.object_shapes.specs.Shapes.{IsShaped}
 
--- what is built in stands at the same places
+-- what is built in stands at the same places, and so does the object of the document
 abbrev pub HasBuiltIns : World → Type 0
-HasBuiltIns W = (k : ℕ) → k < built_in_count → Named W k k
+HasBuiltIns W = (k : ℕ) → k ≤ built_in_count → Named W k k
+
+-- the clocks when the naming began
+abbrev pub clocks_of : World → Clocks
+clocks_of W = record { one = W.before.one_clock; two = W.before.two_clock }
 
 -- behind what was put out before stand the same lines
 pub record AddedRel (b : Before) (xs ys : List Line) : Type 0 where
@@ -73,11 +79,12 @@ pub record AreKept (W : World) (s : Store) : Type 0 where
   pub functions : (k l : ℕ) → Named W k l → IsPlaced W k (object_at s.heap.objects k).class
   pub done : (j : ℕ) → In j W.done → j < length s.heap.environments
 
--- two pages agree: their heaps do, and they have put out the same lines. The objects of the left have their shapes, and its scopes and
--- functions keep what is constant
+-- two pages agree: their heaps and what their hosts keep do, and they have put out the same lines. The objects of the left have their shapes,
+-- and its scopes and functions keep what is constant
 pub record StoreRel (W : World) (s t : Store) : Type 0 where
   pub heap : Agree W s.heap t.heap
   pub lines : AddedRel W.before s.lines t.lines
+  pub host : HostRel (clocks_of W) W s.host t.host
   pub built_ins : HasBuiltIns W
   pub shaped : IsShaped s
   pub kept : AreKept W s

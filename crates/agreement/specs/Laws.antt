@@ -5,12 +5,12 @@ use Rattle.instrumenter.specs.Counting.{scripts_scopes}
 use Rattle.instrumenter.specs.Opened.{IsPlainScript}
 use Rattle.instrumenter.specs.Opening.{open_scripts}
 use Rattle.std.specs.List.{All}
-use Rattle.js_core.specs.Tree as tree
+use Rattle.dom_tree.specs.Sound.{IsSound}
 use Rattle.js_values.specs.declared.built_in.BuiltIn.{BuiltIn}
 use Rattle.js_values.specs.declared.event.Event.{Event}
 use Rattle.js_values.specs.declared.value.Value.{Value}
 use Rattle.page_meaning.specs.Act.{Calls}
-use Rattle.page_meaning.specs.Pages.{run_all, run_of, lines_of_run}
+use Rattle.page_meaning.specs.Pages.{Page, run_all, run_of, lines_of_run}
 use Rattle.page_meaning.specs.Rows.{row_of}
 use Rattle.page_meaning.specs.Store.{Store}
 use Rattle.heap_relations.specs.Naming.{named, World}
@@ -33,22 +33,26 @@ EventsAgree =
 
 -- each page agrees with itself after its scripts and any events
 abbrev pub PagesAgree : Type 0
-PagesAgree = (scripts : List tree.Stmts) (es : List Event) → AgreesWithItself (run_of scripts es)
+PagesAgree = (page : Page) (es : List Event) → IsSound page.nodes → AgreesWithItself (run_of page es)
 
 -- where each script stands, and nothing is opened, so do the functions that the page holds
 abbrev pub StandingPagesAgree : Type 0
 StandingPagesAgree =
-    (d : Demand) (scripts : List tree.Stmts) (es : List Event)
-    → d.opens ≡ false → scripts_stand d 1 scripts ≡ true → AgreesStanding d (run_of scripts es)
+    (d : Demand) (page : Page) (es : List Event)
+    → IsSound page.nodes → d.opens ≡ false → scripts_stand d 1 page.scripts ≡ true → AgreesStanding d (run_of page es)
+
+-- the page with its scopes opened
+abbrev pub opened_page : Page → Page
+opened_page page = record { nodes = page.nodes; scripts = open_scripts page.scripts }
 
 -- a page and the same with its scopes opened put out the same lines, where its scripts may be opened
 abbrev pub OpenedPagesAgree : Type 0
 OpenedPagesAgree =
-    (scripts : List tree.Stmts) (es : List Event)
-    → scripts_stand opening 1 scripts ≡ true → lines_of_run scripts es ≡ lines_of_run (open_scripts scripts) es
+    (page : Page) (es : List Event)
+    → IsSound page.nodes → scripts_stand opening 1 page.scripts ≡ true → lines_of_run page es ≡ lines_of_run (opened_page page) es
 
 -- so it is of each page of plain scripts whose scope objects have numbers that the program can count to
 abbrev pub PlainPagesAgree : Type 0
 PlainPagesAgree =
-    (scripts : List tree.Stmts) (es : List Event) → All IsPlainScript scripts → 1 + scripts_scopes scripts < 2 ^ 64
-    → lines_of_run (open_scripts scripts) es ≡ lines_of_run scripts es
+    (page : Page) (es : List Event) → IsSound page.nodes → All IsPlainScript page.scripts → 1 + scripts_scopes page.scripts < 2 ^ 64
+    → lines_of_run (opened_page page) es ≡ lines_of_run page es

@@ -72,10 +72,12 @@ pub record Base : Type 0 where
   pub two : Option EnvId
   pub frame : Frame
 
--- the lines that either page had put out when the naming began
+-- the lines that either page had put out when the naming began, and their clocks then
 pub record Before : Type 0 where
   pub one : List Line
   pub two : List Line
+  pub one_clock : ℕ
+  pub two_clock : ℕ
 
 -- opens: whether the right has scope objects, so that no name of the page begins like theirs; opened: what a function's code is on the
 -- right, in these frames, where the scopes inside are numbered from here on; fits: whether code may stand in them; done: the environments on
