@@ -6,16 +6,16 @@ use Rattle.std.proofs.Common.{ap, subst, sym, ◌∙◌, arith}
 use Rattle.std.proofs.lemmas.Bool.{leb-true}
 use Rattle.std.proofs.lemmas.List.Sums.{AllPass-from_list_all}
 use Rattle.std.proofs.lemmas.Option.{get_or_from_slice_get, slice_get-get_or, slice_get-map, slice_get_within}
-use Rattle.page_meaning.specs.Places.{array_prototype_place, boolean_prototype_place, console_place, error_prototype_place, function_place, math_place, number_prototype_place, range_error_prototype_place, reference_error_prototype_place, string_prototype_place, type_error_prototype_place}
-use Rattle.page_meaning.specs.Pristine.{pristine}
+use Rattle.page_meaning.specs.Places.{node_prototype_place, event_prototype_place, array_prototype_place, boolean_prototype_place, console_place, error_prototype_place, function_place, math_place, number_prototype_place, range_error_prototype_place, reference_error_prototype_place, string_prototype_place, type_error_prototype_place}
+use Rattle.page_meaning.specs.Pristine.{built_ins}
 use Rattle.built_in_paths.specs.Laws.{EachHasPath, PathsAreShort, PathsLead, longest}
 use Rattle.built_in_paths.specs.Paths.{leads, path_of, paths}
 
-pub path_count : length paths ≡ 93
+pub path_count : length paths ≡ 122
 unfolding paths
 path_count = refl
 
-pub object_count : length pristine.heap.objects ≡ 93
+pub object_count : length built_ins ≡ 122
 object_count = refl
 
 -- so many places, from one on
@@ -34,24 +34,24 @@ place_at k (suc n) (suc i) found there =
     place_at (suc k) n i found there ∙ ap Some same
 
 -- where the paths lead, in their order
-all_lead : map (leads pristine.heap.objects) paths ≡ places_from 0 93
-unfolding paths places_from array_prototype_place boolean_prototype_place console_place error_prototype_place function_place math_place number_prototype_place range_error_prototype_place reference_error_prototype_place string_prototype_place type_error_prototype_place
+all_lead : map (leads built_ins) paths ≡ places_from 0 122
+unfolding paths places_from node_prototype_place event_prototype_place array_prototype_place boolean_prototype_place console_place error_prototype_place function_place math_place number_prototype_place range_error_prototype_place reference_error_prototype_place string_prototype_place type_error_prototype_place
 all_lead = refl
 
 pub paths_lead : PathsLead
 paths_lead k path there =
-    let lead : List ℕ → Option ℕ = leads pristine.heap.objects in
-    let found : slice_get (places_from 0 93) k ≡ Some (lead path) =
+    let lead : List ℕ → Option ℕ = leads built_ins in
+    let found : slice_get (places_from 0 122) k ≡ Some (lead path) =
     ap (λ xs. slice_get xs k) (sym all_lead) ∙ (slice_get-map lead paths k ∙ ap (option_map lead) there) in
     let same : 0 + k ≡ k = omega arith in
-    place_at 0 93 k (lead path) found ∙ ap Some same
+    place_at 0 122 k (lead path) found ∙ ap Some same
 
-some_within : (k : ℕ) (found : Option (List ℕ)) → path_of k ≡ found → IsSome found → k < 93
+some_within : (k : ℕ) (found : Option (List ℕ)) → path_of k ≡ found → IsSome found → k < 122
 unfolding paths
 some_within k None there some = cc some
 some_within k (Some path) there some = slice_get_within paths k path there
 
-within_some : (k : ℕ) → k < 93 → IsSome (path_of k)
+within_some : (k : ℕ) → k < 122 → IsSome (path_of k)
 unfolding paths
 within_some k within = ap is_some (slice_get-get_or paths k [] within)
 

@@ -1,4 +1,5 @@
--- Paths: by which names a script reaches each built-in object of a page (ECMA-262 5.1 section 15), as a saved page writes them, and what a
+-- Paths: by which names a script reaches each built-in object of a page (ECMA-262 5.1 section 15; DOM Level 2 Core and
+-- Events; HTML, timers), as a saved page writes them, and what a
 -- path leads to. They stand in the order of the objects' places in `Pristine`, by the same families.
 use Rattle.std.specs.Prelude.{ℕ, List, [], ◌∷◌, ◌++◌, Option, Some, None, codes, nat_eq, if◌then◌else◌, slice_get}
 use Rattle.std.specs.Option.{option_and_then}
@@ -15,6 +16,15 @@ root_paths = codes "window" ∷ codes "Object.prototype" ∷ codes "Function.pro
 
 abbrev pub host_paths : List (List ℕ)
 host_paths = codes "console" ∷ codes "console.log" ∷ codes "alert" ∷ []
+
+-- HTML, timers
+abbrev pub timer_paths : List (List ℕ)
+timer_paths =
+    codes "setTimeout"
+    ∷ codes "setInterval"
+    ∷ codes "setIntervalFrom"
+    ∷ codes "clearTimeout"
+    ∷ codes "clearInterval" ∷ []
 
 -- 15.2
 abbrev pub object_paths : List (List ℕ)
@@ -120,18 +130,49 @@ error_paths =
     ∷ codes "ReferenceError"
     ∷ codes "ReferenceError.prototype" ∷ []
 
+-- DOM Level 2 Core and Events
+abbrev pub node_paths : List (List ℕ)
+node_paths =
+    codes "Node"
+    ∷ codes "Node.prototype"
+    ∷ codes "Node.prototype.insertBefore"
+    ∷ codes "Node.prototype.replaceChild"
+    ∷ codes "Node.prototype.removeChild"
+    ∷ codes "Node.prototype.appendChild"
+    ∷ codes "Node.prototype.hasChildNodes"
+    ∷ codes "Node.prototype.getAttribute"
+    ∷ codes "Node.prototype.setAttribute"
+    ∷ codes "Node.prototype.removeAttribute"
+    ∷ codes "Node.prototype.hasAttribute"
+    ∷ codes "Node.prototype.addEventListener"
+    ∷ codes "Node.prototype.removeEventListener"
+    ∷ codes "Node.prototype.dispatchEvent"
+    ∷ codes "Node.prototype.getElementById"
+    ∷ codes "Node.prototype.createElement"
+    ∷ codes "Node.prototype.createTextNode"
+    ∷ codes "Node.prototype.createComment"
+    ∷ codes "Node.prototype.createEvent" ∷ []
+
+abbrev pub event_paths : List (List ℕ)
+event_paths =
+    codes "Event"
+    ∷ codes "Event.prototype"
+    ∷ codes "Event.prototype.initEvent"
+    ∷ codes "Event.prototype.stopPropagation"
+    ∷ codes "Event.prototype.preventDefault" ∷ []
+
 -- 15.1.2
 abbrev pub global_function_paths : List (List ℕ)
 global_function_paths = codes "isNaN" ∷ codes "isFinite" ∷ codes "parseInt" ∷ []
 
 abbrev pub first_paths : List (List ℕ)
-first_paths = root_paths ++ (host_paths ++ (object_paths ++ function_paths))
+first_paths = root_paths ++ (host_paths ++ (timer_paths ++ (object_paths ++ function_paths)))
 
 abbrev pub value_paths : List (List ℕ)
 value_paths = array_paths ++ (string_paths ++ (number_paths ++ (boolean_paths ++ math_paths)))
 
 unfoldable pub paths : List (List ℕ)
-paths = first_paths ++ (value_paths ++ (error_paths ++ global_function_paths))
+paths = first_paths ++ (value_paths ++ (error_paths ++ (node_paths ++ (event_paths ++ global_function_paths))))
 
 -- the path of the built-in object at the place, if one stands there
 abbrev pub path_of : ℕ → Option (List ℕ)

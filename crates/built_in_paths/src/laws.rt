@@ -1,7 +1,7 @@
 //! What holds of the paths.
 
 ghost use Rattle.std.specs.Prelude.{◌≡◌, length};
-ghost use Rattle.page_meaning.specs.Pristine.{pristine};
+ghost use Rattle.page_meaning.specs.Pristine.{built_ins};
 ghost use Rattle.built_in_paths.specs.Laws.{EachHasPath, PathsAreShort, PathsLead};
 ghost use Rattle.built_in_paths.specs.Paths.{paths};
 
@@ -19,9 +19,9 @@ pub fn law_paths_are_short()
     ensures { PathsAreShort }
 {}
 
-/// There are 93 paths and 93 built-in objects.
+/// There are 122 paths and 122 built-in objects.
 #[tactic(auto, using(crate::proofs::Leading::path_count, crate::proofs::Leading::object_count))]
 pub fn law_paths_are_counted()
-    ensures paths { length paths ≡ 93 }
-    ensures objects { length pristine.heap.objects ≡ 93 }
+    ensures paths { length paths ≡ 122 }
+    ensures objects { length built_ins ≡ 122 }
 {}

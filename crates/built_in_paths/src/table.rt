@@ -6,7 +6,7 @@ ghost use Rattle.built_in_paths.specs.Paths.{path_of};
 use js_values::ObjId;
 
 /// All paths, in the order of the objects' places, by families as the built-in objects.
-const PATHS: [&[u8]; 93] = [
+const PATHS: [&[u8]; 122] = [
     // the global object, and the two prototypes that stand before the others
     b"window",
     b"Object.prototype",
@@ -15,6 +15,12 @@ const PATHS: [&[u8]; 93] = [
     b"console",
     b"console.log",
     b"alert",
+    // timers
+    b"setTimeout",
+    b"setInterval",
+    b"setIntervalFrom",
+    b"clearTimeout",
+    b"clearInterval",
     // `Object`
     b"Object",
     b"Object.prototype.toString",
@@ -107,13 +113,39 @@ const PATHS: [&[u8]; 93] = [
     b"RangeError.prototype",
     b"ReferenceError",
     b"ReferenceError.prototype",
+    // nodes and events
+    b"Node",
+    b"Node.prototype",
+    b"Node.prototype.insertBefore",
+    b"Node.prototype.replaceChild",
+    b"Node.prototype.removeChild",
+    b"Node.prototype.appendChild",
+    b"Node.prototype.hasChildNodes",
+    b"Node.prototype.getAttribute",
+    b"Node.prototype.setAttribute",
+    b"Node.prototype.removeAttribute",
+    b"Node.prototype.hasAttribute",
+    b"Node.prototype.addEventListener",
+    b"Node.prototype.removeEventListener",
+    b"Node.prototype.dispatchEvent",
+    b"Node.prototype.getElementById",
+    b"Node.prototype.createElement",
+    b"Node.prototype.createTextNode",
+    b"Node.prototype.createComment",
+    b"Node.prototype.createEvent",
+    b"Event",
+    b"Event.prototype",
+    b"Event.prototype.initEvent",
+    b"Event.prototype.stopPropagation",
+    b"Event.prototype.preventDefault",
     // functions of the global object
     b"isNaN",
     b"isFinite",
     b"parseInt",
 ];
 
-/// The path of names by which a script reaches the built-in object (ECMA-262 5.1 section 15), as `Array.prototype.slice`, or `None`
+/// The path of names by which a script reaches the built-in object (ECMA-262 5.1 section 15; DOM
+/// Level 2 Core and Events; HTML, timers), as `Array.prototype.slice`, or `None`
 /// exactly where the id is no built-in object's. It takes no memory.
 pub fn path(at: ObjId) -> Option<&'static [u8]>
     ensures { option_copied result ≡ path_of at.0 }
