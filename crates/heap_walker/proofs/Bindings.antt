@@ -16,7 +16,7 @@ use Rattle.object_heap.specs.declared.object.Class.{Class}
 use Rattle.object_heap.specs.declared.object.Class.TheVariants as class
 use Rattle.object_shapes.proofs.Callers.{below_join}
 use Rattle.object_shapes.specs.Links as shapes
-use Rattle.object_shapes.specs.Links.{all_below, bound_links, parts_links, props_links, proto_links, value_links}
+use Rattle.object_shapes.specs.Links.{all_below, bound_links, event_links, parts_links, props_links, proto_links, value_links}
 use Rattle.page_meaning.specs.Store.{Store}
 use Rattle.scope_analysis.specs.Needs.{needed_variables}
 use Rattle.heap_walker.specs.Still.{Still, made_links}
@@ -91,11 +91,12 @@ pub links_there : (s : Store) → Still s → (k : ℕ) → all_below (length s.
 links_there s still k =
     let o : Object = object_at s.heap.objects k in
     let n = length s.heap.objects in
-    let whole = below_parts n (shapes.made_links o) (props_links o.props) (still.shaped.there k) in
+    let whole = below_parts n (shapes.made_links o) (event_links o.class ++ props_links o.props) (still.shaped.there k) in
+    let props = below_parts n (event_links o.class) (props_links o.props) whole.1 in
     let made = below_parts n (proto_links o.proto) (parts_links o.class) whole.0 in
     below_join n (proto_links o.proto) (class_links s o.class ++ props_links o.props) made.0
     (below_join n (class_links s o.class) (props_links o.props)
-    (class_below s n o.class made.1 (λ source env is. needs_below s still env (needed_variables source))) whole.1)
+    (class_below s n o.class made.1 (λ source env is. needs_below s still env (needed_variables source))) props.1)
 
 pub made_below : (s : Store) → Still s → (k : ℕ) → Reach s k → all_below k (made_links s (object_at s.heap.objects k)) ≡ true
 made_below s still k reach =

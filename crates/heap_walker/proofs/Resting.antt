@@ -1,17 +1,16 @@
 -- What the things of a page at rest refer to is built in or walked.
-use Rattle.std.proofs.Common.{◌≡◌, ◌⊎◌, inl, inr, refl, sym, ap, ◌∙◌, ℕ, zero, suc, ◌<◌, Bool, true, false, ◌||◌, List, [], ◌∷◌, ◌++◌, drop, length, nat_eq, nat_le, nat_lt}
+use Rattle.std.proofs.Common.{◌≡◌, ◌⊎◌, inl, inr, refl, sym, ap, subst, arith, ◌∙◌, ℕ, zero, suc, ◌<◌, Bool, true, false, ◌||◌, List, [], ◌∷◌, ◌++◌, drop, length, nat_eq, nat_le, nat_lt}
 use Rattle.std.proofs.Math.Bool.{or-true}
-use Rattle.std.proofs.lemmas.Bool.{eq-eqb, eqb-true, leb-false, ltb-true, or_cases}
+use Rattle.std.proofs.lemmas.Bool.{cases_eq, eq-eqb, eqb-true, ltb-false, ltb-true, or_cases}
 use Rattle.std.proofs.lemmas.List.Folds.{list_any-append}
 use Rattle.std.specs.List.{list_all}
 use Rattle.object_heap.specs.Chain.{object_at}
 use Rattle.object_heap.specs.Object.{Object}
 use Rattle.object_heap.specs.Property.{Props}
-use Rattle.page_meaning.specs.Places.{window}
+use Rattle.page_meaning.specs.Places.{built_in_count, document, window}
 use Rattle.page_meaning.specs.Store.{Store}
 use Rattle.heap_walker.specs.Still.{Still, made_links}
 use Rattle.heap_walker.specs.Things.{IsWalk, class_links, is_in, link, links, root, roots}
-use Rattle.page_meaning.specs.Places.{built_in_count}
 use Rattle.object_shapes.specs.Links.{is_thing, props_links, proto_links, value_links}
 use Rattle.page_meaning.specs.Pristine.{built_in_globals}
 use Rattle.heap_walker.proofs.Bindings.{links_there, made_below}
@@ -36,16 +35,18 @@ all_of p (k ∷ ks) each =
     here : (n : ℕ) → nat_eq n n ≡ true
     here n = eq-eqb n n refl
 
--- something that is there is built in or a thing
-built_in_or_thing : (s : Store) (j : ℕ) → nat_lt j (length s.heap.objects) ≡ true → (j < built_in_count) ⊎ (is_thing s j ≡ true)
-built_in_or_thing s j there = by (nat_le built_in_count j) refl
+-- something that is there, and not the document, is built in or a thing
+built_in_or_thing : (s : Store) (ks : List ℕ) (j : ℕ) → is_in document.0 ks ≡ false → is_in j ks ≡ true → nat_lt j (length s.heap.objects) ≡ true
+    → (j < built_in_count) ⊎ (is_thing s j ≡ true)
+built_in_or_thing s ks j apart among there = by (nat_lt built_in_count j) refl (cases_eq j built_in_count)
   where
-    by : (b : Bool) → nat_le built_in_count j ≡ b → (j < built_in_count) ⊎ (is_thing s j ≡ true)
-    by true h = inr (rw (h, there) refl)
-    by false h = inl (leb-false built_in_count j h)
+    by : (b : Bool) → nat_lt built_in_count j ≡ b → (j ≡ built_in_count) ⊎ (j ≡ built_in_count → ⊥) → (j < built_in_count) ⊎ (is_thing s j ≡ true)
+    by true h any = inr (rw (h, there) refl)
+    by false h (inl same) = absurd (cc (sym (subst (λ k. is_in k ks ≡ true) same among) ∙ apart))
+    by false h (inr other) = inl (omega (arith, ltb-false built_in_count j h, other))
 
 pub links_in_walk : (s : Store) (things : List ℕ) → Still s → IsWalk s things → (k : ℕ) → is_in k things ≡ true → (j : ℕ) → is_in j (links s k) ≡ true → (j < built_in_count) ⊎ (is_in j things ≡ true)
-links_in_walk s things still walk k found j h = by (built_in_or_thing s j (each_of (λ n. nat_lt n (length s.heap.objects)) (links s k) (links_there s still k) j h))
+links_in_walk s things still walk k found j h = by (built_in_or_thing s (links s k) j (still.bare.things k (walk.sound k found)) h (each_of (λ n. nat_lt n (length s.heap.objects)) (links s k) (links_there s still k) j h))
   where
     by : (j < built_in_count) ⊎ (is_thing s j ≡ true) → (j < built_in_count) ⊎ (is_in j things ≡ true)
     by (inl low) = inl low
@@ -60,7 +61,7 @@ dropped_among (suc n) (e ∷ es) j h =
     ∙ rw (dropped_among n es j h) (or-true (is_in j (value_links e.1.value)))
 
 pub roots_in_walk : (s : Store) (things : List ℕ) → Still s → IsWalk s things → (j : ℕ) → is_in j (roots s) ≡ true → (j < built_in_count) ⊎ (is_in j things ≡ true)
-roots_in_walk s things still walk j h = by (built_in_or_thing s j (each_of (λ n. nat_lt n (length s.heap.objects)) (links s window.0) (links_there s still window.0) j linked))
+roots_in_walk s things still walk j h = by (built_in_or_thing s (roots s) j still.bare.globals h (each_of (λ n. nat_lt n (length s.heap.objects)) (links s window.0) (links_there s still window.0) j linked))
   where
     o : Object
     o = object_at s.heap.objects window.0

@@ -1,3 +1,4 @@
+pub mod Bare
 pub mod Laws
 pub mod Remade
 pub mod Still

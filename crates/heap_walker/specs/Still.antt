@@ -1,4 +1,4 @@
--- A page at rest: what holds between two events of a form page, as saving needs it. Later parts of the host (nodes, events, timers) join here.
+-- A page at rest: what holds between two events of a form page, as saving needs it.
 use Rattle.std.specs.Prelude.{◌≡◌, ℕ, ◌+◌, ◌<◌, ◌≤◌, Bool, not, List, ◌++◌, Option, Some, None, is_some, length, map, filter, IsTrue, ⊤}
 use Rattle.std.specs.List.{list_all}
 use Rattle.std.specs.Option.{ForSome}
@@ -23,6 +23,7 @@ use Rattle.scope_analysis.specs.Needs.{needed_variables}
 use Rattle.scope_analysis.specs.Identifiers.{is_reserved}
 use Rattle.early_rules.specs.Limits.{function_height_limit}
 use Rattle.scope_analysis.specs.Uses.{expr_uses}
+use Rattle.heap_walker.specs.Bare.{IsBare}
 use Rattle.heap_walker.specs.Things.{Reach, class_links, needs_links, needs_of}
 
 -- ---- references
@@ -69,8 +70,16 @@ pub record IsFunctionAtRest (s : Store) (k : ℕ) (c : tree.Code) (env : Option 
 
 -- ---- the page
 
-pub record Still (s : Store) : Type 0 where
+-- at rest, whatever its nodes, listeners and timers
+pub record Rests (s : Store) : Type 0 where
   pub sound : IsSound s.heap
   -- objects are as their makers left them, but for what scripts may change
   pub shaped : IsShaped s
   pub functions : (k : ℕ) (c : tree.Code) (env : Option EnvId) → Reach s k → (object_at s.heap.objects k).class ≡ class.Page c env → IsFunctionAtRest s k c env
+
+-- at rest, and bare: so it can be saved
+pub record Still (s : Store) : Type 0 where
+  pub sound : IsSound s.heap
+  pub shaped : IsShaped s
+  pub functions : (k : ℕ) (c : tree.Code) (env : Option EnvId) → Reach s k → (object_at s.heap.objects k).class ≡ class.Page c env → IsFunctionAtRest s k c env
+  pub bare : IsBare s

@@ -12,8 +12,8 @@ pub use needs::{Needs, needs_of};
 pub use reached::{Walked, walk};
 pub use weight::{Weight, weigh, weight_of};
 
-/// How many objects a page begins with, the global object among them. Those that scripts make are younger.
-pub const BUILT_IN_COUNT: u64 = 93;
+/// How many built-in objects there are, the global object among them. The document is the next one, and all other objects are younger.
+pub const BUILT_IN_COUNT: u64 = 122;
 
-/// How many properties the global object begins with. Those that scripts make stand behind them.
-pub const BUILT_IN_GLOBALS: u64 = 19;
+/// How many properties the global object begins with. Those that scripts make stand after them.
+pub const BUILT_IN_GLOBALS: u64 = 26;

@@ -17,11 +17,11 @@ use object_heap::Class;
 use page_state::{State, WINDOW, further};
 
 // The object is seen, if it is a thing.
-#[tactic(auto, unfolding(object_shapes::specs::Links::built_in_count))]
+#[tactic(auto, unfolding(page_meaning::specs::Places::built_in_count))]
 fn see(state: &State, at: ObjId, seen: &mut IndexSet<u64>) -> Result<(), OutOfMemory>
     ensures { OnOk result (seen.new.keys ≡ joined state.now seen.old.keys (at.0 ∷ [])) }
 {
-    if at.0 >= BUILT_IN_COUNT && at.0 < state.count() {
+    if at.0 > BUILT_IN_COUNT && at.0 < state.count() {
         seen.insert(at.0)?;
     }
     Ok(())
@@ -156,7 +156,7 @@ pub fn see_links(state: &State, at: ObjId, seen: &mut IndexSet<u64>) -> Result<(
 }
 
 /// What globals refer to is seen, as far as it is a thing.
-#[tactic(auto, unfolding(object_shapes::specs::Shapes::built_in_globals))]
+#[tactic(auto, unfolding(page_meaning::specs::Pristine::built_in_globals))]
 pub fn see_globals(state: &State, seen: &mut IndexSet<u64>) -> Result<(), OutOfMemory>
     ensures { OnOk result (seen.new.keys
         ≡ joined state.now seen.old.keys (spec.roots state.now)) }

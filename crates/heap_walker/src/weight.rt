@@ -156,7 +156,7 @@ pub fn weight_of(state: &State, walked: &Walked) -> Result<Weight, OutOfMemory>
     Ok(weight)
 }
 
-#[tactic(auto, unfolding(object_shapes::specs::Shapes::built_in_globals), using(crate::proofs::Weights::all_written))]
+#[tactic(auto, unfolding(page_meaning::specs::Pristine::built_in_globals), using(crate::proofs::Weights::all_written))]
 fn add_globals(state: &State, weight: &mut Weight) -> Result<(), OutOfMemory>
     ensures { OnOk result (spec.Adds weight.old weight.new
         (spec.props_load (things.globals_of state.now))) }

@@ -10,7 +10,7 @@ use Rattle.page_writer.specs.Statements.{statement}
 
 -- the mark of form pages, and the start of a script in which `$$` is a list that no name of a page reaches
 abbrev pub page_head : List ℕ
-page_head = codes "<!--imagen 1--><html><script>\"use strict\";try{throw[];}catch($$){\n"
+page_head = codes "<!--imagen 1--><html><body></body><script>\"use strict\";try{throw[];}catch($$){\n"
 
 abbrev pub page_tail : List ℕ
 page_tail = codes "}</script></html>"

@@ -35,7 +35,7 @@ PrintedPagesAreAccepted =
 
 -- what stands before the text of its script, and what stands after it
 abbrev pub page_front : List ℕ
-page_front = form_mark ++ codes "<html><script>"
+page_front = form_mark ++ codes "<html><body></body><script>"
 
 abbrev pub page_back : List ℕ
 page_back = codes "</script></html>"
@@ -45,7 +45,7 @@ framed text = page_front ++ (text ++ page_back)
 
 -- the page that it is with this script
 abbrev pub framed_page : tree.Stmts → Page
-framed_page script = form_page (script_page false) (script ∷ [])
+framed_page script = form_page (script_page true) (script ∷ [])
 
 -- where the text is read again as what a form page asks of a script, and this begins with the strict directive, it is accepted in this frame
 abbrev pub FramedScriptsAreAccepted : Type 0

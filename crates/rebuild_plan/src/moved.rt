@@ -10,7 +10,7 @@ use object_heap::{Prop, Values};
 use std::alloc::Global;
 
 /// The place of an object among the built-in objects and the things that were walked.
-#[tactic(auto, unfolding(object_shapes::specs::Links::built_in_count))]
+#[tactic(auto, unfolding(page_meaning::specs::Places::built_in_count))]
 pub fn moved(walked: &Walked, at: ObjId) -> ObjId
     ensures { result ≡ spec.moved walked.now.things.keys at }
 {

@@ -114,7 +114,7 @@ fn kind_at(at: ObjId) -> ErrorKind
 }
 
 // The globals that scripts made are defined.
-#[tactic(auto, unfolding(object_shapes::specs::Shapes::built_in_globals))]
+#[tactic(auto, unfolding(page_meaning::specs::Pristine::built_in_globals))]
 fn push_globals(state: &State, walked: &Walked, plan: &mut Vec<Rebuild>) -> Result<(), OutOfMemory>
     ensures { OnOk result (plan.new.items ≡ plan.old.items ++ spec.defines false false window
         (saved.moved_props walked.now.things.keys (globals_of state.now))) }
@@ -140,7 +140,7 @@ fn push_fills(state: &State, walked: &Walked, plan: &mut Vec<Rebuild>) -> Result
 }
 
 // The place of the thing with this number.
-#[tactic(auto, unfolding(object_shapes::specs::Links::built_in_count))]
+#[tactic(auto, unfolding(page_meaning::specs::Places::built_in_count))]
 fn thing_place(number: usize) -> Result<ObjId, OutOfMemory>
     ensures { IfOk result (λ at. at ≡ spec.thing_place number) }
 {
