@@ -7,7 +7,7 @@ use Rattle.page_meaning.specs.Calls.{calls_at}
 use Rattle.page_meaning.specs.Store.{Store}
 use Rattle.page_frames.specs.declared.frame.Begin.{Begin}
 use Rattle.page_frames.specs.declared.frame.Frame.{Frame}
-use Rattle.page_frames.specs.declared.frame.Frame.TheVariants.{Expr, Name, Target, Stmt, Each, Case, Called, Visit}
+use Rattle.page_frames.specs.declared.frame.Frame.TheVariants.{Expr, Name, Target, Stmt, Each, Case, Called, Visit, Deliver}
 use Rattle.page_frames.specs.declared.meter.Meter.{Meter}
 use Rattle.page_frames.specs.declared.meter.Next.TheVariants.{Give, Go, Enter, Then, Stopped as Halt}
 use Rattle.page_frames.specs.Laws.{Before, StacksFall, StacksFollow}
@@ -29,6 +29,7 @@ depth_rises (Target f) d = omega arith
 depth_rises (Stmt f) d = omega arith
 depth_rises (Each f) d = omega arith
 depth_rises (Case f) d = omega arith
+depth_rises (Deliver f) d = omega arith
 
 deep_rises : (d : ℕ) (fs : List Frame) → d ≤ deep d fs
 deep_rises d [] = omega arith

@@ -1,6 +1,6 @@
 //! What is left of a dispatch: the listeners of a place, and the places after it.
 
-ghost use Rattle.std.specs.Prelude.{◌≡◌, ◌∷◌, [], IfNone, IfSome, reverse};
+ghost use Rattle.std.specs.Prelude.{◌≡◌, ◌<◌, ◌^◌, ◌∷◌, [], IfNone, IfSome, length, reverse};
 
 use page_host::{Listener, Place};
 use std::marker::Model;
@@ -32,8 +32,10 @@ impl Model for Round {
 impl Round {
     /// These listeners.
     pub fn of(listeners: Vec<Listener>) -> Round
-        ensures { result ≡ listeners.items }
+        ensures same { result ≡ listeners.items }
+        ensures few { length result < 2 ^ 64 }
     {
+        let _count = listeners.len();
         let mut listeners = listeners;
         listeners.reverse();
         Round { listeners }
@@ -73,8 +75,10 @@ impl Model for Places {
 impl Places {
     /// These places.
     pub fn of(places: Vec<Place>) -> Places
-        ensures { result ≡ places.items }
+        ensures same { result ≡ places.items }
+        ensures few { length result < 2 ^ 64 }
     {
+        let _count = places.len();
         let mut places = places;
         places.reverse();
         Places { places }
