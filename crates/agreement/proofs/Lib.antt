@@ -5,9 +5,9 @@ pub mod Bindings
 pub mod Called
 pub mod Callers
 pub mod Calling
-pub mod Constants
 pub mod Clauses
 pub mod Closures
+pub mod Constants
 pub mod Declared
 pub mod Descriptors
 pub mod Dropped
@@ -18,6 +18,7 @@ pub mod Entering
 pub mod Entries
 pub mod EntryNames
 pub mod EqualTrees
+pub mod EventSteps
 pub mod Expressions
 pub mod FirstSets
 pub mod FirstStatements
@@ -31,6 +32,8 @@ pub mod FunctionRows
 pub mod Functions
 pub mod Heap
 pub mod Hoisted
+pub mod HostReads
+pub mod HostSteps
 pub mod Lines
 pub mod Linked
 pub mod ListRow
@@ -53,10 +56,10 @@ pub mod Runs
 pub mod ScopeObjects
 pub mod ScopeValues
 pub mod Scoped
-pub mod StandsPieces
-pub mod StandsScopes
 pub mod Spared
 pub mod SparedCalls
+pub mod StandsPieces
+pub mod StandsScopes
 pub mod Statements
 pub mod StringRows
 pub mod Targets
