@@ -1,17 +1,16 @@
 //! What is done to the nodes of a page (DOM Level 2 Core).
 
-ghost use Rattle.std.specs.Prelude.{◌≡◌, ◌<◌, IfOk, IsTrue, OnOk, Some, false, length, true};
+ghost use Rattle.std.specs.Prelude.{◌≡◌, ◌<◌, IfOk, OnOk, Some, false, length, true};
 ghost use Rattle.std.specs.Option.{ForSome};
 ghost use Rattle.dom_tree.specs.declared.content.Kind.TheVariants as kind;
 ghost use Rattle.dom_tree.specs.Change.{insertion_error, removal_error, replacement_error};
 ghost use Rattle.dom_tree.specs.Name.{folded, is_name};
-ghost use Rattle.dom_tree.specs.Node.{is_element, kind_at};
 ghost use Rattle.dom_tree.specs.Steps.{drops_attribute, empties, inserts, replaces, sets_attribute, takes_out};
 ghost use Rattle.page_host.specs.Answers.{answer_of};
 ghost use Rattle.page_host.specs.HostNames.{is_handler, text_step};
 ghost use Rattle.page_meaning.specs.Primitives.{changes_nodes, make_node};
 ghost use Rattle.page_state.specs.Does.{Does};
-ghost use Rattle.page_state.specs.Made.{IsAttributeSet, IsElementMade};
+ghost use Rattle.page_state.specs.Made.{IsElementMade};
 
 use crate::places::NODE_PROTOTYPE;
 use crate::state::State;
@@ -124,10 +123,7 @@ impl State {
         name: &Units,
         value: &Units,
     ) -> Result<Option<Throw>, OutOfMemory>
-        requires there { node.0 < length self.old.host.nodes }
-        requires element { IsTrue (is_element (kind_at self.old.host.nodes node.0)) }
-        ensures { IfOk result (λ refused. IsAttributeSet node name.now value.now self.old refused
-            self.new) }
+        requires { node.0 < length self.old.host.nodes }
     {
         if names_handler(name) {
             return Ok(Some(Throw::WrongArgument));
@@ -140,7 +136,12 @@ impl State {
     }
 
     /// A text is put at a host name that takes one; an element's `textContent` is filled anew instead.
-    pub fn put_text(&mut self, node: NodeId, name: HostName, text: Units) -> Result<(), OutOfMemory>
+    pub fn put_text(
+        &mut self,
+        node: NodeId,
+        name: HostName,
+        text: Units,
+    ) -> Result<(), OutOfMemory>
         requires there { node.0 < length self.old.host.nodes }
         requires fits { fits self.old.host.nodes (text_step node name text) ≡ true }
         ensures { OnOk result (Does (λ _. changes_nodes (text_step node name text)) self.old tt
@@ -176,8 +177,7 @@ impl State {
 
     /// Removes an attribute, where there is one.
     pub fn remove_attribute(&mut self, node: NodeId, name: &Units)
-        requires there { node.0 < length self.old.host.nodes }
-        requires element { IsTrue (is_element (kind_at self.old.host.nodes node.0)) }
+        requires { node.0 < length self.old.host.nodes }
         ensures { Does (λ _. changes_nodes (drops_attribute node name.now)) self.old tt self.new }
     {
         self.host.remove_attribute(node, name);
