@@ -1,19 +1,15 @@
 -- What holds of the host of a page between two things that are done to it.
-use Rattle.std.specs.Prelude.{◌≡◌, ℕ, ◌<◌, Bool, true, false, not, ◌&&◌, List, [], ◌∷◌, Option, Some, None, is_some, length, IsTrue}
-use Rattle.std.specs.List.{list_all}
+use Rattle.std.specs.Prelude.{◌≡◌, ℕ, ◌<◌, Bool, true, false, not, List, [], Option, Some, None, is_some, length, IsTrue}
+use Rattle.std.specs.List.{All, list_all}
 use Rattle.js_values.specs.declared.ids.ObjId.{ObjId}
-use Rattle.dom_tree.specs.Sound as nodes
-use Rattle.dom_tree.specs.Steps.{is_there}
 use Rattle.object_heap.specs.declared.object.Class.TheVariants.{Node}
 use Rattle.object_heap.specs.declared.object.EventParts.{EventParts}
 use Rattle.object_heap.specs.Object.{Object}
 use Rattle.timer_queue.specs.declared.timer.Live.{Live}
 use Rattle.timer_queue.specs.Timers.{IsIn}
-use Rattle.timer_queue.specs.Timely.{AreTimely}
 use Rattle.page_host.specs.declared.listener.Listener.{Listener}
 use Rattle.page_host.specs.Host.{document_of, object_of_node}
-use Rattle.page_host.specs.Listeners.{is_registered}
-use Rattle.page_host.specs.Steps.{time_limit}
+use Rattle.page_host.specs.Sound as host
 use Rattle.page_meaning.specs.Classes.{class_at, is_callable_class, is_node_class}
 use Rattle.page_meaning.specs.HostNames.{is_kept}
 use Rattle.page_meaning.specs.Places.{document}
@@ -42,28 +38,23 @@ pub record HasParts (s : Store) (e : EventParts) : Type 0 where
 abbrev pub has_no_kept : Store → Object → Bool
 has_no_kept s o = list_all (λ p. not (is_kept s.host.nodes o.class p.0)) o.props
 
--- ---- listeners
-
--- each is of a node that is there and of a function, and none is registered twice
-abbrev pub are_heard : Store → List Listener → Bool
-are_heard s [] = true
-are_heard s (l ∷ ls) = is_there s.host.nodes l.node && is_callable_class (class_at s l.call) && not (is_registered ls l) && are_heard s ls
-
--- ---- timers
+-- ---- listeners and timers
 
 -- each calls a function
-abbrev pub CanBeCalled : Store → Type 0
-CanBeCalled s = (t : Live) → IsIn s.host.timers t → IsTrue (is_callable_class (class_at s t.call))
+abbrev pub CallsFunctions : Store → List Listener → Type 0
+CallsFunctions s ls = All (λ l. IsTrue (is_callable_class (class_at s l.call))) ls
+
+abbrev pub CanBeCalled : Store → List Live → Type 0
+CanBeCalled s ts = (t : Live) → IsIn ts t → IsTrue (is_callable_class (class_at s t.call))
 
 -- ----
 
 pub record IsHosted (s : Store) : Type 0 where
-  pub nodes : nodes.IsSound s.host.nodes
+  -- nodes, listeners and timers for themselves
+  pub sound : host.IsSound s.host
   -- each node has one object, and each object of a node is that of its node; that of the document stands after the built-in ones
-  pub objects : length s.host.objects ≡ length s.host.nodes
   pub object_of : (k : ℕ) → k < length s.host.nodes → class_at s (object_of_node s.host.objects (record { 0 = k })) ≡ Node (record { 0 = k })
   pub node_of : (j k : ℕ) → class_at s (record { 0 = j }) ≡ Node (record { 0 = k }) → (k < length s.host.nodes) × (object_of_node s.host.objects (record { 0 = k }) ≡ record { 0 = j })
   pub document : document_of s.host.objects ≡ document
-  pub listeners : are_heard s s.host.listeners ≡ true
-  pub timely : AreTimely time_limit s.host.clock s.host.timers
-  pub calls : CanBeCalled s
+  pub heard : CallsFunctions s s.host.listeners
+  pub calls : CanBeCalled s s.host.timers

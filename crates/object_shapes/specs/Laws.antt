@@ -8,6 +8,7 @@ use Rattle.dom_tree.specs.Node.{Nodes}
 use Rattle.dom_tree.specs.Sound as nodes
 use Rattle.object_heap.specs.Laws as heap
 use Rattle.object_heap.specs.Object.{Object}
+use Rattle.page_host.specs.Sound.{ArePlain}
 use Rattle.page_meaning.specs.Functions.{function_steps}
 use Rattle.page_meaning.specs.Places.{built_in_count, window}
 use Rattle.page_meaning.specs.Pristine.{built_in_globals, built_ins, pristine}
@@ -62,3 +63,7 @@ abbrev pub FunctionsStay : Type 0
 FunctionsStay =
     (s : Store) (c : Code) (env : Option EnvId) → IsSound s.heap → IsShaped s
     → IsShaped (with_heap s (heap.after_steps s.heap (function_steps c env (length s.heap.objects))))
+
+-- where no attribute's name begins with `on`, none comes to
+abbrev pub PlainStays : Type 0
+PlainStays = (s : Store) (step : Step) → ArePlain s.host.nodes → ArePlain (after_step s step).host.nodes

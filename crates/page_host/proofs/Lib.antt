@@ -1,7 +1,8 @@
+pub mod Callers
 mod Made
 mod Names
 mod Plain
 mod Registered
-mod Staying
+pub mod Staying
 mod Texts
 mod Times

@@ -1,8 +1,12 @@
 //! What holds of hosts. A law is a function that says it and does nothing.
 
-ghost use Rattle.page_host.specs.Sound.{HostsStaySound, NewHostsAreSound, NewNodesStaySound};
-
-use timer_queue::law_ids_are_distinct;
+ghost use Rattle.page_host.specs.Sound.{
+  HostsStaySound,
+  NewHostsAreSound,
+  NewNodesStayPlain,
+  NewNodesStaySound,
+  StepsStayPlain,
+};
 
 /// A host is sound at all times.
 pub fn law_hosts_stay_sound()
@@ -12,6 +16,7 @@ pub fn law_hosts_stay_sound()
     ensures steps { HostsStaySound }
     // So it does where a node is made.
     ensures new_nodes { NewNodesStaySound }
-{
-    law_ids_are_distinct();
-}
+    // No attribute's name comes to begin with `on`.
+    ensures plain { StepsStayPlain }
+    ensures new_plain { NewNodesStayPlain }
+{}
