@@ -2,6 +2,7 @@ pub mod Bindings
 pub mod Bound
 pub mod Callers
 pub mod Chains
+pub mod Deletes
 pub mod Does
 pub mod Entering
 pub mod Finding

@@ -7,7 +7,7 @@ use Rattle.std.specs.Fmt.{decimal}
 use Rattle.std.specs.List.{list_any}
 use Rattle.std.specs.Map.{keys_of}
 use Rattle.std.specs.Option.{ForSome}
-use Rattle.std.proofs.Math.Bool.{or_assoc}
+use Rattle.std.proofs.Math.Bool.{or-false, or_assoc}
 use Rattle.indexmap.specs.IndexSet.{insert_key}
 use Rattle.js_values.specs.declared.ids.ObjId.{ObjId}
 use Rattle.object_heap.specs.declared.property.Prop.{Prop}
@@ -72,8 +72,11 @@ named (q ∷ qs) (suc k) p e = named qs k p e
 pub many_named : (names : Listed) (k : ℕ) → k < length names → k < length (map (λ q. q.1) names)
 many_named names k h = omega (arith, h, length-map names (λ (q : Option ObjId × List ℕ). q.1))
 
-pub units_seen : (names us : Listed) (start keys : List (List ℕ)) → start ≡ [] → names ≡ us → AlsoSeen start (map (λ q. q.1) names) keys → AlsoSeen [] (map (λ q. q.1) us) keys
-units_seen names us start keys e f h = rw (e, f) at h
+-- and the name before them
+pub units_seen : (names us : Listed) (x : List ℕ) (start keys : List (List ℕ)) → start ≡ x ∷ [] → names ≡ us → AlsoSeen start (map (λ q. q.1) names) keys → AlsoSeen [] (x ∷ map (λ q. q.1) us) keys
+units_seen names us x start keys e f h y =
+    h y ∙ ap (λ ks. list_any (bytes_eq y) ks || list_any (bytes_eq y) (map (λ q. q.1) names)) e
+    ∙ ap (λ b. b || list_any (bytes_eq y) (map (λ q. q.1) names)) (or-false (bytes_eq y x)) ∙ ap (λ ns. bytes_eq y x || list_any (bytes_eq y) (map (λ q. q.1) ns)) f
 
 -- ---- up the chain
 
