@@ -30,10 +30,7 @@ pub(crate) fn set(state: &mut State, this: &Value, args: &[Value]) -> Result<Val
     let node = element(state, this)?;
     let name = text(state, args, 0)?;
     let value = text(state, args, 1)?;
-    match state.set_attribute(node, &name, &value)? {
-        None => Ok(Value::Undefined),
-        Some(what) => Err(state.raise(what)),
-    }
+    state.set_attribute(node, &name, &value)
 }
 
 /// `removeAttribute`

@@ -111,7 +111,7 @@ pub(crate) fn init_event(state: &mut State, this: &Value, args: &[Value]) -> Res
     let kind = text(state, args, 0)?;
     let bubbles = is_true(&argument(args, 1)?);
     let cancelable = is_true(&argument(args, 2)?);
-    state.init_event(at, kind, bubbles, cancelable);
+    state.init_event(at, kind, bubbles, cancelable)?;
     Ok(Value::Undefined)
 }
 
@@ -121,7 +121,7 @@ pub(crate) fn stop_propagation(state: &mut State, this: &Value) -> Result<Value,
         built_in.EventPrototypeStopPropagation this.now vs) state.old state.new result }
 {
     let at = event(state, this)?;
-    state.stop_propagation(at);
+    state.stop_propagation(at)?;
     Ok(Value::Undefined)
 }
 
@@ -131,6 +131,6 @@ pub(crate) fn prevent_default(state: &mut State, this: &Value) -> Result<Value, 
         built_in.EventPrototypePreventDefault this.now vs) state.old state.new result }
 {
     let at = event(state, this)?;
-    state.prevent_default(at);
+    state.prevent_default(at)?;
     Ok(Value::Undefined)
 }

@@ -105,7 +105,7 @@ fn visit_places(state: &mut State, event: ObjId, later: Places) -> Result<Next, 
         if state.is_stopped(event) {
             return end(state, event);
         }
-        state.arrive(event, place);
+        state.arrive(event, place)?;
         let mut round = Round::of(state.round(event, place)?);
         if let Some(listener) = next_listener(state, &mut round) {
             return call(state, event, place, round, later, &listener);

@@ -124,7 +124,7 @@ fn fire(
         state.old meter.old.steps) }
 {
     let event = state.make_event()?;
-    state.init_event(event, kind, bubbles, cancelable);
+    state.init_event(event, kind, bubbles, cancelable)?;
     run(state, Begin::Deliver(event, node), meter)
 }
 

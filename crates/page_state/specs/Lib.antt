@@ -1,6 +1,7 @@
 pub mod CodedStore
 pub mod Does
 pub mod Entry
+pub mod EventParts
 pub mod Finding
 pub mod Functions
 pub mod Globals
@@ -8,6 +9,7 @@ pub mod LineTexts
 pub mod Listing
 pub mod Made
 pub mod Operating
+pub mod Puts
 pub mod Refusals
 pub mod Sights
 pub mod Turns

@@ -1,9 +1,9 @@
 //! What is done to events (DOM Level 2 Events, section 1.4).
 
-ghost use Rattle.std.specs.Prelude.{◌≡◌, ◌<◌, IfOk, OnOk, length};
+ghost use Rattle.std.specs.Prelude.{◌≡◌, ◌+◌, ◌<◌, IfOk, OnOk, length, if◌then◌else◌};
 ghost use Rattle.std.specs.Option.{option_copied};
 ghost use Rattle.js_values.specs.declared.value.Value.TheVariants.{Object};
-ghost use Rattle.page_host.specs.Paths.{phase_number as spec_phase};
+ghost use Rattle.page_host.specs.Paths.{phase_number};
 ghost use Rattle.page_meaning.specs.Classes.{class_at, class_of, is_node_class};
 ghost use Rattle.page_meaning.specs.Dispatch as dispatch;
 ghost use Rattle.page_meaning.specs.Events as spec;
@@ -11,6 +11,7 @@ ghost use Rattle.page_meaning.specs.NodeRows.{parts_in};
 ghost use Rattle.page_meaning.specs.Primitives.{changes_event, make_event as spec_make};
 ghost use Rattle.page_meaning.specs.Tasks.{settled};
 ghost use Rattle.page_state.specs.Does.{Does};
+ghost use Rattle.page_state.specs.EventParts.{with_parts};
 ghost use Rattle.page_state.specs.Finding.{node_of as spec_node};
 
 use crate::places::EVENT_PROTOTYPE;
@@ -61,15 +62,21 @@ impl State {
     }
 
     /// The event is initialised, where it was not sent yet.
-    pub fn init_event(&mut self, at: ObjId, kind: Units, bubbles: bool, cancelable: bool)
-        ensures { Does (λ _. changes_event at (spec.initialises kind bubbles cancelable)) self.old
-            tt self.new }
+    pub fn init_event(
+        &mut self,
+        at: ObjId,
+        kind: Units,
+        bubbles: bool,
+        cancelable: bool,
+    ) -> Result<(), OutOfMemory>
+        ensures { OnOk result (Does (λ _. changes_event at (spec.initialises kind bubbles
+            cancelable)) self.old tt self.new) }
     {
         let Some(parts) = self.event_parts(at) else {
-            return;
+            return Ok(());
         };
         if parts.sent {
-            return;
+            return Ok(());
         }
         let parts = EventParts {
             kind,
@@ -82,41 +89,48 @@ impl State {
             phase: parts.phase,
         };
         self.heap.set_event(at, parts);
+        Ok(())
     }
 
     /// Lets the listeners of the current place end, while the event is under dispatch.
-    pub fn stop_propagation(&mut self, at: ObjId)
-        ensures { Does (λ _. changes_event at spec.stops) self.old tt self.new }
+    pub fn stop_propagation(&mut self, at: ObjId) -> Result<(), OutOfMemory>
+        ensures { OnOk result (Does (λ _. changes_event at spec.stops) self.old tt self.new) }
     {
         let Some(parts) = self.event_parts(at) else {
-            return;
+            return Ok(());
         };
         if parts.current.is_none() || is_stopped(parts.phase) {
-            return;
+            return Ok(());
         }
-        self.set_phase(at, STOPPED);
+        let phase = parts.phase + STOPPED;
+        self.set_phase(at, phase)
     }
 
     /// Prevents the default of a cancelable event, while it is under dispatch.
-    pub fn prevent_default(&mut self, at: ObjId)
-        ensures { Does (λ _. changes_event at spec.prevents) self.old tt self.new }
+    pub fn prevent_default(&mut self, at: ObjId) -> Result<(), OutOfMemory>
+        ensures { OnOk result (Does (λ _. changes_event at spec.prevents) self.old tt self.new) }
     {
         let Some(parts) = self.event_parts(at) else {
-            return;
+            return Ok(());
         };
         if parts.current.is_none() || !parts.cancelable || is_prevented(parts.phase) {
-            return;
+            return Ok(());
         }
-        self.set_phase(at, PREVENTED);
+        let phase = parts.phase + PREVENTED;
+        self.set_phase(at, phase)
     }
 
-    // The phase of an event gets the mark.
-    fn set_phase(&mut self, at: ObjId, mark: u8) {
+    // The event gets the phase.
+    fn set_phase(&mut self, at: ObjId, phase: u8) -> Result<(), OutOfMemory>
+        ensures { OnOk result (self.new ≡ with_parts self.old at (λ parts. spec.with_phase parts
+            phase)) }
+    {
         let Some(parts) = self.event_parts(at) else {
-            return;
+            return Ok(());
         };
-        let (sent, target, current, phase) = (parts.sent, parts.target, parts.current, parts.phase);
-        self.heap.set_dispatch(at, sent, target, current, phase.saturating_add(mark));
+        let (sent, target, current) = (parts.sent, parts.target, parts.current);
+        self.heap.set_dispatch(at, sent, target, current, phase);
+        Ok(())
     }
 
     /// Whether a dispatch of the event may begin: it was initialised, and not sent.
@@ -138,7 +152,6 @@ impl State {
         if !self.is_node(target) || !self.may_begin(at) {
             return Ok(());
         }
-        self.dispatches.push(at)?;
         let Some(parts) = self.event_parts(at) else {
             return Ok(());
         };
@@ -148,31 +161,27 @@ impl State {
     }
 
     /// The event is at the place. A mark of a prevented default stays.
-    pub fn arrive(&mut self, at: ObjId, place: Place)
-        ensures { Does (λ _. changes_event at (spec.arrives
-            (dispatch.object_of_place place.node self.old) place.phase)) self.old tt self.new }
+    pub fn arrive(&mut self, at: ObjId, place: Place) -> Result<(), OutOfMemory>
+        ensures { OnOk result (Does (λ _. changes_event at (spec.arrives
+            (dispatch.object_of_place place.node self.old) place.phase)) self.old tt self.new) }
     {
         let current = self.host.object_of(place.node);
         if !self.is_node(current) {
-            return;
+            return Ok(());
         }
         let Some(parts) = self.event_parts(at) else {
-            return;
+            return Ok(());
         };
-        let (sent, target, mark) = (parts.sent, parts.target, is_prevented(parts.phase));
-        let phase = phase_number(place.phase) + if mark { PREVENTED } else { 0 };
+        let (sent, target) = (parts.sent, parts.target);
+        let phase = phase_at(place.phase, is_prevented(parts.phase));
         self.heap.set_dispatch(at, sent, target, Some(current), phase);
+        Ok(())
     }
 
     /// The event is as after a dispatch.
     pub fn rest_event(&mut self, at: ObjId)
         ensures { Does (λ _. changes_event at spec.rests) self.old tt self.new }
     {
-        self.rest(at);
-        self.dispatches.retain(|other| other.0 != at.0);
-    }
-
-    fn rest(&mut self, at: ObjId) {
         let Some(parts) = self.event_parts(at) else {
             return;
         };
@@ -184,11 +193,6 @@ impl State {
     pub fn settle_events(&mut self)
         ensures { self.new ≡ settled self.old }
     {
-        for index in 0..self.dispatches.len() {
-            let at = self.dispatches[index];
-            self.rest(at);
-        }
-        self.dispatches.clear();
     }
 
     /// Whether propagation was stopped.
@@ -266,12 +270,13 @@ fn is_stopped(phase: u8) -> bool
     (phase >= STOPPED && phase < PREVENTED) || phase >= STOPPED + PREVENTED
 }
 
-fn phase_number(phase: Phase) -> u8
-    ensures { result ≡ spec_phase phase }
+// The phase, with the mark of a prevented default.
+fn phase_at(phase: Phase, prevented: bool) -> u8
+    ensures { result ≡ (if prevented then phase_number phase + 8 else phase_number phase) }
 {
-    match phase {
-        Phase::Capturing => 1,
-        Phase::AtTarget => 2,
-        Phase::Bubbling => 3,
+    if prevented {
+        phase.number() + PREVENTED
+    } else {
+        phase.number()
     }
 }

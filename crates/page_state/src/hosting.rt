@@ -1,13 +1,15 @@
 //! Listeners, timers and the clock of a page.
 
-ghost use Rattle.std.specs.Prelude.{◌≡◌, ◌<◌, ◌^◌, IfOk, OnOk, is_some, length, option_map};
-ghost use Rattle.page_host.specs.Paths.{event_path};
-ghost use Rattle.page_host.specs.Steps.{clears, clock_at, fires, forgets, listens, next_timer, starts};
+ghost use Rattle.std.specs.Prelude.{◌≡◌, ◌<◌, ◌^◌, ◌∷◌, [], IfOk, OnOk, is_some, length, option_map};
+ghost use Rattle.page_host.specs.declared.path.Phase.TheVariants.{AtTarget};
+ghost use Rattle.page_host.specs.Paths.{event_path, in_phase};
+ghost use Rattle.page_host.specs.Steps.{clears, clock_at, fires, forgets, is_period, listens, next_timer};
 ghost use Rattle.page_meaning.specs.Dispatch as dispatch;
 ghost use Rattle.page_meaning.specs.Pages.{with_input};
 ghost use Rattle.page_meaning.specs.Primitives.{changes_host};
 ghost use Rattle.page_state.specs.Does.{Does};
 ghost use Rattle.page_state.specs.Finding.{Finds, function_of};
+ghost use Rattle.page_state.specs.Made.{IsStarted};
 
 use crate::fault::Fault;
 use crate::state::State;
@@ -79,7 +81,9 @@ impl State {
     }
 
     // The way to a node that is not there, which no node stands above.
-    fn alone(&self, node: NodeId) -> Result<Vec<Place>, OutOfMemory> {
+    fn alone(&self, node: NodeId) -> Result<Vec<Place>, OutOfMemory>
+        ensures { IfOk result (λ places. places.items ≡ in_phase AtTarget node ∷ []) }
+    {
         let mut places = Vec::new(self.alloc());
         places.push(Place {
             node,
@@ -88,13 +92,16 @@ impl State {
         Ok(places)
     }
 
-    /// Starts a timer and gives its id, or `None` exactly where as many are live as may be.
+    /// Starts a timer and gives its id, or `None` exactly where as many are live as may be. What cannot be called, and a time past those of
+    /// the language, counts as want of memory.
     pub fn start_timer(
         &mut self,
         delay: u64,
         period: Option<u64>,
         call: ObjId,
-    ) -> Result<Option<u32>, OutOfMemory> {
+    ) -> Result<Option<u32>, OutOfMemory>
+        ensures { IfOk result (λ id. IsStarted delay period call self.old id self.new) }
+    {
         if self.host.is_full() {
             return Ok(None);
         }
@@ -115,7 +122,7 @@ impl State {
     pub fn is_timer_due(&self, moment: u64) -> bool
         ensures { result ≡ is_some (next_timer self.now.host moment) }
     {
-        self.host.timers().iter().any(|timer| timer.due <= moment)
+        self.host.is_due(moment)
     }
 
     /// The timer that is due first up to the moment comes due, and its function is given.
@@ -136,7 +143,9 @@ impl State {
     }
 }
 
-fn is_period(period: Option<u64>) -> bool {
+fn is_period(period: Option<u64>) -> bool
+    ensures { result ≡ is_period period }
+{
     match period {
         None => true,
         Some(n) => n >= 1 && n <= TIME_LIMIT,

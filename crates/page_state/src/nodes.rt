@@ -1,40 +1,43 @@
 //! What is done to the nodes of a page (DOM Level 2 Core).
 
-ghost use Rattle.std.specs.Prelude.{◌≡◌, ◌<◌, IfOk, OnOk, Some, false, length, true};
+ghost use Rattle.std.specs.Prelude.{◌≡◌, ◌<◌, IfOk, IsTrue, Ok, OnErr, OnOk, Some, length, true};
 ghost use Rattle.std.specs.Option.{ForSome};
 ghost use Rattle.dom_tree.specs.declared.content.Kind.TheVariants as kind;
 ghost use Rattle.dom_tree.specs.Change.{insertion_error, removal_error, replacement_error};
-ghost use Rattle.dom_tree.specs.Name.{folded, is_name};
-ghost use Rattle.dom_tree.specs.Steps.{drops_attribute, empties, inserts, replaces, sets_attribute, takes_out};
+ghost use Rattle.dom_tree.specs.Node.{is_element, kind_at};
+ghost use Rattle.dom_tree.specs.Steps.{drops_attribute, empties, inserts, replaces, takes_out};
+ghost use Rattle.object_heap.specs.declared.object.Class.TheVariants.{Node};
+ghost use Rattle.object_heap.specs.Heap.{made, new_object};
 ghost use Rattle.page_host.specs.Answers.{answer_of};
-ghost use Rattle.page_host.specs.HostNames.{is_handler, text_step};
+ghost use Rattle.page_host.specs.HostNames.{node_has, text_step};
+ghost use Rattle.page_meaning.specs.NodeRows.{set_attribute as spec_set};
+ghost use Rattle.page_meaning.specs.Places.{node_prototype};
 ghost use Rattle.page_meaning.specs.Primitives.{changes_nodes, make_node};
-ghost use Rattle.page_state.specs.Does.{Does};
+ghost use Rattle.page_meaning.specs.Store.{with_heap};
+ghost use Rattle.page_state.specs.Does.{Does, Gives, itself};
 ghost use Rattle.page_state.specs.Made.{IsElementMade};
 
+use crate::fault::Fault;
 use crate::places::NODE_PROTOTYPE;
 use crate::state::State;
-use dom_tree::{DomError, DomFault, is_name};
-use js_core::{OutOfMemory, Units, ascii_text};
-use js_values::{NodeId, ObjId, Throw};
+use dom_tree::{DomError, DomFault};
+use js_core::{OutOfMemory, Units};
+use js_values::{NodeId, ObjId, Throw, Value};
 use object_heap::Class;
-use page_host::HostName;
+use page_host::{HostName, folds_to_handler};
 
 impl State {
     /// A new element, alone, of this name in lower case, and its object; `None` exactly where the name is none.
     pub fn make_element(&mut self, name: &Units) -> Result<Option<ObjId>, OutOfMemory>
         ensures { IfOk result (λ made. IsElementMade name.now self.old made self.new) }
     {
-        if !is_name(name) {
-            return Ok(None);
-        }
+        let alloc = self.alloc();
         let at = ObjId(self.heap.count());
-        let node = match self.host.create_element(self.alloc(), name, at) {
-            Ok(node) => node,
-            Err(DomFault::Cause(_)) => return Ok(None),
-            Err(DomFault::OutOfMemory) => return Err(OutOfMemory),
-        };
-        Ok(Some(self.make_node_object(node)?))
+        match self.host.create_element(alloc, name, at) {
+            Ok(node) => Ok(Some(self.make_node_object(node)?)),
+            Err(DomFault::Cause(_)) => Ok(None),
+            Err(DomFault::OutOfMemory) => Err(OutOfMemory),
+        }
     }
 
     /// A new text, alone, and its object.
@@ -42,8 +45,9 @@ impl State {
         ensures { IfOk result (λ at. Does (λ _. make_node (kind.Text text.now)) self.old at
             self.new) }
     {
+        let alloc = self.alloc();
         let at = ObjId(self.heap.count());
-        let node = made(self.host.create_text(self.alloc(), text, at))?;
+        let node = new_node(self.host.create_text(alloc, text, at))?;
         self.make_node_object(node)
     }
 
@@ -52,13 +56,19 @@ impl State {
         ensures { IfOk result (λ at. Does (λ _. make_node (kind.Comment text.now)) self.old at
             self.new) }
     {
+        let alloc = self.alloc();
         let at = ObjId(self.heap.count());
-        let node = made(self.host.create_comment(self.alloc(), text, at))?;
+        let node = new_node(self.host.create_comment(alloc, text, at))?;
         self.make_node_object(node)
     }
 
     // The object of a new node.
-    fn make_node_object(&mut self, node: NodeId) -> Result<ObjId, OutOfMemory> {
+    #[tactic(auto, unfolding(page_meaning::specs::Places::node_prototype_place))]
+    fn make_node_object(&mut self, node: NodeId) -> Result<ObjId, OutOfMemory>
+        ensures id { IfOk result (λ at. at.0 ≡ length self.old.heap.objects) }
+        ensures made { OnOk result (self.new ≡ with_heap self.old
+            (made self.old.heap (new_object (Node node) (Some node_prototype)))) }
+    {
         self.heap.alloc(Class::Node(node), Some(NODE_PROTOTYPE))
     }
 
@@ -76,6 +86,7 @@ impl State {
             before) }
         ensures step { Does (λ _. changes_nodes (inserts parent child before)) self.old tt
             self.new }
+        ensures err { OnErr result (self.new ≡ self.old) }
     {
         self.host.insert_before(parent, child, before)
     }
@@ -93,6 +104,7 @@ impl State {
         ensures answer { result ≡ answer_of (replacement_error self.old.host.nodes parent child
             old) }
         ensures step { Does (λ _. changes_nodes (replaces parent child old)) self.old tt self.new }
+        ensures err { OnErr result (self.new ≡ self.old) }
     {
         self.host.replace_child(parent, child, old)
     }
@@ -104,6 +116,7 @@ impl State {
         ensures answer { result ≡ answer_of (removal_error self.old.host.nodes parent child) }
         ensures step { OnOk result (Does (λ _. changes_nodes (takes_out child)) self.old tt
             self.new) }
+        ensures err { OnErr result (self.new ≡ self.old) }
     {
         self.host.remove_child(parent, child)
     }
@@ -116,22 +129,24 @@ impl State {
         self.host.remove_children(node);
     }
 
-    /// Sets an attribute, or tells why it may not be: a handler is refused before the name is judged.
+    /// `setAttribute` of an element: a handler is refused before the name is judged.
     pub fn set_attribute(
         &mut self,
         node: NodeId,
         name: &Units,
         value: &Units,
-    ) -> Result<Option<Throw>, OutOfMemory>
-        requires { node.0 < length self.old.host.nodes }
+    ) -> Result<Value, Fault>
+        requires there { node.0 < length self.old.host.nodes }
+        requires element { IsTrue (is_element (kind_at self.old.host.nodes node.0)) }
+        ensures { Gives itself (λ _. spec_set node name.now value.now) self.old self.new result }
     {
-        if names_handler(name) {
-            return Ok(Some(Throw::WrongArgument));
+        if folds_to_handler(name) {
+            return Err(self.raise(Throw::WrongArgument));
         }
         match self.host.set_attribute(node, name, value) {
-            Ok(()) => Ok(None),
-            Err(DomFault::Cause(_)) => Ok(Some(Throw::InvalidCharacter)),
-            Err(DomFault::OutOfMemory) => Err(OutOfMemory),
+            Ok(()) => Ok(Value::Undefined),
+            Err(DomFault::Cause(_)) => Err(self.raise(Throw::InvalidCharacter)),
+            Err(DomFault::OutOfMemory) => Err(Fault::OutOfMemory),
         }
     }
 
@@ -143,59 +158,28 @@ impl State {
         text: Units,
     ) -> Result<(), OutOfMemory>
         requires there { node.0 < length self.old.host.nodes }
-        requires fits { fits self.old.host.nodes (text_step node name text) ≡ true }
+        requires has { node_has (kind_at self.old.host.nodes node.0) name ≡ true }
         ensures { OnOk result (Does (λ _. changes_nodes (text_step node name text)) self.old tt
             self.new) }
     {
-        match name {
-            HostName::Id => self.put_attribute(node, b"id", &text),
-            HostName::ClassName => self.put_attribute(node, b"class", &text),
-            HostName::Value => {
-                self.host.set_value(node, text);
-                Ok(())
-            }
-            _ => {
-                self.host.set_text(node, text);
-                Ok(())
-            }
-        }
+        let alloc = self.alloc();
+        self.host.put_text(alloc, node, name, text)
     }
 
-    // The attribute of this name, which is one, takes the text.
-    fn put_attribute(
-        &mut self,
-        node: NodeId,
-        name: &[u8],
-        text: &Units,
-    ) -> Result<(), OutOfMemory> {
-        let name = ascii_text(self.alloc(), name)?;
-        match self.host.set_attribute(node, &name, text) {
-            Ok(()) => Ok(()),
-            Err(_) => Err(OutOfMemory),
-        }
-    }
-
-    /// Removes an attribute, where there is one.
+    /// Removes an attribute of an element, where there is one.
     pub fn remove_attribute(&mut self, node: NodeId, name: &Units)
-        requires { node.0 < length self.old.host.nodes }
+        requires there { node.0 < length self.old.host.nodes }
+        requires element { IsTrue (is_element (kind_at self.old.host.nodes node.0)) }
         ensures { Does (λ _. changes_nodes (drops_attribute node name.now)) self.old tt self.new }
     {
         self.host.remove_attribute(node, name);
     }
 }
 
-// Whether the name, in lower case, begins with `on`.
-fn names_handler(name: &Units) -> bool
-    ensures { result ≡ is_handler (folded name.now) }
-{
-    match name.as_slice() {
-        [first, second, ..] => matches!(*first, 0x4f | 0x6f) && matches!(*second, 0x4e | 0x6e),
-        _ => false,
-    }
-}
-
 // The new node; only memory can be missing.
-fn made(answer: Result<NodeId, DomFault>) -> Result<NodeId, OutOfMemory> {
+fn new_node(answer: Result<NodeId, DomFault>) -> Result<NodeId, OutOfMemory>
+    ensures { IfOk result (λ node. answer ≡ Ok node) }
+{
     match answer {
         Ok(node) => Ok(node),
         Err(DomFault::Cause(_)) | Err(DomFault::OutOfMemory) => Err(OutOfMemory),

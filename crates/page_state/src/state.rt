@@ -37,8 +37,6 @@ pub struct State {
     pub(crate) heap: Heap,
     pub(crate) lines: Vec<Line>,
     pub(crate) host: PageHost,
-    /// The events under dispatch, which contracts do not see.
-    pub(crate) dispatches: Vec<ObjId>,
 }
 
 // A function of its own, so that the crates above cite it and do not prove it again.
@@ -48,7 +46,6 @@ impl Drop for State {
             heap: _heap,
             lines: _lines,
             host: _host,
-            dispatches: _dispatches,
         } = self;
     }
 }
@@ -73,7 +70,6 @@ impl State {
             heap,
             lines: Vec::new(alloc),
             host,
-            dispatches: Vec::new(alloc),
         }
     }
 
