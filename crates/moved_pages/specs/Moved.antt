@@ -1,17 +1,20 @@
 -- A moved page behaves as if it had never moved.
 use Rattle.std.specs.Prelude.{◌≡◌, ℕ, ◌≤◌, true, List, [], ◌∷◌, length, ◌++◌, ◌+◌, ◌*◌}
 use Rattle.std.specs.List.{All, list_all}
+use Rattle.dom_tree.specs.Sound.{IsSound}
+use Rattle.heap_walker.specs.Bare.{IsBare}
 use Rattle.heap_walker.specs.Things.{IsWalk}
 use Rattle.heap_walker.specs.Weight.{load_of}
 use Rattle.js_core.specs.Tree as tree
 use Rattle.js_values.specs.declared.event.Event.{Event}
 use Rattle.page_check.specs.Accept.{IsAccepted}
-use Rattle.page_check.specs.Rules.{Page}
-use Rattle.page_meaning.specs.Pages.{lines_after, lines_of_run, run_of}
+use Rattle.page_check.specs.Rules.{Page as Accepted}
+use Rattle.page_meaning.specs.Pages.{Page, lines_after, lines_of_run, run_of}
 use Rattle.page_meaning.specs.Store.{Store}
 use Rattle.page_rest.specs.Laws.{IsInForm}
 use Rattle.page_writer.specs.Literals.{HaveLiterals}
 use Rattle.page_writer.specs.Page.{saved_page}
+use Rattle.page_writer.specs.Script.{in_frame}
 use Rattle.page_writer.specs.Sizes.{text_limit, things_limit}
 use Rattle.printed_pages.specs.Printed.{framed_page}
 use Rattle.rebuild_plan.specs.Compact.{compact}
@@ -19,14 +22,16 @@ use Rattle.rebuild_plan.specs.Plan.{plan}
 use Rattle.rebuilding.specs.Laws.{LoadsWithin}
 use Rattle.script_rules.specs.Form.{in_form}
 
--- scripts of form pages, after whose events these things can be reached; what they write can be written, and they and their text are no more
--- than a saved page may have
-pub record CanBeMoved (scripts : List tree.Stmts) (earlier : List Event) (things : List ℕ) : Type 0 where
-  pub in_form : All IsInForm scripts
-  pub walked : IsWalk (run_of scripts earlier) things
-  pub literals : HaveLiterals (plan (compact (run_of scripts earlier) things))
-  pub few : (load_of (run_of scripts earlier) things).things ≤ things_limit
-  pub short : (load_of (run_of scripts earlier) things).text ≤ text_limit
+-- a page with scripts of form pages, after whose events it is bare and these things can be reached; what they write can be written, and they
+-- and their text are no more than a saved page may have
+pub record CanBeMoved (page : Page) (earlier : List Event) (things : List ℕ) : Type 0 where
+  pub sound : IsSound page.nodes
+  pub in_form : All IsInForm page.scripts
+  pub bare : IsBare (run_of page earlier)
+  pub walked : IsWalk (run_of page earlier) things
+  pub literals : HaveLiterals (plan (compact (run_of page earlier) things))
+  pub few : (load_of (run_of page earlier) things).things ≤ things_limit
+  pub short : (load_of (run_of page earlier) things).text ≤ text_limit
 
 -- no page has more bytes
 abbrev pub longest_page : ℕ
@@ -34,20 +39,20 @@ longest_page = 16777216
 
 -- the text is short enough, and accepted as a form page with this script, which is in form; the page loads without a line, and puts out, under
 -- every list of later events, exactly the lines that the page puts out for them after the earlier ones
-pub record GoesOnAs (text : List ℕ) (scripts : List tree.Stmts) (earlier : List Event) (script : tree.Stmts) : Type 0 where
+pub record GoesOnAs (text : List ℕ) (page : Page) (earlier : List Event) (script : tree.Stmts) : Type 0 where
   pub fits : length text ≤ longest_page
   pub accepted : IsAccepted text (framed_page script)
   pub formed : in_form script ≡ true
-  pub silent : lines_of_run (script ∷ []) [] ≡ []
-  pub same : (later : List Event) → lines_after (script ∷ []) [] later ≡ lines_after scripts earlier later
+  pub silent : lines_of_run (in_frame script) [] ≡ []
+  pub same : (later : List Event) → lines_after (in_frame script) [] later ≡ lines_after page earlier later
   -- saved again, without events, it has the same text
-  pub again : (things : List ℕ) → IsWalk (run_of (script ∷ []) []) things → saved_page (run_of (script ∷ []) []) things ≡ text
+  pub again : (things : List ℕ) → IsWalk (run_of (in_frame script) []) things → saved_page (run_of (in_frame script) []) things ≡ text
 
 -- so does some script, which takes at most so many steps when it loads
-pub record GoesOn (text : List ℕ) (scripts : List tree.Stmts) (earlier : List Event) (steps : ℕ) : Type 0 where
+pub record GoesOn (text : List ℕ) (page : Page) (earlier : List Event) (steps : ℕ) : Type 0 where
   pub script : tree.Stmts
   pub within : LoadsWithin script steps
-  pub goes_on : GoesOnAs text scripts earlier script
+  pub goes_on : GoesOnAs text page earlier script
 
 -- the saved page takes at most 160 bytes for each thing, besides its text, and 4,096 more
 abbrev pub IsShort : Store → List ℕ → Type 0
@@ -55,22 +60,22 @@ IsShort s things = length (saved_page s things) ≤ 160 * (load_of s things).thi
 
 abbrev pub MovedPagesGoOn : Type 0
 MovedPagesGoOn =
-    (scripts : List tree.Stmts) (earlier : List Event) (things : List ℕ) → CanBeMoved scripts earlier things
-    → GoesOn (saved_page (run_of scripts earlier) things) scripts earlier (2 * (load_of (run_of scripts earlier) things).things)
-    × IsShort (run_of scripts earlier) things
+    (page : Page) (earlier : List Event) (things : List ℕ) → CanBeMoved page earlier things
+    → GoesOn (saved_page (run_of page earlier) things) page earlier (2 * (load_of (run_of page earlier) things).things)
+    × IsShort (run_of page earlier) things
 
 -- a page goes on as another one after the earlier events, without a line of its own before
-pub record FollowsFrom (scripts : List tree.Stmts) (earlier : List Event) (moved : List tree.Stmts) : Type 0 where
+pub record FollowsFrom (page : Page) (earlier : List Event) (moved : Page) : Type 0 where
   pub silent : lines_of_run moved [] ≡ []
-  pub same : (later : List Event) → lines_after moved [] later ≡ lines_after scripts earlier later
+  pub same : (later : List Event) → lines_after moved [] later ≡ lines_after page earlier later
 
 -- a page that was moved and then moved again goes on as the first one after all events: any number of moves gives the lines of none
 abbrev pub MovesJoin : Type 0
 MovesJoin =
-    (scripts moved again : List tree.Stmts) (earlier between : List Event) → FollowsFrom scripts earlier moved → FollowsFrom moved between again
-    → FollowsFrom scripts (earlier ++ between) again
+    (page moved again : Page) (earlier between : List Event) → FollowsFrom page earlier moved → FollowsFrom moved between again
+    → FollowsFrom page (earlier ++ between) again
 
 -- an accepted script that is in form is one of a form page
 abbrev pub AcceptedScriptsAreInForm : Type 0
 AcceptedScriptsAreInForm =
-    (bytes : List ℕ) (page : Page) → IsAccepted bytes page → list_all in_form page.scripts ≡ true → All IsInForm page.scripts
+    (bytes : List ℕ) (page : Accepted) → IsAccepted bytes page → list_all in_form page.scripts ≡ true → All IsInForm page.scripts

@@ -1,5 +1,6 @@
 -- The text of a page with opened scopes.
 use Rattle.std.specs.Prelude.{◌≡◌, ◌+◌, ◌<◌, ◌^◌, ℕ, List, map, ⊤}
+use Rattle.dom_tree.specs.Sound.{IsSound}
 use Rattle.js_core.specs.Tree as tree
 use Rattle.instrumenter.specs.Counting.{scripts_scopes}
 use Rattle.instrumenter.specs.Opening.{open_scripts}
@@ -9,7 +10,7 @@ use Rattle.page_check.specs.Accept.{IsAccepted}
 use Rattle.page_check.specs.Rules.{Page}
 use Rattle.page_check.specs.declared.page.Kind.{Kind}
 use Rattle.page_check.specs.declared.page.Kind.TheVariants.{Plain, Form}
-use Rattle.page_meaning.specs.Pages.{lines_after, lines_of_run}
+use Rattle.page_meaning.specs.Pages.{Page as RunningPage, lines_after, lines_of_run}
 use Rattle.page_reader.specs.declared.page.Place.{Place}
 use Rattle.page_reader.specs.Replacing.{as_form_page, places_of}
 use Rattle.printed_pages.specs.Printed.{form_page}
@@ -45,13 +46,17 @@ abbrev pub HaveNumbers : Kind → List tree.Stmts → Type 0
 HaveNumbers Form scripts = ⊤
 HaveNumbers Plain scripts = 1 + scripts_scopes scripts < 2 ^ 64
 
--- under all events these scripts put out what those do
-pub record PutOutTheSame (scripts others : List tree.Stmts) : Type 0 where
-  pub all : (events : List Event) → lines_of_run scripts events ≡ lines_of_run others events
-  pub after : (earlier later : List Event) → lines_after scripts earlier later ≡ lines_after others earlier later
+-- what it is when it runs: its nodes and its scripts
+abbrev pub running : Page → RunningPage
+running page = record { nodes = page.nodes; scripts = page.scripts }
+
+-- under all events this page puts out what that one does
+pub record PutOutTheSame (page other : RunningPage) : Type 0 where
+  pub all : (events : List Event) → lines_of_run page events ≡ lines_of_run other events
+  pub after : (earlier later : List Event) → lines_after page earlier later ≡ lines_after other earlier later
 
 -- **an opened page puts out the lines of the page**
 abbrev pub OpenedPagesPutOutTheSame : Type 0
 OpenedPagesPutOutTheSame =
-    (bytes : List ℕ) (page : Page) → IsAccepted bytes page → HaveNumbers page.kind page.scripts
-    → PutOutTheSame (opened_page page).scripts page.scripts
+    (bytes : List ℕ) (page : Page) → IsAccepted bytes page → IsSound page.nodes → HaveNumbers page.kind page.scripts
+    → PutOutTheSame (running (opened_page page)) (running page)

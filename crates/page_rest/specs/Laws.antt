@@ -1,7 +1,8 @@
 -- That pages are at rest between two events.
 use Rattle.std.specs.Prelude.{◌≡◌, ℕ, List, Option}
 use Rattle.std.specs.List.{All}
-use Rattle.heap_walker.specs.Still.{Still}
+use Rattle.dom_tree.specs.Sound.{IsSound}
+use Rattle.heap_walker.specs.Still.{Rests}
 use Rattle.heap_walker.specs.Things.{IsWalk}
 use Rattle.js_core.specs.Tree as tree
 use Rattle.js_core.specs.Tree.{func}
@@ -11,7 +12,7 @@ use Rattle.js_values.specs.declared.ids.EnvId.{EnvId}
 use Rattle.object_heap.specs.Chain.{object_at}
 use Rattle.object_heap.specs.declared.object.Class.TheVariants as class
 use Rattle.heap_walker.specs.Things.{Reach}
-use Rattle.page_meaning.specs.Pages.{run_of}
+use Rattle.page_meaning.specs.Pages.{Page, run_of}
 use Rattle.page_meaning.specs.Store.{Store}
 use Rattle.heap_walker.specs.Remade.{AllCanBeRemade}
 use Rattle.script_rules.specs.FormScripts.{IsFormPageScript}
@@ -28,5 +29,5 @@ HasSyntax s =
 -- after its scripts and any events a page in form is at rest, its functions can be made again, and their codes have tokens
 abbrev pub PagesRest : Type 0
 PagesRest =
-    (scripts : List tree.Stmts) (es : List Event) (things : List ℕ) → All IsInForm scripts → IsWalk (run_of scripts es) things
-    → Still (run_of scripts es) × HasSyntax (run_of scripts es) × AllCanBeRemade (run_of scripts es) things
+    (page : Page) (es : List Event) (things : List ℕ) → IsSound page.nodes → All IsInForm page.scripts → IsWalk (run_of page es) things
+    → Rests (run_of page es) × HasSyntax (run_of page es) × AllCanBeRemade (run_of page es) things

@@ -3,7 +3,7 @@ use Rattle.std.specs.Prelude.{◌≡◌, ℕ, List, [], ◌∷◌}
 use Rattle.heap_walker.specs.Things.{IsWalk}
 use Rattle.page_meaning.specs.Pages.{load_of}
 use Rattle.page_meaning.specs.Store.{Store}
-use Rattle.page_writer.specs.Script.{saved_script}
+use Rattle.page_writer.specs.Script.{saved_in_frame}
 use Rattle.rebuild_plan.specs.Compact.{compact}
 use Rattle.rebuild_plan.specs.Plan.{plan}
 use Rattle.rebuilding.specs.Laws.{CanBeRebuilt}
@@ -11,5 +11,5 @@ use Rattle.rebuilding.specs.Laws.{CanBeRebuilt}
 abbrev pub SavedAgain : Type 0
 SavedAgain =
     (s : Store) (things again : List ℕ) → CanBeRebuilt s things
-    → let t = load_of (saved_script (plan (compact s things)) ∷ []) in
+    → let t = load_of (saved_in_frame (plan (compact s things))) in
     IsWalk t again → compact t again ≡ compact s things

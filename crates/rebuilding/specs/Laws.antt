@@ -3,6 +3,7 @@ use Rattle.std.specs.Prelude.{◌≡◌, ℕ, ◌<◌, List, [], ◌∷◌, drop
 use Rattle.agreement.specs.Acts.{StoreRel}
 use Rattle.agreement.specs.Trees.{HasEqualTrees}
 use Rattle.heap_relations.specs.Naming.{World}
+use Rattle.heap_walker.specs.Bare.{frame_nodes}
 use Rattle.heap_walker.specs.Still.{Still}
 use Rattle.heap_walker.specs.Things.{IsWalk}
 use Rattle.js_core.specs.Tree.{Stmts}
@@ -15,7 +16,7 @@ use Rattle.page_meaning.specs.Store.{Store}
 use Rattle.page_meaning.specs.Tasks.{Script, depth_limit, step_limit, task_of}
 use Rattle.page_meaning.specs.declared.signal.Signal.{Signal}
 use Rattle.page_writer.specs.Literals.{HaveLiterals}
-use Rattle.page_writer.specs.Script.{saved_script}
+use Rattle.page_writer.specs.Script.{saved_in_frame, saved_script}
 use Rattle.rebuild_plan.specs.Compact.{compact}
 use Rattle.rebuild_plan.specs.Plan.{plan}
 
@@ -25,7 +26,7 @@ pub record Agrees (s t : Store) : Type 0 where
   pub trees : HasEqualTrees world
   pub stores : StoreRel world s t
 
--- a page at rest, whose plan has fewer statements than a script has steps
+-- a page that can be saved, whose plan has fewer statements than a script has steps
 pub record CanBeRebuilt (s : Store) (things : List ℕ) : Type 0 where
   pub still : Still s
   pub walk : IsWalk s things
@@ -36,21 +37,21 @@ pub record CanBeRebuilt (s : Store) (things : List ℕ) : Type 0 where
 abbrev pub ScriptsRebuild : Type 0
 ScriptsRebuild =
     (s : Store) (things : List ℕ) → CanBeRebuilt s things
-    → let t = load_of (saved_script (plan (compact s things)) ∷ []) in
+    → let t = load_of (saved_in_frame (plan (compact s things))) in
     (t.lines ≡ []) × Agrees s t
 
 -- and under each list of later events it puts out the same lines
 abbrev pub RebuiltPagesGoOn : Type 0
 RebuiltPagesGoOn =
     (s : Store) (things : List ℕ) (later : List Event) → CanBeRebuilt s things
-    → (run_all (load_of (saved_script (plan (compact s things)) ∷ [])) later).lines ≡ drop (length s.lines) (run_all s later).lines
+    → (run_all (load_of (saved_in_frame (plan (compact s things)))) later).lines ≡ drop (length s.lines) (run_all s later).lines
 
--- the task of a script, from a page before its scripts, ends by itself with at most so many steps fewer
+-- the task of a script, from an empty page before its scripts, ends by itself with at most so many steps fewer
 pub record LoadsWithin (script : Stmts) (steps : ℕ) : Type 0 where
   pub signal : Signal
   pub after : Store
   pub left : ℕ
-  pub ends : (task_of (calls_at depth_limit) (Script script)).run pristine step_limit ≡ Ended signal after left
+  pub ends : (task_of (calls_at depth_limit) (Script script)).run (pristine frame_nodes) step_limit ≡ Ended signal after left
   pub few : step_limit ≤ left + steps
 
 -- that of a saved script takes at most a step for each statement
