@@ -6,7 +6,7 @@ use Rattle.command_line.specs.declared.status.Status.{Status}
 use Rattle.command_line.specs.declared.status.Status.TheVariants.{Ok, WriteFault, OutOfMemory}
 use Rattle.command_line.specs.declared.command.Work.TheVariants.{Replay, Save}
 use Rattle.command_line.specs.Command.{Command, check, instrument, session, park, fetch, parked, drop_row}
-use Rattle.command_line.specs.Stages.{Seen, seen_between, unasked, unread, unwritten, Stage, words, page_file, acceptance, bareness, event_file, moving, next_row, one_row, all_rows, Stops, StopsWriting, PassesAll, EndsAt, EndsBy, Lasts, work_of}
+use Rattle.command_line.specs.Stages.{Seen, seen_between, unasked, unread, unwritten, Stage, words, page_file, acceptance, event_file, moving, next_row, one_row, all_rows, Stops, StopsWriting, PassesAll, EndsAt, EndsBy, Lasts, work_of}
 use Rattle.command_line.specs.Texts.{Answers, Changes, Gives, HasParked, IsPut, KeepsRows, PutsNothing, PutsText, RowsAfter, TextOf}
 
 -- ---- a command that ends at a stage writes nothing

@@ -13,13 +13,12 @@ use Rattle.event_file.specs.Events.{calls_of}
 use Rattle.command_line.specs.declared.status.Status.{Status}
 use Rattle.command_line.specs.declared.status.Status.TheVariants as status
 use Rattle.command_line.specs.declared.command.Work.TheVariants.{Replay, Save}
-use Rattle.command_line.specs.Bare.{IsBareAs, is_bare}
 use Rattle.command_line.specs.Command.{Command, check, instrument, session, park, fetch, parked, drop_row}
 use Rattle.command_line.specs.Page.{page_limit, event_file_limit, Page, IsAccepted, IsPage}
 use Rattle.command_line.specs.Parking.{AreUsed, greatest, last_version, listed}
 use Rattle.command_line.specs.Replay.{IsEventFile}
 use Rattle.command_line.specs.Saving.{IsTooLarge, IsMovable}
-use Rattle.command_line.specs.Stages.{Seen, Of, Held, IsNoEventFile, Stage, words, page_file, acceptance, bareness, event_file, moving, next_row, one_row, all_rows, Stops, StopsWriting, Passes, PassesAll, EndsAt, EndsBy, IsQuiet, CausesExclude, IsReadOrFailed, names_of, work_of, work_behind, reading, stages_of, SomeCause}
+use Rattle.command_line.specs.Stages.{Seen, Of, Held, IsNoEventFile, Stage, words, page_file, acceptance, event_file, moving, next_row, one_row, all_rows, Stops, StopsWriting, Passes, PassesAll, EndsAt, EndsBy, IsQuiet, CausesExclude, IsReadOrFailed, names_of, work_of, work_behind, reading, stages_of, SomeCause}
 use Rattle.command_line.proofs.Moves.{OneAcceptance}
 use Rattle.command_line.proofs.Numbers.{at_most_or_more}
 use Rattle.command_line.proofs.Outcomes.{one_weight, large_or_little, some_outcome}
@@ -64,7 +63,6 @@ module _ (seen : Seen) (quiet : IsQuiet seen) (one_page : OneAcceptance) (one_ca
   one_stop (acceptance p) s t h k =
       let same = of_name p (λ b. IsRefused b h.0) (λ b. IsRefused b k.0) (h.0 ≡ k.0) h.2 k.2 (λ b x y. one_cause b h.0 k.0 x y) in
       h.1 ∙ ap (λ (r : Refusal). status.PageRefused (Some r)) same ∙ sym k.1
-  one_stop (bareness p) s t h k = h.0 ∙ sym k.0
   one_stop (event_file e) s t h k =
       let same = of_name e (λ f. IsNoEventFile f h.0) (λ f. IsNoEventFile f k.0) (h.0 ≡ k.0) h.2 k.2 (λ f x y. one_number f h.0 k.0 x y) in
       h.1 ∙ ap status.EventsRefused same ∙ sym k.1
@@ -79,9 +77,6 @@ module _ (seen : Seen) (quiet : IsQuiet seen) (one_page : OneAcceptance) (one_ca
 
   moving_or_not : (p e : List ℕ) (s : Status) → StopsAs (moving p e) seen s → Passes (moving p e) seen → ⊥
   moving_or_not p e s k h = of_names p e (λ b f. IsTooLarge b f k.0) IsMovable ⊥ k.2 h (λ b f x y. large_or_little one_page b f k.0 x y)
-
-  bare_or_not : (bytes : List ℕ) → IsBareAs bytes false → IsBareAs bytes true → ⊥
-  bare_or_not bytes a b = let off : false ≡ true = sym a.nodes ∙ ap (λ (page : Page). is_bare page.nodes) (one_page bytes a.page b.page a.accepted b.accepted) ∙ b.nodes in cc
 
   -- the rows are told
   of_rows : (P Q : Table → Type 0) → IfSome seen.keeper_before.table P → IfSome seen.keeper_before.table Q → ((t : Table) → P t → Q t → ⊥) → ⊥
@@ -98,7 +93,6 @@ module _ (seen : Seen) (quiet : IsQuiet seen) (one_page : OneAcceptance) (one_ca
   stop_or_pass (page_file n) s h k p = of_name n (λ b. page_limit < length b) (λ b. length b ≤ page_limit) ⊥ k.1 p (λ b x y. omega (arith, x, y))
   stop_or_pass (acceptance n) s h k p =
       of_name n (λ b. IsRefused b k.0) (λ b. (page : Page) × IsAccepted b page) ⊥ k.2 p (λ b x y. not_both b y.0 k.0 y.1 x)
-  stop_or_pass (bareness n) s h k p = of_name n (λ b. IsBareAs b false) (λ b. IsBareAs b true) ⊥ k.1 p bare_or_not
   stop_or_pass (event_file n) s h k p =
       of_name n (λ f. IsNoEventFile f k.0) (λ f. (events : List Event) × IsEventFile f events) ⊥ k.2 p (λ f x y. file_or_none f k.0 x y)
   stop_or_pass (moving m n) s h k p = moving_or_not m n s k p
@@ -172,16 +166,6 @@ module _ (seen : Seen) (none_neither : NoneNeither) where
       (λ page a. k page a (next (acceptance p) gs never (of_held _ bytes (λ b. (page : Page) × IsAccepted b page) held (page, a))))
       (λ cause h. never (status.PageRefused (Some cause)) (λ e. cc) (inl (inl (of_held _ bytes (λ b. IsRefused b cause) held h))))
 
-  behind_bareness : (p bytes : List ℕ) (gs : List Stage) (page : Page) → IsHeld p bytes → IsAccepted bytes page → No (bareness p ∷ gs) → (No gs → ⊥) → ⊥
-  behind_bareness p bytes gs page held a never k = by_nodes (is_bare page.nodes) refl
-    where
-      bare_as : (bare : Bool) → is_bare page.nodes ≡ bare → Held seen p (λ b. IsBareAs b bare)
-      bare_as bare e = of_held _ bytes (λ b. IsBareAs b bare) held (record { page = page; accepted = a; nodes = e })
-
-      by_nodes : (bare : Bool) → is_bare page.nodes ≡ bare → ⊥
-      by_nodes true e = k (next (bareness p) gs never (bare_as true e))
-      by_nodes false e = never (status.PageRefused (Some NotPage)) (λ e. cc) (inl (inl (bare_as false e)))
-
   behind_event_file : (n : List ℕ) (gs : List Stage) → IsReadOrFailed seen n → No (event_file n ∷ gs)
       → ((file : List ℕ) (events : List Event) → IsHeld n file → IsEventFile file events → No gs → ⊥) → ⊥
   behind_event_file n gs (inr failed) never k = never status.ReadFault (λ e. cc) (inl (inl failed))
@@ -236,14 +220,13 @@ module _ (seen : Seen) (none_neither : NoneNeither) where
 
   -- a page is read, and its events
   behind_reading : (p n : List ℕ) (gs : List Stage) → All (IsReadOrFailed seen) (p ∷ n ∷ [])
-      → No (page_file p ∷ acceptance p ∷ bareness p ∷ event_file n ∷ gs)
+      → No (page_file p ∷ acceptance p ∷ event_file n ∷ gs)
       → ((bytes file : List ℕ) (page : Page) (events : List Event) → IsHeld p bytes → IsHeld n file → IsPage bytes page → IsEventFile file events → No gs → ⊥) → ⊥
   behind_reading p n gs reads never k =
-      behind_page_file p (acceptance p ∷ bareness p ∷ event_file n ∷ gs) (reads 0 [] (omega arith)) never λ bytes held fits no1.
-      behind_acceptance p bytes (bareness p ∷ event_file n ∷ gs) held no1 λ page a no2.
-      behind_bareness p bytes (event_file n ∷ gs) page held a no2 λ no3.
-      behind_event_file n gs (reads 1 [] (omega arith)) no3 λ file events holds of_file no4.
-      k bytes file page events held holds (record { fits = fits; accepted = a }) of_file no4
+      behind_page_file p (acceptance p ∷ event_file n ∷ gs) (reads 0 [] (omega arith)) never λ bytes held fits no1.
+      behind_acceptance p bytes (event_file n ∷ gs) held no1 λ page a no2.
+      behind_event_file n gs (reads 1 [] (omega arith)) no2 λ file events holds of_file no3.
+      k bytes file page events held holds (record { fits = fits; accepted = a }) of_file no3
 
   some_end : (command : Option Command) (t : Table) → All (IsReadOrFailed seen) (names_of command) → IsTable t → No (words command ∷ work_behind command) → ⊥
   some_end None t reads is never = never status.Usage (λ e. cc) (inl (inl tt))
@@ -252,9 +235,9 @@ module _ (seen : Seen) (none_neither : NoneNeither) where
       behind_acceptance p bytes [] held no1 λ page a no2.
       at_writing no2
   some_end (Some (instrument p)) t reads is never =
-      behind_page_file p (acceptance p ∷ bareness p ∷ []) (reads 0 [] (omega arith)) (behind_words (instrument p) never) λ bytes held fits no1.
-      behind_acceptance p bytes (bareness p ∷ []) held no1 λ page a no2.
-      behind_bareness p bytes [] page held a no2 at_writing
+      behind_page_file p (acceptance p ∷ []) (reads 0 [] (omega arith)) (behind_words (instrument p) never) λ bytes held fits no1.
+      behind_acceptance p bytes [] held no1 λ page a no2.
+      at_writing no2
   some_end (Some (session Replay p n)) t reads is never =
       behind_reading p n [] reads (behind_words (session Replay p n) never) λ bytes file page events held holds of_page of_file no1.
       at_writing no1

@@ -6,14 +6,11 @@ use Rattle.page_io.specs.Faults.{Rose}
 use Rattle.page_io.specs.Seen.{FilesSeen, KeeperSeen, SinkSeen}
 use Rattle.page_io.specs.Taken.{Takes, TakesFront}
 use Rattle.page_check.specs.Accept.{IsRefused}
-use Rattle.page_check.specs.declared.page.Refusal.{Refusal}
-use Rattle.page_check.specs.declared.page.Refusal.TheVariants.{NotPage}
 use Rattle.page_meaning.specs.Pages.{run_of}
 use Rattle.js_values.specs.declared.event.Event.{Event}
 use Rattle.command_line.specs.declared.status.Status.{Status}
 use Rattle.command_line.specs.declared.status.Status.TheVariants.{Ok, PageRefused, Usage, EventsRefused, ReadFault, WriteFault, TooLarge, OutOfMemory, KeeperFault, NoSession, VersionsUsed}
 use Rattle.command_line.specs.declared.command.Work.TheVariants.{Replay, Save}
-use Rattle.command_line.specs.Bare.{IsBareAs, IsNotRun, is_bare}
 use Rattle.command_line.specs.Checking.{Tells}
 use Rattle.command_line.specs.Command.{Command, check, instrument, session, park, fetch, parked, drop_row}
 use Rattle.command_line.specs.Moving.{IsAnswer}
@@ -21,7 +18,7 @@ use Rattle.command_line.specs.Opening.{OpensTo}
 use Rattle.command_line.specs.Page.{page_limit, Page, IsAccepted, IsPage, opened}
 use Rattle.command_line.specs.Reading.{AreRead, StopsAtPage, StopsAtEvents}
 use Rattle.command_line.specs.Replay.{IsEventFile}
-use Rattle.command_line.specs.Stages.{Seen, seen_between, unasked, unread, unwritten, Of, Held, ReadFailed, Stops, StopsWriting, Stage, page_file, acceptance, bareness, event_file, moving, next_row, one_row, all_rows, Passes, PassesAll, EndsAt, EndsBy, Lasts, reading, work_of, work_behind, words, Ends}
+use Rattle.command_line.specs.Stages.{Seen, seen_between, unasked, unread, unwritten, Of, Held, ReadFailed, Stops, StopsWriting, Stage, page_file, acceptance, event_file, moving, next_row, one_row, all_rows, Passes, PassesAll, EndsAt, EndsBy, Lasts, reading, work_of, work_behind, words, Ends}
 use Rattle.command_line.specs.Texts.{Answers, Changes, Gives, IsPut, KeepsRows, PutsNothing, PutsText, Puts, Rows, RowsAfter, TextOf, Writes}
 use Rattle.command_line.proofs.Moves.{SavingLaws}
 use Rattle.command_line.proofs.Works.{told_begins, told_large, told_movable, told_saves}
@@ -64,15 +61,6 @@ told_opened None text h = (tt, tt)
 told_opened (Some None) text h = absurd h
 told_opened (Some (Some bytes)) text h = (h.of_page.fits, (h.page, h.of_page.accepted))
 
--- a page whose nodes allow it can be run
-told_bare : (told : Told) (page : Page) → is_bare page.nodes ≡ true → Of told (λ b. IsPage b page) → Of told (λ b. IsBareAs b true)
-told_bare None page bare h = tt
-told_bare (Some None) page bare h = absurd h
-told_bare (Some (Some bytes)) page bare h = record { page = page; accepted = h.accepted; nodes = bare }
-
-held_as : (p : List ℕ) (seen : Seen) (told : Told) (P : List ℕ → Type 0) → seen.files_before.content p ≡ told → Of told P → Held seen p P
-held_as p seen told P e h = subst (λ (t : Told). Of t P) (sym e) h
-
 told_events : (told : Told) (events : List Event) → Of told (λ f. IsEventFile f events) → Of told (λ f. (events : List Event) × IsEventFile f events)
 told_events None events h = tt
 told_events (Some None) events h = absurd h
@@ -80,47 +68,21 @@ told_events (Some (Some file)) events h = (events, h)
 
 -- ---- reading and accepting a page
 
--- reading the page ends a command that takes any page
-stops_at_page : (p : List ℕ) (status : Status) (seen : Seen) → StopsAtPage IsRefused status (seen.files_before.content p)
-    → (status ≡ ReadFault → ReadFailed p seen.files_before seen.files_now) → EndsAt (page_file p ∷ acceptance p ∷ []) status seen
-stops_at_page p (PageRefused None) seen h f = inl h
-stops_at_page p (PageRefused (Some r)) seen h f =
+-- reading the page ends a command
+stops_at_page : (p : List ℕ) (gs : List Stage) (status : Status) (seen : Seen) → StopsAtPage status (seen.files_before.content p)
+    → (status ≡ ReadFault → ReadFailed p seen.files_before seen.files_now) → EndsAt (page_file p ∷ acceptance p ∷ gs) status seen
+stops_at_page p gs (PageRefused None) seen h f = inl h
+stops_at_page p gs (PageRefused (Some r)) seen h f =
     let both = told_fits (seen.files_before.content p) (λ b. IsRefused b r) h in inr (both.0, inl both.1)
-stops_at_page p ReadFault seen h f = inl (f refl)
-stops_at_page p OutOfMemory seen h f = inl tt
-stops_at_page p status seen h f = absurd h
-
--- a page that is not run is not accepted, or is one that cannot be run
-not_run_at : (p : List ℕ) (gs : List Stage) (seen : Seen) (told : Told) (r : Refusal) → seen.files_before.content p ≡ told
-    → Of told (λ b. (length b ≤ page_limit) × IsNotRun b r) → EndsAt (page_file p ∷ acceptance p ∷ bareness p ∷ gs) (PageRefused (Some r)) seen
-not_run_at p gs seen None r e h = inr (held_as p seen None (λ b. length b ≤ page_limit) e tt, inl (held_as p seen None (λ b. IsRefused b r) e tt))
-not_run_at p gs seen (Some None) r e h = absurd h
-not_run_at p gs seen (Some (Some bytes)) r e h = by h.1
-  where
-    by : IsNotRun bytes r → EndsAt (page_file p ∷ acceptance p ∷ bareness p ∷ gs) (PageRefused (Some r)) seen
-    by (inl off) = inr (held_as p seen (Some (Some bytes)) (λ b. length b ≤ page_limit) e h.0, inl (held_as p seen (Some (Some bytes)) (λ b. IsRefused b r) e off))
-    by (inr other) =
-        let ends : EndsAt (page_file p ∷ acceptance p ∷ bareness p ∷ gs) (PageRefused (Some NotPage)) seen =
-        inr (
-          held_as p seen (Some (Some bytes)) (λ b. length b ≤ page_limit) e h.0,
-          inr (held_as p seen (Some (Some bytes)) (λ b. (page : Page) × IsAccepted b page) e (other.1.page, other.1.accepted), inl (held_as p seen (Some (Some bytes)) (λ b. IsBareAs b false) e other.1)),
-        ) in
-        subst (λ (c : Refusal). EndsAt (page_file p ∷ acceptance p ∷ bareness p ∷ gs) (PageRefused (Some c)) seen) (sym other.0) ends
-
--- reading the page ends a command that runs it
-stops_at_bare : (p : List ℕ) (gs : List Stage) (status : Status) (seen : Seen) → StopsAtPage IsNotRun status (seen.files_before.content p)
-    → (status ≡ ReadFault → ReadFailed p seen.files_before seen.files_now) → EndsAt (page_file p ∷ acceptance p ∷ bareness p ∷ gs) status seen
-stops_at_bare p gs (PageRefused None) seen h f = inl h
-stops_at_bare p gs (PageRefused (Some r)) seen h f = not_run_at p gs seen (seen.files_before.content p) r refl h
-stops_at_bare p gs ReadFault seen h f = inl (f refl)
-stops_at_bare p gs OutOfMemory seen h f = inl tt
-stops_at_bare p gs status seen h f = absurd h
+stops_at_page p gs ReadFault seen h f = inl (f refl)
+stops_at_page p gs OutOfMemory seen h f = inl tt
+stops_at_page p gs status seen h f = absurd h
 
 -- ---- check
 
-pub check_refuses : (p : List ℕ) (status : Status) (seen : Seen) → StopsAtPage IsRefused status (seen.files_before.content p)
+pub check_refuses : (p : List ℕ) (status : Status) (seen : Seen) → StopsAtPage status (seen.files_before.content p)
     → (status ≡ ReadFault → ReadFailed p seen.files_before seen.files_now) → KeepsRows seen → Gives (check p) (Err status) seen
-check_refuses p status seen h f k = (stops_at_page p status seen h f, k)
+check_refuses p status seen h f k = (stops_at_page p [] status seen h f, k)
 
 pub check_gives : (p : List ℕ) (text : Vec ℕ Global) (seen : Seen) (page : Page) → Held seen p (λ b. IsPage b page) → Held seen p (λ b. Tells b text.items)
     → KeepsRows seen → Gives (check p) (Good text) seen
@@ -129,11 +91,11 @@ check_gives p text seen page h t k = let both = told_accepted (seen.files_before
 -- ---- instrument
 
 pub instrument_gives : (p : List ℕ) (r : Result (Vec ℕ Global) Status) (seen : Seen) → IfOk r (λ text. Held seen p (λ b. OpensTo b text.items))
-    → IfOk r (λ _. Held seen p (λ b. IsBareAs b true)) → IfErr r (λ status. StopsAtPage IsNotRun status (seen.files_before.content p))
+    → IfErr r (λ status. StopsAtPage status (seen.files_before.content p))
     → (r ≡ Err ReadFault → ReadFailed p seen.files_before seen.files_now) → KeepsRows seen → Gives (instrument p) r seen
-instrument_gives p (Good text) seen h bare s f k =
-    let both = told_opened (seen.files_before.content p) text.items h in ((both.0, (both.1, (bare, tt))), h, k)
-instrument_gives p (Err status) seen h bare s f k = (stops_at_bare p [] status seen s (λ e. f (ap Err e)), k)
+instrument_gives p (Good text) seen h s f k =
+    let both = told_opened (seen.files_before.content p) text.items h in ((both.0, (both.1, tt)), h, k)
+instrument_gives p (Err status) seen h s f k = (stops_at_page p [] status seen s (λ e. f (ap Err e)), k)
 
 -- ---- a page and its events
 
@@ -144,25 +106,23 @@ stops_at_events e ReadFault seen h f = inl (f refl)
 stops_at_events e OutOfMemory seen h f = inl tt
 stops_at_events e status seen h f = absurd h
 
-passes_bare : (p : List ℕ) (seen : Seen) (page : Page) → Held seen p (λ b. IsPage b page) → is_bare page.nodes ≡ true
-    → PassesAll (page_file p ∷ acceptance p ∷ bareness p ∷ []) seen
-passes_bare p seen page h bare =
-    let both = told_accepted (seen.files_before.content p) page h in (both.0, (both.1, (told_bare (seen.files_before.content p) page bare h, tt)))
+passes_page : (p : List ℕ) (seen : Seen) (page : Page) → Held seen p (λ b. IsPage b page) → PassesAll (page_file p ∷ acceptance p ∷ []) seen
+passes_page p seen page h = let both = told_accepted (seen.files_before.content p) page h in (both.0, (both.1, tt))
 
-pub page_stops_reading : (p e : List ℕ) (status : Status) (seen : Seen) → StopsAtPage IsNotRun status (seen.files_before.content p)
+pub page_stops_reading : (p e : List ℕ) (status : Status) (seen : Seen) → StopsAtPage status (seen.files_before.content p)
     → (status ≡ ReadFault → ReadFailed p seen.files_before seen.files_now) → EndsAt (reading p e) status seen
-page_stops_reading p e status seen h f = stops_at_bare p (event_file e ∷ []) status seen h f
+page_stops_reading p e status seen h f = stops_at_page p (event_file e ∷ []) status seen h f
 
-pub events_stop_reading : (p e : List ℕ) (status : Status) (seen : Seen) (page : Page) → Held seen p (λ b. IsPage b page) → is_bare page.nodes ≡ true
+pub events_stop_reading : (p e : List ℕ) (status : Status) (seen : Seen) (page : Page) → Held seen p (λ b. IsPage b page)
     → StopsAtEvents status (seen.files_before.content e) → (status ≡ ReadFault → ReadFailed e seen.files_before seen.files_now)
     → EndsAt (reading p e) status seen
-events_stop_reading p e status seen page h bare s f =
-    ends_behind (page_file p ∷ acceptance p ∷ bareness p ∷ []) (event_file e ∷ []) status seen (passes_bare p seen page h bare) (stops_at_events e status seen s f)
+events_stop_reading p e status seen page h s f =
+    ends_behind (page_file p ∷ acceptance p ∷ []) (event_file e ∷ []) status seen (passes_page p seen page h) (stops_at_events e status seen s f)
 
 pub passes_reading : (p e : List ℕ) (seen : Seen) (page : Page) (events : List Event) → AreRead (seen.files_before.content p) (seen.files_before.content e) page events
     → PassesAll (reading p e) seen
 passes_reading p e seen page events read =
-    passes_both (page_file p ∷ acceptance p ∷ bareness p ∷ []) (event_file e ∷ []) seen (passes_bare p seen page read.of_page read.bare)
+    passes_both (page_file p ∷ acceptance p ∷ []) (event_file e ∷ []) seen (passes_page p seen page read.of_page)
     (told_events (seen.files_before.content e) events read.of_file, tt)
 
 -- ---- replay
@@ -279,7 +239,6 @@ no_usage_in [] seen a h = h
 no_usage_in (words c ∷ gs) seen a h = a
 no_usage_in (page_file p ∷ gs) seen a (inr h) = no_usage_in gs seen a h.1
 no_usage_in (acceptance p ∷ gs) seen a (inr h) = no_usage_in gs seen a h.1
-no_usage_in (bareness p ∷ gs) seen a (inr h) = no_usage_in gs seen a h.1
 no_usage_in (event_file e ∷ gs) seen a (inr h) = no_usage_in gs seen a h.1
 no_usage_in (moving p e ∷ gs) seen a (inr h) = no_usage_in gs seen a h.1
 no_usage_in (next_row name ∷ gs) seen a (inr h) = no_usage_in gs seen a h.1

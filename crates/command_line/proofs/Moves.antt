@@ -2,6 +2,7 @@
 use Rattle.std.proofs.Common.{◌≡◌, ◌⊎◌, inl, inr, ℕ, true, false, ◌≤◌, ◌<◌, List, [], ◌∷◌, min, refl, sym, ap, subst, ◌∙◌, arith, ◌+◌, ◌*◌}
 use Rattle.std.specs.List.{list_all}
 use Rattle.std.proofs.lemmas.Bool.{and_from}
+use Rattle.dom_tree.specs.Sound.{IsSound}
 use Rattle.heap_walker.specs.Things.{IsWalk}
 use Rattle.heap_walker.specs.Weight.{load_of, told}
 use Rattle.js_core.specs.Tree as tree
@@ -12,18 +13,17 @@ use Rattle.opened_pages.specs.Opened.{HaveNumbers, OpenedPagesAreAccepted, Opene
 use Rattle.page_check.specs.Accept.{ArePageScripts, texts_of}
 use Rattle.page_check.specs.declared.page.Kind.{Kind}
 use Rattle.page_check.specs.declared.page.Kind.TheVariants.{Plain, Form}
-use Rattle.page_reader.specs.Laws.{script_page}
 use Rattle.page_reader.specs.Replacing.{places_of}
 use Rattle.printed_pages.specs.Printed.{framed_page}
-use Rattle.page_meaning.specs.Pages.{lines_after, lines_of_run, run_of}
+use Rattle.page_meaning.specs.Pages.{Page as RunningPage, lines_after, lines_of_run, run_of}
 use Rattle.page_meaning.specs.Store.{Store}
 use Rattle.page_writer.specs.Page.{saved_page}
+use Rattle.page_writer.specs.Script.{in_frame}
 use Rattle.page_writer.specs.Sizes.{text_limit, things_limit}
 use Rattle.rebuilding.specs.Laws.{LoadsWithin}
 use Rattle.script_rules.specs.Form.{in_form}
-use Rattle.command_line.specs.Bare.{is_bare}
 use Rattle.command_line.specs.Moving.{CanBeSaved}
-use Rattle.command_line.specs.Page.{Page, IsAccepted, opened, opened_page}
+use Rattle.command_line.specs.Page.{Page, IsAccepted, opened, opened_page, running}
 use Rattle.command_line.specs.Saving.{GoesOn, IsTooMuch, MovesTo}
 use Rattle.command_line.proofs.Numbers.{at_most_or_more}
 
@@ -54,25 +54,32 @@ pub record SavingLaws : Type 0 where
   pub accepted : OpenedPagesAreAccepted
   pub same : OpenedPagesPutOutTheSame
 
+-- the frame of a saved page is read as the nodes that a bare page has
+framed_runs : (script : tree.Stmts) → running (framed_page script) ≡ in_frame script
+framed_runs script = refl
+
 -- the script of a moved page goes on as the page, whichever pages they are accepted as
-goes_on_by : (script : tree.Stmts) (earlier : List Event) (text : List ℕ) (page now : Page) → now.kind ≡ Form → now.scripts ≡ script ∷ []
-    → GoesOnAs text (opened page) earlier script → PutOutTheSame (opened page) page.scripts → (before : Page) → before.scripts ≡ page.scripts
+goes_on_by : (script : tree.Stmts) (earlier : List Event) (text : List ℕ) (page now : Page) → now ≡ framed_page script
+    → GoesOnAs text (opened page) earlier script → PutOutTheSame (opened page) (running page) → (before : Page) → before ≡ page
     → GoesOn before earlier now
-goes_on_by script earlier text page now form f h alike before e = record {
-  form = form;
-  silent = ap (λ (ss : List tree.Stmts). lines_of_run ss []) f ∙ h.silent;
-  same = λ later.
-      ap (λ (ss : List tree.Stmts). lines_after ss [] later) f ∙ h.same later ∙ alike.after earlier later
-      ∙ sym (ap (λ (ss : List tree.Stmts). lines_after ss earlier later) e);
-}
+goes_on_by script earlier text page now f h alike before e =
+    let runs : running now ≡ in_frame script = ap running f ∙ framed_runs script in
+    record {
+      form = ap (λ (p : Page). p.kind) f;
+      silent = ap (λ (p : RunningPage). lines_of_run p []) runs ∙ h.silent;
+      same = λ later.
+          ap (λ (p : RunningPage). lines_after p [] later) runs ∙ h.same later ∙ alike.after earlier later
+          ∙ sym (ap (λ (p : Page). lines_after (running p) earlier later) e);
+    }
 
 -- and it is saved again as the same text
-again_by : (script : tree.Stmts) (text : List ℕ) (now : Page) (things : List ℕ) → now.scripts ≡ script ∷ []
-    → ((ks : List ℕ) → IsWalk (run_of (script ∷ []) []) ks → saved_page (run_of (script ∷ []) []) ks ≡ text)
-    → IsWalk (run_of now.scripts []) things → saved_page (run_of now.scripts []) things ≡ text
+again_by : (script : tree.Stmts) (text : List ℕ) (now : Page) (things : List ℕ) → now ≡ framed_page script
+    → ((ks : List ℕ) → IsWalk (run_of (in_frame script) []) ks → saved_page (run_of (in_frame script) []) ks ≡ text)
+    → IsWalk (run_of (running now) []) things → saved_page (run_of (running now) []) things ≡ text
 again_by script text now things f h walk =
-    ap (λ (ss : List tree.Stmts). saved_page (run_of ss []) things) f
-    ∙ h things (subst (λ (ss : List tree.Stmts). IsWalk (run_of ss []) things) f walk)
+    let runs : running now ≡ in_frame script = ap running f ∙ framed_runs script in
+    ap (λ (p : RunningPage). saved_page (run_of p []) things) runs
+    ∙ h things (subst (λ (p : RunningPage). IsWalk (run_of p []) things) runs walk)
 
 -- the scripts of a page with opened scopes are those of some form page
 some_opening : (kind : Kind) (bytes : List ℕ) (page : Page) → IsAccepted bytes page → (text : List ℕ) × OpensAs kind bytes page text
@@ -89,63 +96,58 @@ all_formed [] (script ∷ scripts) read = absurd read
 all_formed (text ∷ texts) [] read = absurd read
 
 -- a page that can be saved
-can_be_moved : (laws : SavingLaws) (bytes : List ℕ) (page : Page) (earlier : List Event) (things : List ℕ) → IsAccepted bytes page
+can_be_moved : (laws : SavingLaws) (bytes : List ℕ) (page : Page) (earlier : List Event) (things : List ℕ) → IsAccepted bytes page → IsSound page.nodes
     → CanBeSaved (run_of (opened page) earlier) things → CanBeMoved (opened page) earlier things
-can_be_moved laws bytes page earlier things accepted can =
+can_be_moved laws bytes page earlier things accepted sound can =
     let as_form = formed_as laws bytes page accepted in
     record {
-      in_form = laws.formed as_form.0 (opened_page page) as_form.1 (all_formed (texts_of as_form.1.texts) (opened page) as_form.1.read);
+      sound = sound;
+      in_form = laws.formed as_form.0 (opened_page page) as_form.1 (all_formed (texts_of as_form.1.texts) (opened_page page).scripts as_form.1.read);
+      bare = can.bare;
       walked = can.walked;
       literals = can.literals;
       few = few_things (run_of (opened page) earlier) things can.little;
       short = little_text (run_of (opened page) earlier) things can.little;
     }
 
--- a saved page has no other nodes than those of such a page
-saved_is_bare : is_bare (script_page false) ≡ true
-unfolding is_bare
-saved_is_bare = refl
-
 pub saved_short : (laws : SavingLaws) (bytes : List ℕ) (page : Page) (earlier : List Event) (things : List ℕ)
-    → IsAccepted bytes page → CanBeSaved (run_of (opened page) earlier) things → IsShort (run_of (opened page) earlier) things
-saved_short laws bytes page earlier things accepted can =
-    (laws.moved (opened page) earlier things (can_be_moved laws bytes page earlier things accepted can)).1
+    → IsAccepted bytes page → IsSound page.nodes → CanBeSaved (run_of (opened page) earlier) things → IsShort (run_of (opened page) earlier) things
+saved_short laws bytes page earlier things accepted sound can =
+    (laws.moved (opened page) earlier things (can_be_moved laws bytes page earlier things accepted sound can)).1
 
 more_steps : (script : tree.Stmts) (n : ℕ) → LoadsWithin script (2 * n) → LoadsWithin script (4 * n + 4)
 more_steps script n h = record { signal = h.signal; after = h.after; left = h.left; ends = h.ends; few = omega (arith, h.few) }
 
 pub saved_steps : (laws : SavingLaws) (bytes : List ℕ) (page : Page) (earlier : List Event) (things : List ℕ)
-    → IsAccepted bytes page → CanBeSaved (run_of (opened page) earlier) things
+    → IsAccepted bytes page → IsSound page.nodes → CanBeSaved (run_of (opened page) earlier) things
     → (now : Page) (script : tree.Stmts) → IsAccepted (saved_page (run_of (opened page) earlier) things) now → now.scripts ≡ script ∷ []
     → LoadsWithin script (4 * (load_of (run_of (opened page) earlier) things).things + 4)
-saved_steps laws bytes page earlier things accepted can now script b only =
+saved_steps laws bytes page earlier things accepted sound can now script b only =
     let text = saved_page (run_of (opened page) earlier) things in
     let n : ℕ = (load_of (run_of (opened page) earlier) things).things in
     let found : moved.GoesOn text (opened page) earlier (2 * n) =
-    (laws.moved (opened page) earlier things (can_be_moved laws bytes page earlier things accepted can)).0 in
+    (laws.moved (opened page) earlier things (can_be_moved laws bytes page earlier things accepted sound can)).0 in
     let at_last = laws.one text now (framed_page found.script) b found.goes_on.accepted in
     let same : script ∷ [] ≡ found.script ∷ [] = sym only ∙ ap (λ (p : Page). p.scripts) at_last in
     let one_script : script ≡ found.script = cc same in
     subst (λ (c : tree.Stmts). LoadsWithin c (4 * n + 4)) (sym one_script) (more_steps found.script n found.within)
 
 pub saved_moves : (laws : SavingLaws) (bytes : List ℕ) (page : Page) (earlier : List Event) (things : List ℕ)
-    → IsAccepted bytes page → HaveNumbers page.kind page.scripts → CanBeSaved (run_of (opened page) earlier) things
+    → IsAccepted bytes page → IsSound page.nodes → HaveNumbers page.kind page.scripts → CanBeSaved (run_of (opened page) earlier) things
     → MovesTo bytes earlier (saved_page (run_of (opened page) earlier) things)
-saved_moves laws bytes page earlier things accepted numbered can =
+saved_moves laws bytes page earlier things accepted sound numbered can =
     let text = saved_page (run_of (opened page) earlier) things in
     let found : moved.GoesOn text (opened page) earlier (2 * (load_of (run_of (opened page) earlier) things).things) =
-    (laws.moved (opened page) earlier things (can_be_moved laws bytes page earlier things accepted can)).0 in
-    let alike = laws.same bytes page accepted numbered in
+    (laws.moved (opened page) earlier things (can_be_moved laws bytes page earlier things accepted sound can)).0 in
+    let alike = laws.same bytes page accepted sound numbered in
     record {
       moved = framed_page found.script;
       page = record { fits = found.goes_on.fits; accepted = found.goes_on.accepted };
-      bare = saved_is_bare;
       goes_on = λ before now a b.
           let at_first = laws.one bytes before page a accepted in
           let at_last = laws.one text now (framed_page found.script) b found.goes_on.accepted in
-          goes_on_by found.script earlier text page now (ap (λ (p : Page). p.kind) at_last) (ap (λ (p : Page). p.scripts) at_last) found.goes_on alike before
-          (ap (λ (p : Page). p.scripts) at_first);
+          goes_on_by found.script earlier text page now at_last found.goes_on alike before at_first;
       again = λ now ks b walk.
           let at_last = laws.one text now (framed_page found.script) b found.goes_on.accepted in
-          again_by found.script text now ks (ap (λ (p : Page). p.scripts) at_last) found.goes_on.again walk;
+          again_by found.script text now ks at_last found.goes_on.again walk;
     }

@@ -1,8 +1,7 @@
 -- What is found of a page after the events of a file: it is too large, or it can be saved; it is one of these, in one way.
 use Rattle.std.proofs.Common.{◌≡◌, ℕ, List, Ok, refl, sym, ap, ◌∙◌, subst}
-use Rattle.js_core.specs.Tree as tree
 use Rattle.js_values.specs.declared.event.Event.{Event}
-use Rattle.page_meaning.specs.Pages.{run_of}
+use Rattle.page_meaning.specs.Pages.{Page as RunningPage, run_of}
 use Rattle.page_meaning.specs.Store.{Store}
 use Rattle.heap_walker.specs.Things.{IsWalk}
 use Rattle.heap_walker.specs.Weight.{load_of, told}
@@ -25,7 +24,7 @@ module _ (one_page : OneAcceptance) (bytes file : List ℕ) where
       let page = one_page bytes a.page b.page a.of_page.accepted b.of_page.accepted in
       let events = same_events file a.events b.events a.of_file b.of_file in
       let opens : opened a.page ≡ opened b.page = ap opened page in
-      a.state ∙ ap (λ (scripts : List tree.Stmts). run_of scripts a.events) opens ∙ ap (run_of (opened b.page)) events ∙ sym b.state
+      a.state ∙ ap (λ (page : RunningPage). run_of page a.events) opens ∙ ap (run_of (opened b.page)) events ∙ sym b.state
 
   -- so what holds of the one holds of the other
   pub carried : (P : Store → List ℕ → Type 0) (s t : Store) (ks js : List ℕ) → IsAfter bytes file s ks → IsAfter bytes file t js → P s ks → P t js

@@ -1,10 +1,8 @@
 -- Pages that are read, and refused or taken.
-use Rattle.std.proofs.Common.{◌≡◌, ◌∙◌, inl, ℕ, ◌≤◌, List, length, Some, None, Result, Ok as Good, Err, IfOk, IfErr, subst}
+use Rattle.std.proofs.Common.{◌≡◌, ◌∙◌, ℕ, ◌≤◌, List, length, Some, None, Result, Ok as Good, Err, IfOk, IfErr, subst}
 use Rattle.page_io.specs.Content.{Told}
 use Rattle.opened_pages.specs.Opened.{OpenedPagesAreAccepted, OpenedPagesPutOutTheSame}
 use Rattle.page_check.specs.Accept.{IsRefused}
-use Rattle.page_check.specs.declared.page.Refusal.{Refusal}
-use Rattle.command_line.specs.Bare.{IsNotRun}
 use Rattle.command_line.specs.Page.{page_limit, Page, IsPage}
 use Rattle.command_line.specs.Checking.{Tells, kind_line}
 use Rattle.command_line.specs.Opening.{IsOpened, OpensTo}
@@ -14,27 +12,19 @@ use Rattle.command_line.specs.declared.status.Status.{Status}
 use Rattle.command_line.specs.declared.status.Status.TheVariants.{PageRefused, OutOfMemory}
 
 -- a page that was read is not taken
-told_untaken : (Why : List ℕ → Refusal → Type 0) (told : Told) (bytes : List ℕ) (status : Status) → Of told (λ held. IsPageFile held bytes) → IsUntaken Why bytes status
-    → StopsAtPage Why status told
-told_untaken Why told bytes OutOfMemory h u = tt
-told_untaken Why None bytes (PageRefused (Some r)) h u = tt
-told_untaken Why (Some None) bytes (PageRefused (Some r)) h u = absurd h
-told_untaken Why (Some (Some held)) bytes (PageRefused (Some r)) h u = (h.fits, subst (λ (b : List ℕ). Why b r) h.same u)
-told_untaken Why told bytes (PageRefused None) h u = absurd u
-told_untaken Why told bytes status h u = absurd u
+told_untaken : (told : Told) (bytes : List ℕ) (status : Status) → Of told (λ held. IsPageFile held bytes) → IsUntaken bytes status
+    → StopsAtPage status told
+told_untaken told bytes OutOfMemory h u = tt
+told_untaken None bytes (PageRefused (Some r)) h u = tt
+told_untaken (Some None) bytes (PageRefused (Some r)) h u = absurd h
+told_untaken (Some (Some held)) bytes (PageRefused (Some r)) h u = (h.fits, subst (λ (b : List ℕ). IsRefused b r) h.same u)
+told_untaken told bytes (PageRefused None) h u = absurd u
+told_untaken told bytes status h u = absurd u
 
-pub told_untaken_if : {T : Type 0} (Why : List ℕ → Refusal → Type 0) (told : Told) (bytes others : List ℕ) (r : Result T Status) → others ≡ bytes → Of told (λ held. IsPageFile held bytes)
-    → IfErr r (IsUntaken Why others) → IfErr r (λ status. StopsAtPage Why status told)
-told_untaken_if Why told bytes others (Good t) same h u = tt
-told_untaken_if Why told bytes others (Err status) same h u = told_untaken Why told bytes status h (subst (λ (b : List ℕ). IsUntaken Why b status) same u)
-
--- what is refused when it is accepted is not run
-pub refused_not_run : {T : Type 0} (bytes : List ℕ) (r : Result T Status) → IfErr r (IsUntaken IsRefused bytes) → IfErr r (IsUntaken IsNotRun bytes)
-refused_not_run bytes (Good t) u = tt
-refused_not_run bytes (Err OutOfMemory) u = tt
-refused_not_run bytes (Err (PageRefused (Some r))) u = inl u
-refused_not_run bytes (Err (PageRefused None)) u = absurd u
-refused_not_run bytes (Err status) u = absurd u
+pub told_untaken_if : {T : Type 0} (told : Told) (bytes others : List ℕ) (r : Result T Status) → others ≡ bytes → Of told (λ held. IsPageFile held bytes)
+    → IfErr r (IsUntaken others) → IfErr r (λ status. StopsAtPage status told)
+told_untaken_if told bytes others (Good t) same h u = tt
+told_untaken_if told bytes others (Err status) same h u = told_untaken told bytes status h (subst (λ (b : List ℕ). IsUntaken b status) same u)
 
 -- or it is accepted
 pub told_accepted_if : {T : Type 0} (told : Told) (bytes others : List ℕ) (P : List ℕ → T → Type 0) (Q : List ℕ → T → Type 0) (r : Result T Status)
@@ -52,7 +42,7 @@ opens_to accepted same bytes text fits is = record {
   of_page = record { fits = fits; accepted = is.accepted };
   opens = is.opens;
   accepted = accepted bytes is.page text is.accepted is.opens;
-  same = same bytes is.page is.accepted is.numbered;
+  same = same bytes is.page is.accepted is.sound is.numbered;
 }
 
 -- the line of the kind of an accepted page

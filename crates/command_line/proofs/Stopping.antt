@@ -5,15 +5,13 @@ use Rattle.page_io.specs.Content.{Told}
 use Rattle.heap_walker.specs.declared.weight.Weight.{Weight}
 use Rattle.page_check.specs.Accept.{IsRefused}
 use Rattle.page_check.specs.declared.page.Refusal.{Refusal}
-use Rattle.page_check.specs.declared.page.Refusal.TheVariants.{NotPage}
-use Rattle.command_line.specs.Bare.{IsBareAs}
 use Rattle.command_line.specs.declared.status.Status.{Status}
 use Rattle.command_line.specs.declared.status.Status.TheVariants as status
 use Rattle.command_line.specs.Command.{Command}
 use Rattle.command_line.specs.Page.{page_limit}
 use Rattle.command_line.specs.Saving.{IsTooLarge}
 use Rattle.command_line.specs.Parking.{AreUsed}
-use Rattle.command_line.specs.Stages.{Seen, Of, Held, IsNoEventFile, Stage, words, page_file, acceptance, bareness, event_file, moving, next_row, one_row, all_rows, Stops, StopsWriting, IsQuiet}
+use Rattle.command_line.specs.Stages.{Seen, Of, Held, IsNoEventFile, Stage, words, page_file, acceptance, event_file, moving, next_row, one_row, all_rows, Stops, StopsWriting, IsQuiet}
 
 -- ---- of told bytes
 
@@ -40,7 +38,6 @@ abbrev pub StopsAs : Stage → Seen → Status → Type 0
 StopsAs (words command) seen s = s ≡ status.Usage
 StopsAs (page_file p) seen s = (s ≡ status.PageRefused None) × Held seen p (λ bytes. page_limit < length bytes)
 StopsAs (acceptance p) seen s = (r : Refusal) × (s ≡ status.PageRefused (Some r)) × Held seen p (λ bytes. IsRefused bytes r)
-StopsAs (bareness p) seen s = (s ≡ status.PageRefused (Some NotPage)) × Held seen p (λ bytes. IsBareAs bytes false)
 StopsAs (event_file e) seen s = (i : ℕ) × (s ≡ status.EventsRefused i) × Held seen e (λ file. IsNoEventFile file i)
 StopsAs (moving p e) seen s = (w : Weight) × (s ≡ status.TooLarge w) × Held seen p (λ bytes. Held seen e (λ file. IsTooLarge bytes file w))
 StopsAs (next_row name) seen s = (s ≡ status.VersionsUsed) × IfSome seen.keeper_before.table (AreUsed name)
@@ -62,11 +59,6 @@ module _ (seen : Seen) (quiet : IsQuiet seen) where
   stops_acceptance p (status.PageRefused (Some r)) n h = (r, refl, h)
   stops_acceptance p status.OutOfMemory n h = absurd (n refl)
   stops_acceptance p s n h = absurd h
-
-  stops_bareness : (p : List ℕ) (s : Status) → ¬ (s ≡ status.OutOfMemory) → Stops (bareness p) s seen → StopsAs (bareness p) seen s
-  stops_bareness p (status.PageRefused (Some NotPage)) n h = (refl, h)
-  stops_bareness p status.OutOfMemory n h = absurd (n refl)
-  stops_bareness p s n h = absurd h
 
   stops_events : (e : List ℕ) (s : Status) → ¬ (s ≡ status.OutOfMemory) → Stops (event_file e) s seen → StopsAs (event_file e) seen s
   stops_events e (status.EventsRefused i) n h = (i, refl, h)
@@ -101,7 +93,6 @@ module _ (seen : Seen) (quiet : IsQuiet seen) where
   stops_as (words c) s n h = stops_words c s h
   stops_as (page_file p) s n h = stops_page p s n h
   stops_as (acceptance p) s n h = stops_acceptance p s n h
-  stops_as (bareness p) s n h = stops_bareness p s n h
   stops_as (event_file e) s n h = stops_events e s n h
   stops_as (moving p e) s n h = stops_moving p e s n h
   stops_as (next_row name) s n h = stops_next name s n h

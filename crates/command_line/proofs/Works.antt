@@ -10,7 +10,7 @@ use Rattle.page_meaning.specs.Pages.{lines_of_run, run_of}
 use Rattle.page_writer.specs.Page.{saved_page}
 use Rattle.command_line.specs.declared.command.Work.TheVariants.{Replay, Save}
 use Rattle.command_line.specs.Moving.{CanBeSaved, IsOverweight}
-use Rattle.command_line.specs.Page.{Page, IsPage, opened}
+use Rattle.command_line.specs.Page.{Page, IsPage, opened, running}
 use Rattle.command_line.specs.Reading.{AreRead}
 use Rattle.command_line.specs.Replay.{IsEventFile}
 use Rattle.command_line.specs.Saving.{Begins, IsAfter, IsMovable, IsTooLarge, Saves}
@@ -20,12 +20,12 @@ use Rattle.command_line.proofs.Moves.{SavingLaws, saved_moves, saved_short, save
 
 -- what `replay` writes for a page
 replayed : (bytes file : List ℕ) (page : Page) (events : List Event) (text : List ℕ) → IsPage bytes page → IsEventFile file events
-    → text ≡ lines_text (lines_of_run page.scripts events) → Writes Replay bytes file text
+    → text ≡ lines_text (lines_of_run (running page) events) → Writes Replay bytes file text
 replayed bytes file page events text of_page of_file t = record { page = page; events = events; of_page = of_page; of_file = of_file; lines = t }
 
 -- the same where it is told what the names hold
 pub told_replays : (page file : Told) (of : Page) (events : List Event) (text : List ℕ) → Of page (λ bytes. IsPage bytes of)
-    → Of file (λ content. IsEventFile content events) → text ≡ lines_text (lines_of_run of.scripts events)
+    → Of file (λ content. IsEventFile content events) → text ≡ lines_text (lines_of_run (running of) events)
     → Of page (λ p. Of file (λ e. Writes Replay p e text))
 told_replays None file of events text of_page of_file t = tt
 told_replays (Some None) file of events text of_page of_file t = absurd of_page
@@ -58,9 +58,9 @@ module _ (page file : Told) (of : Page) (events : List Event) (both : AreRead pa
     things = things;
     after = is_after bytes content of events things p e can.walked;
     saved = refl;
-    short = saved_short laws bytes of events things p.accepted can;
-    steps = saved_steps laws bytes of events things p.accepted can;
-    moves = saved_moves laws bytes of events things p.accepted numbered can;
+    short = saved_short laws bytes of events things p.accepted both.sound can;
+    steps = saved_steps laws bytes of events things p.accepted both.sound can;
+    moves = saved_moves laws bytes of events things p.accepted both.sound numbered can;
   }
 
   pub told_movable : CanBeSaved (run_of (opened of) events) things → Of page (λ p. Of file (λ e. IsMovable p e))

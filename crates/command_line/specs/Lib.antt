@@ -1,4 +1,3 @@
-pub mod Bare
 pub mod Checking
 pub mod Command
 pub mod Keeping

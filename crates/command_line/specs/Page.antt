@@ -1,9 +1,9 @@
 -- Which pages the commands take.
 use Rattle.std.specs.Prelude.{ℕ, ◌≤◌, List, length}
-use Rattle.js_core.specs.Tree as tree
-pub use Rattle.opened_pages.specs.Opened.{opened_page}
+pub use Rattle.opened_pages.specs.Opened.{opened_page, running}
 pub use Rattle.page_check.specs.Accept.{IsAccepted}
 pub use Rattle.page_check.specs.Rules.{Page}
+use Rattle.page_meaning.specs.Pages.{Page as RunningPage}
 
 -- a page file and an event file have at most so many bytes
 abbrev pub page_limit : ℕ
@@ -17,6 +17,6 @@ pub record IsPage (bytes : List ℕ) (page : Page) : Type 0 where
   pub fits : length bytes ≤ page_limit
   pub accepted : IsAccepted bytes page
 
--- the scripts of the page with opened scopes, as it is saved
-abbrev pub opened : Page → List tree.Stmts
-opened page = (opened_page page).scripts
+-- the page with opened scopes when it runs, as it is saved
+abbrev pub opened : Page → RunningPage
+opened page = running (opened_page page)

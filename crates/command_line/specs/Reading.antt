@@ -1,13 +1,13 @@
 -- What reading a file of a command says.
-use Rattle.std.specs.Prelude.{◌≡◌, true, ℕ, ◌<◌, ◌≤◌, List, length, Some, None, Result, Err}
+use Rattle.std.specs.Prelude.{◌≡◌, ℕ, ◌<◌, ◌≤◌, List, length, Some, None, Result, Err}
 use Rattle.page_io.specs.Content.{Told}
 use Rattle.page_io.specs.Faults.{Rose}
 use Rattle.page_io.specs.Seen.{FilesSeen}
-use Rattle.page_check.specs.declared.page.Refusal.{Refusal}
+use Rattle.dom_tree.specs.Sound.{IsSound}
+use Rattle.page_check.specs.Accept.{IsRefused}
 use Rattle.command_line.specs.declared.status.Status.{Status}
 use Rattle.command_line.specs.declared.status.Status.TheVariants.{PageRefused, EventsRefused, ReadFault, OutOfMemory}
 use Rattle.js_values.specs.declared.event.Event.{Event}
-use Rattle.command_line.specs.Bare.{is_bare}
 use Rattle.command_line.specs.Page.{page_limit, Page, IsPage}
 use Rattle.command_line.specs.Replay.{IsEventFile}
 use Rattle.command_line.specs.Stages.{Of, IsNoEventFile}
@@ -18,18 +18,18 @@ pub record IsPageFile (held bytes : List ℕ) : Type 0 where
   pub same : bytes ≡ held
 
 -- why reading the page ends the command
-abbrev pub StopsAtPage : (List ℕ → Refusal → Type 0) → Status → Told → Type 0
-StopsAtPage Why (PageRefused None) page = Of page (λ bytes. page_limit < length bytes)
-StopsAtPage Why (PageRefused (Some r)) page = Of page (λ bytes. (length bytes ≤ page_limit) × Why bytes r)
-StopsAtPage Why ReadFault page = Unit {0}
-StopsAtPage Why OutOfMemory page = Unit {0}
-StopsAtPage Why status page = ⊥
+abbrev pub StopsAtPage : Status → Told → Type 0
+StopsAtPage (PageRefused None) page = Of page (λ bytes. page_limit < length bytes)
+StopsAtPage (PageRefused (Some r)) page = Of page (λ bytes. (length bytes ≤ page_limit) × IsRefused bytes r)
+StopsAtPage ReadFault page = Unit {0}
+StopsAtPage OutOfMemory page = Unit {0}
+StopsAtPage status page = ⊥
 
 -- the bytes are not taken as a page, for this cause; want of memory is free
-abbrev pub IsUntaken : (List ℕ → Refusal → Type 0) → List ℕ → Status → Type 0
-IsUntaken Why bytes (PageRefused (Some r)) = Why bytes r
-IsUntaken Why bytes OutOfMemory = Unit {0}
-IsUntaken Why bytes status = ⊥
+abbrev pub IsUntaken : List ℕ → Status → Type 0
+IsUntaken bytes (PageRefused (Some r)) = IsRefused bytes r
+IsUntaken bytes OutOfMemory = Unit {0}
+IsUntaken bytes status = ⊥
 
 -- why reading the events ends the command
 abbrev pub StopsAtEvents : Status → Told → Type 0
@@ -43,8 +43,8 @@ pub record CountsReads {T : Type 0} (before now : FilesSeen) (name : List ℕ) (
   pub later : before.faults ≤ now.faults
   pub rose : result ≡ Err ReadFault → Rose before.faults now.faults × (now.failed ≡ Some name)
 
--- the page, which can be run, and the events that two files hold
+-- the page and the events that two files hold; its nodes are sound, as all that are read
 pub record AreRead (page file : Told) (of : Page) (events : List Event) : Type 0 where
   pub of_page : Of page (λ bytes. IsPage bytes of)
-  pub bare : is_bare of.nodes ≡ true
+  pub sound : IsSound of.nodes
   pub of_file : Of file (λ content. IsEventFile content events)

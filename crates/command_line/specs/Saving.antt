@@ -1,5 +1,5 @@
 -- What `save` writes, and that it goes on as the page would.
-use Rattle.std.specs.Prelude.{ℕ, ◌≡◌, ◌<◌, ◌⊎◌, true, List, [], ◌+◌, ◌*◌, ◌≤◌, length, ◌∷◌}
+use Rattle.std.specs.Prelude.{ℕ, ◌≡◌, ◌<◌, ◌⊎◌, List, [], ◌+◌, ◌*◌, ◌≤◌, length, ◌∷◌}
 use Rattle.heap_walker.specs.Things.{IsWalk}
 use Rattle.heap_walker.specs.Weight.{load_of, told}
 use Rattle.heap_walker.specs.declared.weight.Weight.{Weight}
@@ -11,8 +11,7 @@ use Rattle.page_meaning.specs.Store.{Store}
 use Rattle.page_writer.specs.Page.{saved_page}
 use Rattle.page_writer.specs.Sizes.{text_limit, things_limit}
 use Rattle.rebuilding.specs.Laws.{LoadsWithin}
-use Rattle.command_line.specs.Bare.{is_bare}
-use Rattle.command_line.specs.Page.{Page, IsAccepted, IsPage, opened}
+use Rattle.command_line.specs.Page.{Page, IsAccepted, IsPage, opened, running}
 use Rattle.command_line.specs.Replay.{IsEventFile}
 
 -- ---- what is saved
@@ -37,7 +36,7 @@ pub record IsTooLarge (bytes file : List ℕ) (w : Weight) : Type 0 where
   pub weighed : w ≡ told (load_of state things)
   pub more : IsTooMuch w
 
--- there are no more, and no more text: it can be saved
+-- there are no more, and no more text: it can be saved, where it is bare
 pub record IsMovable (bytes file : List ℕ) : Type 0 where
   pub state : Store
   pub things : List ℕ
@@ -50,17 +49,16 @@ pub record IsMovable (bytes file : List ℕ) : Type 0 where
 -- later events, exactly the lines that the page puts out for them after the earlier ones
 pub record GoesOn (page : Page) (earlier : List Event) (moved : Page) : Type 0 where
   pub form : moved.kind ≡ Form
-  pub silent : lines_of_run moved.scripts [] ≡ []
-  pub same : (later : List Event) → lines_after moved.scripts [] later ≡ lines_after page.scripts earlier later
+  pub silent : lines_of_run (running moved) [] ≡ []
+  pub same : (later : List Event) → lines_after (running moved) [] later ≡ lines_after (running page) earlier later
 
 -- **A moved page behaves as if it had never moved.** The saved bytes are a page, which is not too long to be read, and whichever page
 -- they are accepted as goes on as whichever page the bytes are accepted as. It is saved again, without events, as the same bytes.
 pub record MovesTo (bytes : List ℕ) (earlier : List Event) (saved : List ℕ) : Type 0 where
   pub moved : Page
   pub page : IsPage saved moved
-  pub bare : is_bare moved.nodes ≡ true
   pub goes_on : (before now : Page) → IsAccepted bytes before → IsAccepted saved now → GoesOn before earlier now
-  pub again : (now : Page) (things : List ℕ) → IsAccepted saved now → IsWalk (run_of now.scripts []) things → saved_page (run_of now.scripts []) things ≡ saved
+  pub again : (now : Page) (things : List ℕ) → IsAccepted saved now → IsWalk (run_of (running now) []) things → saved_page (run_of (running now) []) things ≡ saved
 
 -- the page that is saved after the events of the file, to which the page moves
 pub record Saves (bytes file text : List ℕ) : Type 0 where

@@ -6,12 +6,10 @@ use Rattle.page_io.specs.Content.{Told}
 use Rattle.page_io.specs.Faults.{Rose}
 use Rattle.page_io.specs.Seen.{FilesSeen, KeeperSeen, SinkSeen}
 use Rattle.page_check.specs.Accept.{IsRefused}
-use Rattle.page_check.specs.declared.page.Refusal.TheVariants.{NotPage}
 use Rattle.js_values.specs.declared.event.Event.{Event}
-use Rattle.event_file.specs.Events.{calls_of}
+use Rattle.event_file.specs.Events.{events_of}
 use Rattle.command_line.specs.declared.status.Status.{Status}
 use Rattle.command_line.specs.declared.status.Status.TheVariants.{Ok, PageRefused, Usage, EventsRefused, ReadFault, WriteFault, TooLarge, OutOfMemory, KeeperFault, NoSession, VersionsUsed}
-use Rattle.command_line.specs.Bare.{IsBareAs}
 use Rattle.command_line.specs.Page.{page_limit, event_file_limit, Page, IsAccepted}
 use Rattle.command_line.specs.declared.command.Work.TheVariants.{Replay, Save}
 use Rattle.command_line.specs.Command.{Command, check, instrument, session, park, fetch, parked, drop_row, files_of}
@@ -63,9 +61,9 @@ pub record ReadFailed (name : List ℕ) (before now : FilesSeen) : Type 0 where
   pub rose : Rose before.faults now.faults
   pub named : now.failed ≡ Some name
 
--- the file is too long, or it is not and holds no list of calls
+-- the file is too long, or it is not and holds no list of events
 abbrev pub IsNoEventFile : List ℕ → ℕ → Type 0
-IsNoEventFile file i = ((event_file_limit < length file) × (i ≡ 0)) ⊎ ((length file ≤ event_file_limit) × (calls_of file ≡ Err i))
+IsNoEventFile file i = ((event_file_limit < length file) × (i ≡ 0)) ⊎ ((length file ≤ event_file_limit) × (events_of file ≡ Err i))
 
 -- What a command does in turn, before it writes its text.
 pub data Stage : Type 0 where
@@ -75,8 +73,6 @@ pub data Stage : Type 0 where
   page_file : List ℕ → Stage
   -- it accepts what the file holds
   acceptance : List ℕ → Stage
-  -- it asks that this is a page with one script in `html`, after an empty body or alone, until the nodes of a page are there when it runs
-  bareness : List ℕ → Stage
   -- it reads the event file of this name
   event_file : List ℕ → Stage
   -- it takes what the page of the one name is after the events of the other, if that is little enough
@@ -104,11 +100,6 @@ abbrev pub StopsAtAcceptance : Status → Told → Type 0
 StopsAtAcceptance (PageRefused (Some r)) page = Of page (λ bytes. IsRefused bytes r)
 StopsAtAcceptance OutOfMemory page = Unit {0}
 StopsAtAcceptance status page = ⊥
-
-abbrev pub StopsAtBareness : Status → Told → Type 0
-StopsAtBareness (PageRefused (Some NotPage)) page = Of page (λ bytes. IsBareAs bytes false)
-StopsAtBareness OutOfMemory page = Unit {0}
-StopsAtBareness status page = ⊥
 
 abbrev pub StopsAtEventFile : List ℕ → Status → FilesSeen → FilesSeen → Type 0
 StopsAtEventFile e ReadFault before now = ReadFailed e before now
@@ -142,7 +133,6 @@ abbrev pub Stops : Stage → Status → Seen → Type 0
 Stops (words command) status seen = StopsAtWords command status
 Stops (page_file p) status seen = StopsAtPageFile p status seen.files_before seen.files_now
 Stops (acceptance p) status seen = StopsAtAcceptance status (seen.files_before.content p)
-Stops (bareness p) status seen = StopsAtBareness status (seen.files_before.content p)
 Stops (event_file e) status seen = StopsAtEventFile e status seen.files_before seen.files_now
 Stops (moving p e) status seen = StopsAtMoving status (seen.files_before.content p) (seen.files_before.content e)
 Stops (next_row name) status seen = StopsAtNextRow name status seen.keeper_before seen.keeper_now
@@ -154,7 +144,6 @@ abbrev pub Passes : Stage → Seen → Type 0
 Passes (words command) seen = IsSome command
 Passes (page_file p) seen = Held seen p (λ bytes. length bytes ≤ page_limit)
 Passes (acceptance p) seen = Held seen p (λ bytes. (page : Page) × IsAccepted bytes page)
-Passes (bareness p) seen = Held seen p (λ bytes. IsBareAs bytes true)
 Passes (event_file e) seen = Held seen e (λ file. (events : List Event) × IsEventFile file events)
 Passes (moving p e) seen = Held seen p (λ bytes. Held seen e (λ file. IsMovable bytes file))
 Passes (next_row name) seen = IfSome seen.keeper_before.table (λ t. ¬ AreUsed name t)
@@ -184,12 +173,12 @@ EndsBy gs status seen = EndsAt gs status seen ⊎ (PassesAll gs seen × StopsWri
 
 -- the stages of a page that is run
 abbrev pub reading : List ℕ → List ℕ → List Stage
-reading p e = page_file p ∷ acceptance p ∷ bareness p ∷ event_file e ∷ []
+reading p e = page_file p ∷ acceptance p ∷ event_file e ∷ []
 
--- the stages after the words. Every accepted page is run whose nodes allow it now, and saved where that is little enough
+-- the stages after the words. Every accepted page is run, and saved where that is little enough
 abbrev pub work_of : Command → List Stage
 work_of (check p) = page_file p ∷ acceptance p ∷ []
-work_of (instrument p) = page_file p ∷ acceptance p ∷ bareness p ∷ []
+work_of (instrument p) = page_file p ∷ acceptance p ∷ []
 work_of (session Replay p e) = reading p e
 work_of (session Save p e) = reading p e ++ moving p e ∷ []
 work_of (park p e name) = reading p e ++ moving p e ∷ next_row name ∷ []

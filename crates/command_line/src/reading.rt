@@ -1,9 +1,8 @@
 //! Reading the files of a command.
 
-ghost use Rattle.std.specs.Prelude.{◌≡◌, ℕ, true, List, IfOk, IfErr};
-ghost use Rattle.page_check.specs.Accept.{IsAccepted, IsAcceptedAt, IsRefused};
-ghost use Rattle.command_line.specs.Bare as spec;
-ghost use Rattle.command_line.specs.Bare.{IsBareAs, IsNotRun};
+ghost use Rattle.std.specs.Prelude.{◌≡◌, ℕ, List, IfOk, IfErr};
+ghost use Rattle.dom_tree.specs.Sound.{IsSound};
+ghost use Rattle.page_check.specs.Accept.{IsAccepted, IsAcceptedAt};
 ghost use Rattle.command_line.specs.Opening.{IsOpened, OpensTo};
 ghost use Rattle.command_line.specs.Page.{IsPage};
 ghost use Rattle.command_line.specs.Reading.{AreRead, IsPageFile, IsUntaken, StopsAtPage, StopsAtEvents, CountsReads};
@@ -12,25 +11,19 @@ ghost use Rattle.command_line.specs.Stages.{seen_between, reading, unasked, unwr
 
 use crate::status::Status;
 use event_file::{EventFault, NotEvents, events};
-use js_core::{EVENT_FILE_LIMIT, OutOfMemory, PAGE_LIMIT, Units};
-use js_values::{Event, NodeId};
+use js_core::{EVENT_FILE_LIMIT, OutOfMemory, PAGE_LIMIT};
+use js_values::Event;
 use opened_pages::{law_opened_pages_are_accepted, law_opened_pages_put_out_the_same, open_page};
-use page_check::{AcceptFault, Accepted, CheckedPage, Refusal, accept};
+use page_check::{AcceptFault, Accepted, CheckedPage, accept};
 use page_io::{Files, ReadFault};
 use std::alloc::Global;
-
-/// The texts of the documents of pages that can be run, until the nodes of a page are there when it runs.
-const BARE_TEXTS: &[&[u8]] = &[
-    b"<html><body></body><script></script></html>",
-    b"<html><script></script></html>",
-];
 
 // Reads a page file.
 fn read_bytes<F: Files>(alloc: Global, files: &mut F, name: &str) -> Result<Vec<u8>, Status>
     ensures ok { IfOk result (λ bytes. Of ((F.seen files.old).content name.now)
         (λ held. IsPageFile held bytes.items)) }
     ensures stops { IfErr result
-        (λ status. StopsAtPage IsRefused status ((F.seen files.old).content name.now)) }
+        (λ status. StopsAtPage status ((F.seen files.old).content name.now)) }
     ensures same { (n : List ℕ) → (F.seen files.new).content n ≡ (F.seen files.old).content n }
     ensures counts { CountsReads (F.seen files.old) (F.seen files.new) name.now result }
 {
@@ -42,67 +35,29 @@ fn read_bytes<F: Files>(alloc: Global, files: &mut F, name: &str) -> Result<Vec<
     }
 }
 
-// Accepts the page of these bytes.
+// Accepts the page of these bytes. What always holds of nodes is recalled by their number.
 fn accept_bytes(alloc: Global, bytes: &[u8]) -> Result<Accepted, Status>
     ensures ok { IfOk result (IsAcceptedAt bytes.now) }
-    ensures stops { IfErr result (IsUntaken IsRefused bytes.now) }
+    ensures sound { IfOk result (λ found. IsSound found.page.nodes) }
+    ensures stops { IfErr result (IsUntaken bytes.now) }
 {
     match accept(alloc, bytes) {
-        Ok(accepted) => Ok(accepted),
+        Ok(accepted) => {
+            let _count = accepted.page().dom().count();
+            Ok(accepted)
+        }
         Err(AcceptFault::Cause(refusal)) => Err(Status::PageRefused(Some(refusal))),
         Err(AcceptFault::OutOfMemory) => Err(Status::OutOfMemory),
     }
 }
 
-// Accepts the page of these bytes, which is to be one that can be run.
-fn accept_bare(alloc: Global, bytes: &[u8]) -> Result<Accepted, Status>
-    ensures ok { IfOk result (IsAcceptedAt bytes.now) }
-    ensures bare { IfOk result (λ found. spec.is_bare found.page.nodes ≡ true) }
-    ensures stops { IfErr result (IsUntaken IsNotRun bytes.now) }
-{
-    let accepted = match accept_bytes(alloc, bytes) {
-        Ok(accepted) => accepted,
-        Err(status) => return Err(status),
-    };
-    match is_bare(alloc, accepted.page()) {
-        Ok(true) => Ok(accepted),
-        Ok(false) => Err(Status::PageRefused(Some(Refusal::NotPage))),
-        Err(OutOfMemory) => Err(Status::OutOfMemory),
-    }
-}
-
-// Whether a page has one script in `html`, after an empty body or alone.
-#[tactic(auto, unfolding(crate::specs::Bare::is_bare))]
-fn is_bare(alloc: Global, page: &CheckedPage) -> Result<bool, OutOfMemory>
-    ensures { IfOk result (λ bare. bare ≡ spec.is_bare page.now.nodes) }
-{
-    let dom = page.dom();
-    let mut text = Vec::new(alloc);
-    if dom.count() == 0 {
-        return Ok(false);
-    }
-    dom.dom_text(NodeId(0), &mut text)?;
-    Ok(Units::of(alloc, text.as_slice())?.is_among(BARE_TEXTS))
-}
-
 // Accepts the page of these bytes, without where its parts stand.
 fn accept_page(alloc: Global, bytes: &[u8]) -> Result<CheckedPage, Status>
     ensures ok { IfOk result (IsAccepted bytes.now) }
-    ensures stops { IfErr result (IsUntaken IsRefused bytes.now) }
+    ensures sound { IfOk result (λ page. IsSound page.nodes) }
+    ensures stops { IfErr result (IsUntaken bytes.now) }
 {
     match accept_bytes(alloc, bytes) {
-        Ok(accepted) => Ok(accepted.into_page()),
-        Err(status) => Err(status),
-    }
-}
-
-// The same of a page that can be run.
-fn accept_bare_page(alloc: Global, bytes: &[u8]) -> Result<CheckedPage, Status>
-    ensures ok { IfOk result (IsAccepted bytes.now) }
-    ensures bare { IfOk result (λ page. spec.is_bare page.nodes ≡ true) }
-    ensures stops { IfErr result (IsUntaken IsNotRun bytes.now) }
-{
-    match accept_bare(alloc, bytes) {
         Ok(accepted) => Ok(accepted.into_page()),
         Err(status) => Err(status),
     }
@@ -112,8 +67,9 @@ fn accept_bare_page(alloc: Global, bytes: &[u8]) -> Result<CheckedPage, Status>
 pub fn read_page<F: Files>(alloc: Global, files: &mut F, name: &str) -> Result<CheckedPage, Status>
     ensures ok { IfOk result (λ page. Of ((F.seen files.old).content name.now)
         (λ bytes. IsPage bytes page)) }
+    ensures sound { IfOk result (λ page. IsSound page.nodes) }
     ensures stops { IfErr result
-        (λ status. StopsAtPage IsRefused status ((F.seen files.old).content name.now)) }
+        (λ status. StopsAtPage status ((F.seen files.old).content name.now)) }
     ensures same { (n : List ℕ) → (F.seen files.new).content n ≡ (F.seen files.old).content n }
     ensures counts { CountsReads (F.seen files.old) (F.seen files.new) name.now result }
 {
@@ -124,30 +80,12 @@ pub fn read_page<F: Files>(alloc: Global, files: &mut F, name: &str) -> Result<C
     accept_page(alloc, &bytes)
 }
 
-/// Reads and accepts a page that can be run.
-pub fn read_bare<F: Files>(alloc: Global, files: &mut F, name: &str) -> Result<CheckedPage, Status>
-    ensures ok { IfOk result (λ page. Of ((F.seen files.old).content name.now)
-        (λ bytes. IsPage bytes page)) }
-    ensures bare { IfOk result (λ page. spec.is_bare page.nodes ≡ true) }
-    ensures stops { IfErr result
-        (λ status. StopsAtPage IsNotRun status ((F.seen files.old).content name.now)) }
-    ensures same { (n : List ℕ) → (F.seen files.new).content n ≡ (F.seen files.old).content n }
-    ensures counts { CountsReads (F.seen files.old) (F.seen files.new) name.now result }
-{
-    let bytes = match read_bytes(alloc, files, name) {
-        Ok(bytes) => bytes,
-        Err(status) => return Err(status),
-    };
-    accept_bare_page(alloc, &bytes)
-}
-
 // The text of the page of these bytes with opened scopes.
 fn open_bytes(alloc: Global, bytes: &[u8]) -> Result<Vec<u8>, Status>
     ensures ok { IfOk result (λ text. IsOpened bytes.now text.items) }
-    ensures bare { IfOk result (λ _. IsBareAs bytes.now true) }
-    ensures stops { IfErr result (IsUntaken IsNotRun bytes.now) }
+    ensures stops { IfErr result (IsUntaken bytes.now) }
 {
-    let accepted = match accept_bare(alloc, bytes) {
+    let accepted = match accept_bytes(alloc, bytes) {
         Ok(accepted) => accepted,
         Err(status) => return Err(status),
     };
@@ -157,14 +95,12 @@ fn open_bytes(alloc: Global, bytes: &[u8]) -> Result<Vec<u8>, Status>
     }
 }
 
-/// Reads and accepts a page that can be run, and gives its text with opened scopes.
+/// Reads and accepts a page, and gives its text with opened scopes.
 pub fn read_opened<F: Files>(alloc: Global, files: &mut F, name: &str) -> Result<Vec<u8>, Status>
     ensures ok { IfOk result (λ text. Of ((F.seen files.old).content name.now)
         (λ bytes. OpensTo bytes text.items)) }
-    ensures bare { IfOk result (λ _. Of ((F.seen files.old).content name.now)
-        (λ bytes. IsBareAs bytes true)) }
     ensures stops { IfErr result
-        (λ status. StopsAtPage IsNotRun status ((F.seen files.old).content name.now)) }
+        (λ status. StopsAtPage status ((F.seen files.old).content name.now)) }
     ensures same { (n : List ℕ) → (F.seen files.new).content n ≡ (F.seen files.old).content n }
     ensures counts { CountsReads (F.seen files.old) (F.seen files.new) name.now result }
 {
@@ -199,7 +135,7 @@ pub fn read_events<F: Files>(alloc: Global, files: &mut F, name: &str) -> Result
     }
 }
 
-/// Reads and accepts a page that can be run, and reads its events. The first cause to end is the answer.
+/// Reads and accepts a page, and reads its events. The first cause to end is the answer.
 pub fn read_session<F: Files>(
     alloc: Global,
     page: &str,
@@ -213,7 +149,7 @@ pub fn read_session<F: Files>(
     ensures lasts { Lasts
         (seen_between (F.seen files.old) (F.seen files.new) unasked unasked unwritten unwritten) }
 {
-    let page = match read_bare(alloc, files, page) {
+    let page = match read_page(alloc, files, page) {
         Ok(page) => page,
         Err(status) => return Err(status),
     };

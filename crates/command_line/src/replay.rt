@@ -5,6 +5,7 @@ ghost use Rattle.js_values.specs.Line.{lines_text};
 ghost use Rattle.page_meaning.specs.Pages.{lines_of_run, run_all, run_of};
 ghost use Rattle.command_line.specs.declared.command.Work.TheVariants.{Replay as ReplayWork};
 ghost use Rattle.command_line.specs.Command as command;
+ghost use Rattle.command_line.specs.Page.{running};
 ghost use Rattle.command_line.specs.Stages.{seen_between, unasked, unwritten, Lasts};
 ghost use Rattle.command_line.specs.Texts.{Gives};
 
@@ -19,7 +20,7 @@ use std::alloc::Global;
 
 /// The session of a page after the events.
 pub fn run_page(alloc: Global, page: CheckedPage, list: &[Event]) -> Result<Session, OutOfMemory>
-    ensures { IfOk result (λ s. s.page ≡ run_of page.scripts list.now) }
+    ensures { IfOk result (λ s. s.page ≡ run_of (running page) list.now) }
 {
     let mut session = load(alloc, page)?;
     for event in list {
@@ -42,7 +43,7 @@ fn text_of(alloc: Global, lines: &[Line]) -> Result<Vec<u8>, OutOfMemory>
 // The text of the lines that the scripts of a page and then the events put out.
 fn replayed_text(alloc: Global, page: CheckedPage, list: &[Event]) -> Result<Vec<u8>, OutOfMemory>
     ensures { IfOk result (λ text.
-        text.items ≡ lines_text (lines_of_run page.scripts list.now)) }
+        text.items ≡ lines_text (lines_of_run (running page) list.now)) }
 {
     let session = run_page(alloc, page, list)?;
     text_of(alloc, session.lines())

@@ -1,5 +1,3 @@
-use Rattle.std.proofs.Common.{true}
-use Rattle.command_line.specs.Bare.{IsBareAs, IsNotRun}
 use Rattle.command_line.specs.Opening.{IsOpened, OpensTo}
 use Rattle.command_line.proofs.Refusals.{opens_to, told_accepted_if, told_untaken_if}
 use Rattle.command_line.proofs.reading.read_opened.Goals as goal
@@ -11,13 +9,7 @@ returns-clause-ok g c =
     (λ b t fits is. opens_to c.law_opened_pages_are_accepted.ensures c.law_opened_pages_put_out_the_same.ensures b t.items fits is)
     c.deref.ensures.value c.in-Ok.ensures.ok c.open_bytes.ensures.ok
 
-pub returns-clause-bare : goal.returns-clause-bare
-returns-clause-bare g c =
-    told_accepted_if ((g.F.Files.seen c.args.files.now).content c.args.name.now) c.in-Ok.bytes.items c.deref.result.now
-    (λ b t. IsBareAs b true) (λ b t. IsBareAs b true) c.open_bytes.result (λ b t fits is. is)
-    c.deref.ensures.value c.in-Ok.ensures.ok c.open_bytes.ensures.bare
-
 pub returns-clause-stops : goal.returns-clause-stops
 returns-clause-stops g c =
-    told_untaken_if IsNotRun ((g.F.Files.seen c.args.files.now).content c.args.name.now) c.in-Ok.bytes.items c.deref.result.now c.open_bytes.result
+    told_untaken_if ((g.F.Files.seen c.args.files.now).content c.args.name.now) c.in-Ok.bytes.items c.deref.result.now c.open_bytes.result
     c.deref.ensures.value c.in-Ok.ensures.ok c.open_bytes.ensures.stops

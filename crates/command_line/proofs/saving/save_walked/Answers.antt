@@ -6,19 +6,19 @@ use Rattle.command_line.proofs.saving.save_walked.Goals as goal
 pub returns-in-Err-Cause-TooMany-clause-answer : goal.returns-in-Err-Cause-TooMany-clause-answer
 returns-in-Err-Cause-TooMany-clause-answer g c =
     answer_large c.args.state.now c.args.walked.now.things.keys (g.O.Sink.seen c.args.out.now) (g.O.Sink.seen c.write_walked.new.out) _ c.in-Err-Cause-TooMany.weight
-    c.requires (c.in-Err-Cause-TooMany.field-0-is ∙ ap Cause c.in-Err-Cause-TooMany.field-0-0-is) c.in-Err-Cause-TooMany.ensures.judged
+    c.requires.walked (c.in-Err-Cause-TooMany.field-0-is ∙ ap Cause c.in-Err-Cause-TooMany.field-0-0-is) c.in-Err-Cause-TooMany.ensures.judged
 
 pub returns-in-Err-Cause-TooLong-clause-answer : goal.returns-in-Err-Cause-TooLong-clause-answer
 returns-in-Err-Cause-TooLong-clause-answer g c =
     answer_long c.args.state.now c.args.walked.now.things.keys (g.O.Sink.seen c.args.out.now) (g.O.Sink.seen c.write_walked.new.out) _ c.in-Err-Cause-TooLong.weight
-    c.requires (c.in-Err-Cause-TooLong.field-0-is ∙ ap Cause c.in-Err-Cause-TooLong.field-0-0-is) c.in-Err-Cause-TooLong.ensures.judged
+    c.requires.walked (c.in-Err-Cause-TooLong.field-0-is ∙ ap Cause c.in-Err-Cause-TooLong.field-0-0-is) c.in-Err-Cause-TooLong.ensures.judged
 
 pub returns-in-Err-Cause-WriteFault-clause-answer : goal.returns-in-Err-Cause-WriteFault-clause-answer
 returns-in-Err-Cause-WriteFault-clause-answer g c =
     answer_fault c.args.state.now c.args.walked.now.things.keys (g.O.Sink.seen c.args.out.now) (g.O.Sink.seen c.write_walked.new.out) _
-    c.requires (c.in-Err-Cause-WriteFault.field-0-is ∙ ap Cause c.in-Err-Cause-WriteFault.field-0-0-is) c.in-Err-Cause-WriteFault.ensures.judged c.in-Err-Cause-WriteFault.ensures.begun
+    c.requires.bare c.requires.walked (c.in-Err-Cause-WriteFault.field-0-is ∙ ap Cause c.in-Err-Cause-WriteFault.field-0-0-is) c.in-Err-Cause-WriteFault.ensures.judged c.in-Err-Cause-WriteFault.ensures.begun
 
 pub returns-in-Err-OutOfMemory-clause-answer : goal.returns-in-Err-OutOfMemory-clause-answer
 returns-in-Err-OutOfMemory-clause-answer g c =
     answer_memory c.args.state.now c.args.walked.now.things.keys (g.O.Sink.seen c.args.out.now) (g.O.Sink.seen c.write_walked.new.out) _
-    c.requires c.in-Err-OutOfMemory.field-0-is c.in-Err-OutOfMemory.ensures.judged
+    c.requires.walked c.in-Err-OutOfMemory.field-0-is c.in-Err-OutOfMemory.ensures.judged
