@@ -1,12 +1,16 @@
 //! Rows of attributes (DOM Level 2 Core, interface Element). A name is put in lower case; only `setAttribute` judges it.
 
-ghost use Rattle.std.specs.Prelude.{◌≡◌};
+ghost use Rattle.std.specs.Prelude.{◌≡◌, IfOk, is_some};
 ghost use Rattle.js_values.specs.declared.built_in.BuiltIn.TheVariants as built_in;
+ghost use Rattle.dom_tree.specs.Name.{folded};
+ghost use Rattle.page_host.specs.HostNames.{attribute_at, text_or_null};
 ghost use Rattle.page_meaning.specs.NodeRows.{node_row};
 ghost use Rattle.page_state.specs.Does.{Gives, itself};
+ghost use Rattle.dom_host.specs.Rows.{IsThere};
 
 use crate::tests::{element, text};
-use js_values::Value;
+use js_core::{OutOfMemory, Units};
+use js_values::{NodeId, Value};
 use page_state::{Fault, State};
 
 /// `getAttribute`, which gives null where there is none.
@@ -16,7 +20,16 @@ pub(crate) fn get(state: &mut State, this: &Value, args: &[Value]) -> Result<Val
 {
     let node = element(state, this)?;
     let name = text(state, args, 0)?;
-    match state.host().dom().content(node).attributes.get(&name) {
+    Ok(attribute(state, node, &name)?)
+}
+
+// The text of an attribute, or null.
+fn attribute(state: &State, node: NodeId, name: &Units) -> Result<Value, OutOfMemory>
+    requires { IsThere state.now node }
+    ensures { IfOk result (λ value. value ≡ text_or_null (attribute_at state.now.host.nodes node
+        (folded name.now))) }
+{
+    match state.host().dom().content(node).attributes.get(name) {
         Some(value) => Ok(Value::Text(value.clone()?)),
         None => Ok(Value::Null),
     }
@@ -51,6 +64,12 @@ pub(crate) fn has(state: &mut State, this: &Value, args: &[Value]) -> Result<Val
 {
     let node = element(state, this)?;
     let name = text(state, args, 0)?;
-    let found = state.host().dom().content(node).attributes.get(&name).is_some();
-    Ok(Value::Bool(found))
+    Ok(Value::Bool(has_attribute(state, node, &name)))
+}
+
+fn has_attribute(state: &State, node: NodeId, name: &Units) -> bool
+    requires { IsThere state.now node }
+    ensures { result ≡ is_some (attribute_at state.now.host.nodes node (folded name.now)) }
+{
+    state.host().dom().content(node).attributes.get(name).is_some()
 }
