@@ -1,3 +1,4 @@
+pub mod Bareness
 pub mod Bindings
 pub mod Callers
 pub mod Joining

@@ -46,7 +46,7 @@ built_in_or_thing s ks j apart among there = by (nat_lt built_in_count j) refl (
     by false h (inr other) = inl (omega (arith, ltb-false built_in_count j h, other))
 
 pub links_in_walk : (s : Store) (things : List ℕ) → Still s → IsWalk s things → (k : ℕ) → is_in k things ≡ true → (j : ℕ) → is_in j (links s k) ≡ true → (j < built_in_count) ⊎ (is_in j things ≡ true)
-links_in_walk s things still walk k found j h = by (built_in_or_thing s (links s k) j (still.bare.things k (walk.sound k found)) h (each_of (λ n. nat_lt n (length s.heap.objects)) (links s k) (links_there s still k) j h))
+links_in_walk s things still walk k found j h = by (built_in_or_thing s (links s k) j (still.bare.things k (walk.sound k found)).links h (each_of (λ n. nat_lt n (length s.heap.objects)) (links s k) (links_there s still k) j h))
   where
     by : (j < built_in_count) ⊎ (is_thing s j ≡ true) → (j < built_in_count) ⊎ (is_in j things ≡ true)
     by (inl low) = inl low

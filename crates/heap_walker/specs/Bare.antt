@@ -3,7 +3,7 @@
 use Rattle.std.specs.Prelude.{◌≡◌, ℕ, ◌+◌, ◌<◌, Bool, true, false, List, [], ◌∷◌, ◌++◌, Option, Some, None, codes, length}
 use Rattle.js_values.specs.declared.ids.NodeId.{NodeId}
 use Rattle.dom_tree.specs.Content.{new_content}
-use Rattle.dom_tree.specs.Node.{Node, Nodes}
+use Rattle.dom_tree.specs.Node.{Node, Nodes, children_at, first_of, next_of, parent_at}
 use Rattle.dom_tree.specs.declared.content.Kind.{Kind}
 use Rattle.dom_tree.specs.declared.content.Kind.TheVariants.{Document, Element}
 use Rattle.object_heap.specs.Chain.{object_at}
@@ -50,14 +50,34 @@ is_ordinary (class.Node k) = false
 is_ordinary (class.Event parts) = false
 is_ordinary c = true
 
+-- an object that is, and that does not name the document
+pub record IsApart (s : Store) (k : ℕ) : Type 0 where
+  pub ordinary : is_ordinary (object_at s.heap.objects k).class ≡ true
+  pub links : is_in document.0 (links s k) ≡ false
+
 -- ---- the page
+
+abbrev pub AreUntouched : Store → Type 0
+AreUntouched s = (k : ℕ) → k < length frame_nodes → IsUntouched (object_at s.heap.objects (built_in_count + k))
 
 pub record IsBare (s : Store) : Type 0 where
   -- the clock may be anything: nothing tells the time but timers, and there are none
   pub host : s.host ≡ with_clock frame_host s.host.clock
-  pub untouched : (k : ℕ) → k < length frame_nodes → IsUntouched (object_at s.heap.objects (built_in_count + k))
-  -- no reachable thing is a node or an event
-  pub ordinary : (k : ℕ) → Reach s k → is_ordinary (object_at s.heap.objects k).class ≡ true
-  -- and the document, which is no thing, is named by no global that scripts made, and by no reachable thing
+  pub untouched : AreUntouched s
+  -- nothing that can be reached is a node or an event. The document, which is no thing, is named by no global that scripts made, and by no
+  -- reachable thing
   pub globals : is_in document.0 (roots s) ≡ false
-  pub things : (k : ℕ) → Reach s k → is_in document.0 (links s k) ≡ false
+  pub things : (k : ℕ) → Reach s k → IsApart s k
+
+-- ---- words of the test
+
+abbrev pub AreApart : Store → List ℕ → Type 0
+AreApart s ks = (k : ℕ) → is_in k ks ≡ true → IsApart s k
+
+abbrev pub node_if : Option ℕ → Option NodeId
+node_if None = None
+node_if (Some k) = Some (nth_node k)
+
+-- the node has this parent, this first child and this next node
+abbrev pub IsPlaced : Nodes → ℕ → Option ℕ → Option ℕ → Option ℕ → Type 0
+IsPlaced t k parent first next = (parent_at t k ≡ node_if parent) × (first_of (children_at t k) ≡ node_if first) × (next_of t k ≡ node_if next)

@@ -1,12 +1,14 @@
 //! What of a page can still be reached, and what it weighs.
 #![tactic(auto)]
 
+mod bare;
 mod laws;
 mod links;
 mod needs;
 mod reached;
 mod weight;
 
+pub use bare::is_bare;
 pub use laws::law_walks_are_same;
 pub use needs::{Needs, needs_of};
 pub use reached::{Walked, walk};

@@ -1,0 +1,105 @@
+-- What the tests of a bare page say.
+use Rattle.std.proofs.Common.{◌≡◌, ◌∙◌, refl, sym, ap, subst, arith, ℕ, zero, suc, ◌+◌, ◌<◌, Bool, true, false, ◌||◌, List, [], ◌∷◌, ◌++◌, Option, Some, None, length, nat_eq}
+use Rattle.std.proofs.lemmas.Bool.{eq-eqb}
+use Rattle.std.proofs.lemmas.List.Folds.{list_any-append}
+use Rattle.dom_tree.specs.Content.{new_content}
+use Rattle.dom_tree.specs.Node.{Node, Nodes, children_at, first_of, next_of, no_node, node_at, parent_at, rest_after}
+use Rattle.dom_tree.specs.declared.content.Content.{Content}
+use Rattle.dom_tree.specs.declared.content.Kind.{Kind}
+use Rattle.dom_tree.specs.declared.content.Kind.TheVariants.{Document, Element}
+use Rattle.js_values.specs.declared.ids.NodeId.{NodeId}
+use Rattle.object_heap.specs.Chain.{object_at}
+use Rattle.page_meaning.specs.Places.{built_in_count}
+use Rattle.page_meaning.specs.Store.{Store}
+use Rattle.std.specs.Prelude.{codes}
+use Rattle.heap_walker.specs.Bare.{AreApart, AreUntouched, IsApart, IsPlaced, IsUntouched, frame_nodes, nth_node}
+use Rattle.heap_walker.specs.Things.{IsWalk, Reach, is_in}
+
+-- ---- children, from the first of them and the next ones
+
+none_of : (l : List NodeId) → first_of l ≡ None → l ≡ []
+none_of [] h = refl
+none_of (x ∷ xs) h = cc h
+
+-- the list has no other after this one, which is its first
+one_of : (l : List NodeId) (c : NodeId) → first_of l ≡ Some c → first_of (rest_after c.0 l) ≡ None → l ≡ c ∷ []
+one_of [] c h g = cc h
+one_of (x ∷ xs) c h g =
+    let same : x ≡ c = cc h in
+    let rest : first_of xs ≡ None = rw (ap (λ (n : NodeId). n.0) same, eq-eqb c.0 c.0 refl) at g in
+    ap (λ (n : NodeId). n ∷ xs) same ∙ ap (λ (l : List NodeId). c ∷ l) (none_of xs rest)
+
+two_of : (l : List NodeId) (c d : NodeId) → nat_eq d.0 c.0 ≡ false → first_of l ≡ Some c → first_of (rest_after c.0 l) ≡ Some d → first_of (rest_after d.0 l) ≡ None → l ≡ c ∷ d ∷ []
+two_of [] c d apart h g e = cc h
+two_of (x ∷ xs) c d apart h g e =
+    let same : x ≡ c = cc h in
+    let at : x.0 ≡ c.0 = ap (λ (n : NodeId). n.0) same in
+    let next : first_of xs ≡ Some d = rw (at, eq-eqb c.0 c.0 refl) at g in
+    let last : first_of (rest_after d.0 xs) ≡ None = rw (at, apart) at e in
+    ap (λ (n : NodeId). n ∷ xs) same ∙ ap (λ (l : List NodeId). c ∷ l) (one_of xs d next last)
+
+-- what is next under the parent
+next_in : (t : Nodes) (k : ℕ) (p : NodeId) → parent_at t k ≡ Some p → next_of t k ≡ first_of (rest_after k (children_at t p.0))
+next_in t k p h = rw h refl
+
+-- ---- the nodes of an empty page
+
+node_is : (n : Node) (c : Content) (p : Option NodeId) (l : List NodeId) → n.content ≡ c → n.parent ≡ p → n.children ≡ l
+    → n ≡ record { content = c; parent = p; children = l }
+node_is n c p l hc hp hl =
+    ap (λ (x : Content). record { content = x; parent = n.parent; children = n.children }) hc
+    ∙ ap (λ (x : Option NodeId). record { content = c; parent = x; children = n.children }) hp
+    ∙ ap (λ (x : List NodeId). record { content = c; parent = p; children = x }) hl
+
+four_are : (t : Nodes) → length t ≡ 4 → t ≡ node_at t 0 ∷ node_at t 1 ∷ node_at t 2 ∷ node_at t 3 ∷ []
+four_are [] h = cc h
+four_are (a ∷ []) h = cc h
+four_are (a ∷ b ∷ []) h = cc h
+four_are (a ∷ b ∷ c ∷ []) h = cc h
+four_are (a ∷ b ∷ c ∷ d ∷ []) h = refl
+four_are (a ∷ b ∷ c ∷ d ∷ e ∷ r) h = absurd (omega (arith, h))
+
+pub frame_is : (t : Nodes) → length t ≡ 4
+    → (node_at t 0).content ≡ new_content Document → IsPlaced t 0 None (Some 1) None
+    → (node_at t 1).content ≡ new_content (Element (codes "html")) → IsPlaced t 1 (Some 0) (Some 2) None
+    → (node_at t 2).content ≡ new_content (Element (codes "body")) → IsPlaced t 2 (Some 1) None (Some 3)
+    → (node_at t 3).content ≡ new_content (Element (codes "script")) → IsPlaced t 3 (Some 1) None None
+    → t ≡ frame_nodes
+frame_is t long document p0 html p1 body p2 script p3 =
+    let top : children_at t 0 ≡ nth_node 1 ∷ [] = one_of (children_at t 0) (nth_node 1) p0.1 (sym (next_in t 1 (nth_node 0) p1.0) ∙ p1.2) in
+    let inner : children_at t 1 ≡ nth_node 2 ∷ nth_node 3 ∷ [] =
+    two_of (children_at t 1) (nth_node 2) (nth_node 3) refl p1.1 (sym (next_in t 2 (nth_node 1) p2.0) ∙ p2.2) (sym (next_in t 3 (nth_node 1) p3.0) ∙ p3.2)
+    in
+    let first = node_is (node_at t 0) _ None _ document p0.0 top in
+    let second = node_is (node_at t 1) _ (Some (nth_node 0)) _ html p1.0 inner in
+    let third = node_is (node_at t 2) _ (Some (nth_node 1)) _ body p2.0 (none_of (children_at t 2) p2.1) in
+    let fourth = node_is (node_at t 3) _ (Some (nth_node 1)) _ script p3.0 (none_of (children_at t 3) p3.1) in
+    four_are t long
+    ∙ ap (λ (n : Node). n ∷ node_at t 1 ∷ node_at t 2 ∷ node_at t 3 ∷ []) first
+    ∙ ap (λ (n : Node). _ ∷ n ∷ node_at t 2 ∷ node_at t 3 ∷ []) second
+    ∙ ap (λ (n : Node). _ ∷ _ ∷ n ∷ node_at t 3 ∷ []) third
+    ∙ ap (λ (n : Node). _ ∷ _ ∷ _ ∷ n ∷ []) fourth
+
+-- ---- their objects
+
+pub four_untouched : (s : Store) → IsUntouched (object_at s.heap.objects 122) → IsUntouched (object_at s.heap.objects 123)
+    → IsUntouched (object_at s.heap.objects 124) → IsUntouched (object_at s.heap.objects 125) → AreUntouched s
+unfolding built_in_count
+four_untouched s a b c d zero h = a
+four_untouched s a b c d (suc zero) h = b
+four_untouched s a b c d (suc (suc zero)) h = c
+four_untouched s a b c d (suc (suc (suc zero))) h = d
+four_untouched s a b c d (suc (suc (suc (suc k)))) h = absurd (omega (arith, h))
+
+-- ---- links
+
+-- what is among the first of two lists is among both, and what is not is among both where it is among the second
+pub among_first : (k : ℕ) (xs ys : List ℕ) → is_in k xs ≡ true → is_in k (xs ++ ys) ≡ true
+among_first k xs ys h = list_any-append (nat_eq k) xs ys ∙ rw h refl
+
+pub among_second : (k : ℕ) (xs ys : List ℕ) → is_in k xs ≡ false → is_in k (xs ++ ys) ≡ is_in k ys
+among_second k xs ys h = list_any-append (nat_eq k) xs ys ∙ rw h refl
+
+-- things of a walk are apart
+pub all_apart : (s : Store) (ks : List ℕ) → IsWalk s ks → AreApart s ks → (k : ℕ) → Reach s k → IsApart s k
+all_apart s ks walk apart k reach = apart k (walk.complete k reach)
