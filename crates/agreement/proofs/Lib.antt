@@ -32,6 +32,7 @@ pub mod FunctionRows
 pub mod Functions
 pub mod Heap
 pub mod Hoisted
+pub mod HostPuts
 pub mod HostReads
 pub mod HostSteps
 pub mod Lines
@@ -42,8 +43,11 @@ pub mod Loops
 pub mod Made
 pub mod MathRows
 pub mod Names
+pub mod NewNodes
+pub mod NodeRows
 pub mod NumberRows
 pub mod ObjectRows
+pub mod OnNodes
 pub mod OpenedStands
 pub mod Operands
 pub mod Operators
@@ -56,6 +60,7 @@ pub mod Runs
 pub mod ScopeObjects
 pub mod ScopeValues
 pub mod Scoped
+pub mod Settled
 pub mod Spared
 pub mod SparedCalls
 pub mod StandsPieces
