@@ -1,3 +1,4 @@
 pub mod Families
+pub mod Passing
 pub mod Scripts
 pub mod Turning

@@ -1,8 +1,10 @@
 -- What tasks come to, by what their parts do.
-use Rattle.std.proofs.Common.{◌≡◌, refl, sym, ap, ◌∙◌, subst, ℕ, List, [], Some, None, Result, Ok, Err, IfOk, OnOk}
+use Rattle.std.proofs.Common.{◌≡◌, refl, sym, ap, ◌∙◌, ℕ, Bool, List, [], Some, None, Result, Ok, Err, IfOk, OnOk}
 use Rattle.code_table.specs.Declarations.{functions_of, variables_of}
 use Rattle.code_table.specs.Node.{block_node, body_of}
 use Rattle.js_core.specs.Tree as tree
+use Rattle.js_values.specs.declared.ids.NodeId.{NodeId}
+use Rattle.js_values.specs.declared.ids.ObjId.{ObjId}
 use Rattle.js_values.specs.declared.line.LineKind.{LineKind}
 use Rattle.js_values.specs.declared.line.LineKind.TheVariants.{Uncaught, Stopped as StoppedLine}
 use Rattle.js_values.specs.declared.value.Value.{Value}
@@ -14,9 +16,10 @@ use Rattle.page_meaning.specs.Calls.{calls_at}
 use Rattle.page_meaning.specs.Functions.{call_end, declare_globals, global_variables}
 use Rattle.page_meaning.specs.Names.{Here, read_name}
 use Rattle.page_meaning.specs.Places.{window}
-use Rattle.page_meaning.specs.Primitives.{put_line}
+use Rattle.page_meaning.specs.Events.{initialises}
+use Rattle.page_meaning.specs.Primitives.{changes_event, make_event, put_line}
 use Rattle.page_meaning.specs.Store.{Store, with_line}
-use Rattle.page_meaning.specs.Tasks.{Name, Task, after_task, depth_limit, finished, run_script, step_limit, task_of, top}
+use Rattle.page_meaning.specs.Tasks.{Fires, Name, Task, after_task, depth_limit, finished, run_script, settled, step_limit, task_of, top}
 use Rattle.page_meaning.specs.Lines.{uncaught_text}
 use Rattle.page_frames.specs.declared.frame.Begin.TheVariants as begin
 use Rattle.page_frames.specs.Parts.{mean_node}
@@ -84,16 +87,32 @@ pub line_put : (kind : LineKind) (words : List ℕ) (s t : Store) → Does (λ _
 line_put kind words s t d = sym (ap store_in (d.is (calls_at 0) 0))
 
 -- a line tells what is not caught
-pub uncaught_told : {E : Type 0} (r : Result (Unit {0}) E) (e : End) (v : Value) (words : List ℕ) (s t : Store) → e ≡ end.Ended (Thrown v) → words ≡ uncaught_text s v → IfOk r (λ _. Does (λ _. put_line Uncaught (λ _. words)) s tt t)
-    → OnOk r ((n : ℕ) → t ≡ finished (outcome_of e s n))
-uncaught_told (Err x) e v words s t is w h = tt
-uncaught_told (Ok u) e v words s t is w h = λ n. rw (is, ← w) (line_put Uncaught words s t h)
+pub uncaught_told : {E : Type 0} (r : Result (Unit {0}) E) (e : End) (v : Value) (words : List ℕ) (s u t : Store) → e ≡ end.Ended (Thrown v) → words ≡ uncaught_text s v → u ≡ settled s
+    → IfOk r (λ _. Does (λ _. put_line Uncaught (λ _. words)) u tt t) → OnOk r ((n : ℕ) → t ≡ finished (outcome_of e s n))
+uncaught_told (Err x) e v words s u t is w rest h = tt
+uncaught_told (Ok o) e v words s u t is w rest h = λ n. rw (is, ← w, ← rest) (line_put Uncaught words u t h)
 
 -- and what was stopped
-pub stopped_told : {E : Type 0} (r : Result (Unit {0}) E) (e : End) (words : List ℕ) (s t : Store) → e ≡ end.Stopped → words ≡ [] → IfOk r (λ _. Does (λ _. put_line StoppedLine (λ _. words)) s tt t)
-    → OnOk r ((n : ℕ) → t ≡ finished (outcome_of e s n))
-stopped_told (Err x) e words s t is w h = tt
-stopped_told (Ok u) e words s t is w h = λ n. rw (is, ← w) (line_put StoppedLine words s t h)
+pub stopped_told : {E : Type 0} (r : Result (Unit {0}) E) (e : End) (words : List ℕ) (s u t : Store) → e ≡ end.Stopped → words ≡ [] → u ≡ settled s
+    → IfOk r (λ _. Does (λ _. put_line StoppedLine (λ _. words)) u tt t) → OnOk r ((n : ℕ) → t ≡ finished (outcome_of e s n))
+stopped_told (Err x) e words s u t is w rest h = tt
+stopped_told (Ok o) e words s u t is w rest h = λ n. rw (is, ← w, ← rest) (line_put StoppedLine words u t h)
+
+-- any other end is not told
+pub untold : (e : End) (g : Signal) (s u : Store) (n : ℕ) → e ≡ end.Ended g → ((v : Value) → g ≡ Thrown v → ⊥) → u ≡ settled s → u ≡ finished (outcome_of e s n)
+untold e (Thrown v) s u n is h rest = absurd (h v refl)
+untold e (Val v) s u n is h rest = rw is rest
+untold e (Return v) s u n is h rest = rw is rest
+untold e Break s u n is h rest = rw is rest
+untold e Continue s u n is h rest = rw is rest
+
+-- ---- events of the host
+
+pub event_fired : {E : Type 0} (calls : Calls) (x : List ℕ) (bubbles cancelable : Bool) (k : NodeId) (at : ObjId) (s u v t : Store) (n j : ℕ) (r : Result End E) → Does (λ _. make_event) s at u
+    → Does (λ _. changes_event at (initialises x bubbles cancelable)) u tt v → IfOk r (λ e. outcome_of e t j ≡ (mean_of calls (begin.Deliver at k)).run v n)
+    → IfOk r (λ e. outcome_of e t j ≡ (task_of calls (Fires x bubbles cancelable k)).run s n)
+event_fired calls x bubbles cancelable k at s u v t n j (Err y) made begun h = h
+event_fired calls x bubbles cancelable k at s u v t n j (Ok e) made begun h = h ∙ sym (rw (made.is calls n) (rw (begun.is calls n) refl))
 
 -- ---- whole tasks
 

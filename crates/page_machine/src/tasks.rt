@@ -1,23 +1,28 @@
 //! Tasks: scripts, and calls of what a global name holds (ECMA-262 5.1 sections 10.4.1 and 14).
 
-ghost use Rattle.std.specs.Prelude.{◌≡◌, [], IfOk, OnOk, ℕ};
+ghost use Rattle.std.specs.Prelude.{◌≡◌, ◌<◌, ◌^◌, [], IfOk, OnOk, is_some, true, ℕ};
 ghost use Rattle.code_table.specs.Node.{body_of};
-ghost use Rattle.js_values.specs.declared.value.Value.TheVariants.{Undefined};
+ghost use Rattle.js_values.specs.declared.value.Value.TheVariants.{Object, Undefined};
 ghost use Rattle.page_meaning.specs.Calls.{calls_at};
+ghost use Rattle.page_host.specs.Steps.{next_timer};
+ghost use Rattle.page_meaning.specs.Places.{window};
 ghost use Rattle.page_meaning.specs.Tasks as spec;
+ghost use Rattle.page_meaning.specs.TimerRows as timers;
 ghost use Rattle.page_state.specs.Does.{Gives, no_value};
 ghost use Rattle.page_machine.specs.Ends.{outcome_of};
+ghost use Rattle.page_machine.specs.Firing.{EndIsPut, Fired};
 ghost use Rattle.page_machine.specs.Running.{declared, task_of, top_body};
 
 use crate::machine::{End, run};
 use code_table::FunctionCode;
 use js_core::{DEPTH_LIMIT, OutOfMemory, STEP_LIMIT, Units};
-use js_values::{LineKind, NodeId, Value};
+use js_values::{LineKind, NodeId, ObjId, Value};
 use object_heap::Values;
 use page_frames::{Begin, BoxedCall, CallFrame, Meter, Spot};
 use page_meaning::Signal;
 use page_state::{Fault, State, WINDOW};
 use step_call::call_end;
+use step_parts::take_step;
 
 // The clock goes no further.
 const CLOCK_LIMIT: u64 = 1 << 59;
@@ -128,7 +133,7 @@ fn fire(
     run(state, Begin::Deliver(event, node), meter)
 }
 
-// Time passes up to a moment: timers fire one after another, and last the clock is there. Past 2 ^ 59 it wants memory.
+// So much time passes. Past 2 ^ 59 it wants memory.
 fn pass(state: &mut State, time: u64, meter: &mut Meter) -> Result<End, OutOfMemory>
     ensures { IfOk result (λ end. outcome_of end state.new meter.new.steps
         ≡ (spec.task_of (calls_at meter.old.depth) (spec.Passes time)).run state.old
@@ -138,22 +143,67 @@ fn pass(state: &mut State, time: u64, meter: &mut Meter) -> Result<End, OutOfMem
     if time > CLOCK_LIMIT || clock > CLOCK_LIMIT - time {
         return Err(OutOfMemory);
     }
-    let moment = clock + time;
+    pass_to(state, clock + time, meter)
+}
+
+// Timers fire one after another up to a moment, and last the clock is there.
+fn pass_to(state: &mut State, moment: u64, meter: &mut Meter) -> Result<End, OutOfMemory>
+    requires { moment < 2 ^ 60 }
+    ensures { IfOk result (λ end. outcome_of end state.new meter.new.steps
+        ≡ (timers.pass_to (calls_at meter.old.depth) moment).run state.old meter.old.steps) }
+{
     while state.is_timer_due(moment) {
-        if meter.steps == 0 {
+        if !fire_next(state, moment, meter)? {
             return Ok(End::Stopped);
-        }
-        meter.steps -= 1;
-        let Some(function) = state.fire_timer(moment) else {
-            break;
-        };
-        match call_with(state, Value::Object(function), Value::Object(WINDOW), meter)? {
-            End::Ended(signal) => state.put_uncaught(&signal)?,
-            End::Stopped => return Ok(End::Stopped),
         }
     }
     state.set_clock(moment);
     Ok(End::Ended(Signal::Value(Value::Undefined)))
+}
+
+// The timer that is due first comes due, once its step is taken; what its function throws is put out. `false` where all stops.
+fn fire_next(state: &mut State, moment: u64, meter: &mut Meter) -> Result<bool, OutOfMemory>
+    requires moment { moment < 2 ^ 60 }
+    requires due { is_some (next_timer state.old.host moment) ≡ true }
+    ensures { IfOk result (λ on. Fired moment state.old meter.old on state.new meter.new) }
+{
+    if meter.steps == 0 {
+        return Ok(false);
+    }
+    take_step(meter);
+    match state.fire_timer(moment) {
+        Some(function) => {
+            let end = call_timer(state, function, meter)?;
+            put_end(state, end)
+        }
+        None => unreachable!(),
+    }
+}
+
+// The function of a timer is called; the levels of depth stay.
+fn call_timer(state: &mut State, function: ObjId, meter: &mut Meter) -> Result<End, OutOfMemory>
+    ensures same { IfOk result (λ end. outcome_of end state.new meter.new.steps
+        ≡ ((calls_at meter.old.depth).call (Object function) (Object window) []).run state.old
+        meter.old.steps) }
+    ensures depth { OnOk result (meter.new.depth ≡ meter.old.depth) }
+{
+    let mut own = *meter;
+    let end = call_with(state, Value::Object(function), Value::Object(WINDOW), &mut own)?;
+    meter.steps = own.steps;
+    Ok(end)
+}
+
+// What ended goes on, once what it threw is put out.
+fn put_end(state: &mut State, end: End) -> Result<bool, OutOfMemory>
+    ensures { IfOk result (λ on. EndIsPut end state.old on state.new) }
+{
+    match end {
+        End::Ended(signal) => {
+            state.put_uncaught(&signal)?;
+            Ok(true)
+        }
+        End::Stopped => Ok(false),
+    }
 }
 
 // Calls a value without arguments, with `this` undefined.
@@ -184,17 +234,23 @@ fn call_with(
     run(state, Begin::Call(boxed), meter)
 }
 
-// A line tells an exception and want of steps.
+// No event is under dispatch any more, and a line tells an exception and want of steps.
 fn finish(state: &mut State, end: End) -> Result<(), OutOfMemory>
     ensures { OnOk result ((n : ℕ) → state.new ≡ spec.finished (outcome_of end state.old n)) }
 {
-    state.settle_events();
     match end {
         End::Ended(Signal::Thrown(value)) => {
             let text = state.uncaught_text(&value)?;
+            state.settle_events();
             state.put_line(LineKind::Uncaught, text)
         }
-        End::Ended(_) => Ok(()),
-        End::Stopped => state.put_line(LineKind::Stopped, Units::of(state.alloc(), &[])?),
+        End::Ended(_) => {
+            state.settle_events();
+            Ok(())
+        }
+        End::Stopped => {
+            state.settle_events();
+            state.put_line(LineKind::Stopped, Units::of(state.alloc(), &[])?)
+        }
     }
 }

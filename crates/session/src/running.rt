@@ -1,8 +1,12 @@
 //! A page while host events act on it.
 
-ghost use Rattle.std.specs.Prelude.{◌≡◌, [], IfOk, OnErr, OnOk, false, true};
-ghost use Rattle.page_meaning.specs.Pages.{after_scripts, do_event, load_of};
-ghost use Rattle.page_meaning.specs.Store.{without_lines};
+ghost use Rattle.std.specs.Prelude.{◌≡◌, [], IfOk, OnErr, OnOk, codes, false, true};
+ghost use Rattle.js_values.specs.declared.line.LineKind.TheVariants.{Dom};
+ghost use Rattle.dom_tree.specs.DomText.{dom_text};
+ghost use Rattle.page_meaning.specs.Pages.{after_scripts, do_event, document_node, load_of, on_element, with_input};
+ghost use Rattle.page_meaning.specs.Store.{with_line, without_lines};
+ghost use Rattle.page_meaning.specs.Tasks.{Fires, after_task};
+ghost use Rattle.session.specs.Elements.{IsElement};
 
 use code_numbering::script_code;
 use js_core::{OutOfMemory, Script, Units, ascii_text};
@@ -88,7 +92,9 @@ fn act_on(state: &mut State, event: &Event) -> Result<(), OutOfMemory>
 }
 
 // The element with the id, or a line where there is none.
-fn element(state: &mut State, id: &Units) -> Result<Option<NodeId>, OutOfMemory> {
+fn element(state: &mut State, id: &Units) -> Result<Option<NodeId>, OutOfMemory>
+    ensures { IfOk result (λ found. IsElement id.now state.old found state.new) }
+{
     let found = state.host().dom().find_id(id);
     if found.is_none() {
         let text = Units::of(state.alloc(), &[])?;
@@ -104,7 +110,10 @@ fn fire(
     at: &Units,
     bubbles: bool,
     cancelable: bool,
-) -> Result<(), OutOfMemory> {
+) -> Result<(), OutOfMemory>
+    ensures { OnOk result (state.new ≡ on_element at.now (λ k.
+        after_task (Fires kind.now bubbles cancelable k)) state.old) }
+{
     match element(state, at)? {
         Some(node) => run_task(
             state,
@@ -115,7 +124,10 @@ fn fire(
 }
 
 // The value is set, where the element takes one, and then `input` is dispatched.
-fn input(state: &mut State, text: &Units, at: &Units) -> Result<(), OutOfMemory> {
+fn input(state: &mut State, text: &Units, at: &Units) -> Result<(), OutOfMemory>
+    ensures { OnOk result (state.new ≡ on_element at.now (λ k s.
+        after_task (Fires (codes "input") true false k) (with_input text.now k s)) state.old) }
+{
     match element(state, at)? {
         Some(node) => {
             state.set_input(node, text.clone()?);
@@ -127,11 +139,23 @@ fn input(state: &mut State, text: &Units, at: &Units) -> Result<(), OutOfMemory>
 }
 
 // The text of the document is put out.
-fn put_dom(state: &mut State) -> Result<(), OutOfMemory> {
-    let mut units = Vec::new(state.alloc());
-    state.host().dom().dom_text(NodeId(0), &mut units)?;
-    let text = Units::of(state.alloc(), units.as_slice())?;
+fn put_dom(state: &mut State) -> Result<(), OutOfMemory>
+    ensures { OnOk result (state.new ≡ with_line Dom (dom_text state.old.host.nodes document_node)
+        state.old) }
+{
+    let text = document_text(state)?;
     state.put_line(LineKind::Dom, text)
+}
+
+// The text of the document, which is always there.
+fn document_text(state: &State) -> Result<Units, OutOfMemory>
+    ensures { IfOk result (λ text. text ≡ dom_text state.now.host.nodes document_node) }
+{
+    let dom = state.host().dom();
+    let _count = dom.count();
+    let mut units = Vec::new(state.alloc());
+    dom.dom_text(NodeId(0), &mut units)?;
+    Units::of(state.alloc(), units.as_slice())
 }
 
 impl Session {
