@@ -61,8 +61,8 @@ module _ {W : World} {h g : Contents} (r : Agree W h g) (none_rebuilt : W.bases 
       → FoundRel W ps look x q o p → (q ≡ Nowhere → ⊥) → o ≡ Some f → p ≡ Some f → ValueRel (named W) f.1 f.1
   found_value f unbound never a b = absurd (cc a)
   found_value f (is_free {v = v} {w = w} s i kept m) never a b = same_value f _ _ v w m a b
-  found_value f (is_captured s i kept some look held m) never a b = absurd (cc (opens, some))
-  found_value f (is_copied s some look held m) never a b = absurd (cc (opens, some))
+  found_value f (is_captured s i kept some _ look held m) never a b = absurd (cc (opens, some))
+  found_value f (is_copied s some _ look held m) never a b = absurd (cc (opens, some))
   found_value f (is_sealed {v = v} {w = w} m) never a b = same_value f _ _ v w m a b
   found_value f is_unused never a b = absurd (never refl)
 

@@ -96,7 +96,7 @@ fresh_rel : {V : World} {v w : Value} → ValueRel (named V) v w
 fresh_rel {v = v} {w = w} h = on_built_ins (λ U i there.
     let p = object_or object_prototype v in
     let q = object_or object_prototype w in
-    make_rel (new_object class.Plain (Some p)) (new_object class.Plain (Some q)) (new_fit class.Plain (Some p)) (new_fit class.Plain (Some q)) (record {
+    make_rel (new_object class.Plain (Some p)) (new_object class.Plain (Some q)) (new_fit class.Plain (Some p)) (new_fit class.Plain (Some q)) refl refl (record {
       class = plain;
       proto = some (record { linked = object_or_rel object_prototype object_prototype (there object_prototype.0 object_place) (value_up i h) });
       extensible = refl;

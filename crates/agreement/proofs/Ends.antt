@@ -20,6 +20,7 @@ use Rattle.agreement.proofs.Constants.{kept_same}
 use Rattle.agreement.proofs.Heap.{class_rel, line_added}
 use Rattle.agreement.proofs.Lines.{log_text_same}
 use Rattle.agreement.proofs.Properties.{get_at_rel}
+use Rattle.agreement.proofs.Settled.{settled_rel}
 
 error_text_same : {W : World} {s t : Store} {v w : Value} → StoreRel W s t → ValueRel (named W) v w → error_text s v ≡ error_text t w
 error_text_same g undefined = log_text_same g undefined
@@ -53,7 +54,7 @@ uncaught_text_same {v = value.Object a} {w = value.Object b} g (object n) = text
 
 -- the same line more on both sides
 pub with_line_rel : {W : World} {s t : Store} {x y : List ℕ} (kind : LineKind) → StoreRel W s t → x ≡ y → StoreRel W (with_line kind x s) (with_line kind y t)
-with_line_rel {W = W} {s = s} {t = t} {x = x} {y = y} kind g e = record { heap = g.heap; lines = line_added W.before s.lines t.lines kind x y g.lines e; built_ins = g.built_ins; shaped = shapes.lines_shaped s _ g.shaped; kept = kept_same g.kept refl (omega arith) (λ j m n. inl refl) }
+with_line_rel {W = W} {s = s} {t = t} {x = x} {y = y} kind g e = record { heap = g.heap; lines = line_added W.before s.lines t.lines kind x y g.lines e; host = g.host; built_ins = g.built_ins; shaped = shapes.lines_shaped s _ g.shaped; kept = kept_same g.kept refl (omega arith) (λ j m n. inl refl) }
 
 -- pages that agree for a naming that is larger
 pub record LaterRel (V : World) (s t : Store) : Type 0 where
@@ -62,9 +63,9 @@ pub record LaterRel (V : World) (s t : Store) : Type 0 where
   pub stores : StoreRel world s t
 
 pub finished_rel : {V : World} {o p : Outcome Signal} → OutcomeRel SignalRel V o p → LaterRel V (finished o) (finished p)
-finished_rel (ended W l (given h) g) = record { world = W; larger = l; stores = g }
-finished_rel (ended W l (thrown h) g) = record { world = W; larger = l; stores = with_line_rel Uncaught g (uncaught_text_same g h) }
-finished_rel (ended W l (return h) g) = record { world = W; larger = l; stores = g }
-finished_rel (ended W l break g) = record { world = W; larger = l; stores = g }
-finished_rel (ended W l continue g) = record { world = W; larger = l; stores = g }
-finished_rel (stopped W l g) = record { world = W; larger = l; stores = with_line_rel StoppedLine g refl }
+finished_rel (ended W l (given h) g) = record { world = W; larger = l; stores = settled_rel g }
+finished_rel (ended W l (thrown h) g) = record { world = W; larger = l; stores = with_line_rel Uncaught (settled_rel g) (uncaught_text_same g h) }
+finished_rel (ended W l (return h) g) = record { world = W; larger = l; stores = settled_rel g }
+finished_rel (ended W l break g) = record { world = W; larger = l; stores = settled_rel g }
+finished_rel (ended W l continue g) = record { world = W; larger = l; stores = settled_rel g }
+finished_rel (stopped W l g) = record { world = W; larger = l; stores = with_line_rel StoppedLine (settled_rel g) refl }

@@ -12,6 +12,7 @@ use Rattle.object_heap.specs.Environment.{Bound, value_of}
 use Rattle.object_heap.specs.declared.property.Prop.{Prop}
 use Rattle.page_meaning.specs.Functions.{entry_names, function_names, with_arguments, with_names}
 use Rattle.page_meaning.specs.Primitives.{bind_name, make_environment}
+use Rattle.page_meaning.specs.Steps.{in_heap}
 use Rattle.scope_analysis.specs.Names.{is_among}
 use Rattle.heap_relations.proofs.Callers.{is_some_same}
 use Rattle.heap_relations.proofs.Callers as heap
@@ -21,6 +22,7 @@ use Rattle.heap_relations.specs.Related.{Each, Entries, Links, Maybe, ValueRel, 
 use Rattle.object_heap.specs.Laws.{binds, opens}
 use Rattle.object_shapes.proofs.Callers as shapes
 use Rattle.object_shapes.proofs.Callers.{below_parts}
+use Rattle.agreement.proofs.HostsUp.{host_up}
 use Rattle.agreement.proofs.Constants.{not_done, kept_opened, kept_set, older_now, ready_up, set_up}
 use Rattle.agreement.proofs.Linked.{names_below, value_below}
 use Rattle.agreement.specs.Acts.{ActRel, Equal, ended, IsReady, IsSet, scope, StoreRel}
@@ -200,8 +202,9 @@ environment_rel bound constant fs e f names others o ready h same hidden below =
             (λ x k. not_copied (bound x) (constant x) k)
             (λ q. hidden (l.opens ∙ q));
         lines = g.lines;
+        host = host_up up refl g.host;
         built_ins = λ k few. heap.named_up up (g.built_ins k few);
-        shaped = shapes.step_shaped s (opens e names) g.heap.left g.shaped small;
+        shaped = shapes.step_shaped s (in_heap (opens e names) refl) g.heap.left g.shaped small;
         kept = kept_opened g.kept g.heap slot e names refl (heap.round_there g.heap (heap.round_up l o)).0 (older_now g.kept (ready_up l ready))
             (λ x c. value_of_below (length s.heap.objects) names x small)
             (λ x p c. held_some (value_of names x) (same x ∙ constant_bound (bound x) (constant x) c))
@@ -226,8 +229,9 @@ bound_rel {v = v} x own (enters s i h) is_free r = record {
       ended W heap.larger_same refl (record {
         heap = heap.name_set g.heap s x (l.slots s i) (subst (λ b. is_reserved b x ≡ false) l.opens own) is_free (heap.value_up l r);
         lines = g.lines;
+        host = g.host;
         built_ins = g.built_ins;
-        shaped = shapes.step_shaped t (binds s.one x v) g.heap.left g.shaped (value_below g (heap.value_up l r));
+        shaped = shapes.step_shaped t (in_heap (binds s.one x v) refl) g.heap.left g.shaped (value_below g (heap.value_up l r));
         kept = kept_set g.kept g.heap s (l.slots s i) x v (λ c. absurd (cc (sym is_free ∙ c)));
       });
 }

@@ -1,6 +1,7 @@
 -- The value of an expression, in both pages (section 11).
 use Rattle.std.proofs.Common.{◌≡◌, ℕ, suc, ◌+◌, ◌&&◌, true, List, [], ◌∷◌, ◌++◌, Some, None}
 use Rattle.agreement.proofs.Operands.{ContinuesAll, PartsRel, assign_all_rel, assign_with_all_rel, call_rel, calls_with, constructs_with, expr_parts, parts_stand, put_named_rel, target_parts, unary_rel, update_all_rel}
+use Rattle.agreement.proofs.HostPuts.{put_member_rel}
 use Rattle.std.proofs.lemmas.Bool.{and_parts}
 use Rattle.std.specs.Fmt.{decimal}
 use Rattle.js_core.specs.Tree as tree
@@ -29,7 +30,7 @@ use Rattle.agreement.proofs.Heap.{named_up, value_up, values_up}
 use Rattle.agreement.proofs.Made.{new_list_rel, new_plain_rel}
 use Rattle.agreement.proofs.Names.{here_up}
 use Rattle.agreement.proofs.Operators.{operate_rel}
-use Rattle.agreement.proofs.Properties.{define_member_rel, get_index_rel, get_member_rel, key_of_rel, put_in_rel, put_member_rel, with_properties_rel}
+use Rattle.agreement.proofs.Properties.{define_member_rel, get_index_rel, get_member_rel, key_of_rel, put_in_rel, with_properties_rel}
 use Rattle.agreement.proofs.Targets.{assign_name_rel, name_rel, read_at, target_at}
 use Rattle.agreement.proofs.Values.{give_rel, object_value_rel}
 
@@ -145,10 +146,10 @@ pub assign_to_rel : {V : World} {v w : Value} (c d : Calls) (around : Around) (n
     → ValueRel (named V) v w → Agrees V (assign_to c a t v) (assign_to d b (open_expr around n t) w)
 assign_to_rel c d around n fs a b (name x) calls h f r = assign_name_rel c d around fs a b x h f (target_at c d around fs a b x h f) r
 assign_to_rel c d around n fs a b (member e x) calls h f r =
-    also_rel (eval_rel c d around _ fs a b e calls h f) (λ W l v w s. also_rel (with_properties_rel s) (λ X j p q t. put_member_rel t x (value_up (larger_more l j) r)))
+    also_rel (eval_rel c d around _ fs a b e calls h f) (λ W l v w s. also_rel (with_properties_rel s) (λ X j p q t. put_member_rel c d t x (value_up (larger_more l j) r)))
 assign_to_rel c d around n fs a b (index e u) calls h f r =
     also_rel (eval_rel c d around _ fs a b e calls h (and_parts _ _ f).0) (λ W l v w s.
     also_rel (act_up l (eval_rel c d around _ fs a b u calls h (and_parts _ _ f).1)) (λ X j p q t.
-    also_rel (key_of_rel c d (value_up j s) t) (λ Y i x y k. put_named_rel (value_up (larger_more j i) s) k (value_up (larger_more l (larger_more j i)) r))))
+    also_rel (key_of_rel c d (value_up j s) t) (λ Y i x y k. put_named_rel c d (value_up (larger_more j i) s) k (value_up (larger_more l (larger_more j i)) r))))
 assign_to_rel c d around n fs a b (func (code x formals body)) calls h f r = give_rel r
 assign_to_rel c d around n fs a b e calls h f r = give_rel r

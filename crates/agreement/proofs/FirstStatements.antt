@@ -26,6 +26,7 @@ use Rattle.page_meaning.specs.Store.{Store, with_heap}
 use Rattle.page_meaning.specs.declared.reference.Reference.TheVariants as reference
 use Rattle.page_meaning.specs.declared.signal.Signal.{Signal}
 use Rattle.page_meaning.specs.declared.signal.Signal.TheVariants as signal
+use Rattle.page_meaning.specs.Steps.{in_heap}
 use Rattle.script_rules.specs.Form.{are_plain_fields, is_plain_value, is_zero}
 use Rattle.heap_relations.proofs.Callers as heap
 use Rattle.heap_relations.proofs.Callers.{larger_more, larger_same}
@@ -33,6 +34,7 @@ use Rattle.heap_relations.specs.Laws.{free_slot}
 use Rattle.heap_relations.specs.Naming.{Constant, Frame, In, Kept, Larger, Named, Round, Slot, World, env_id, here, inside, is_reserved, named, resolve, with_done, with_slot}
 use Rattle.heap_relations.specs.Related as related
 use Rattle.heap_relations.specs.Related.{Entries, ValueRel, object, undefined}
+use Rattle.agreement.proofs.HostsUp.{host_up}
 use Rattle.agreement.proofs.Acts.{also_rel, bind_rel, outcome_up, ret_rel}
 use Rattle.agreement.proofs.Closures.{among_same}
 use Rattle.agreement.proofs.Constants.{kept_done, kept_opened, kept_set, not_done, older_later, older_now, ready_up}
@@ -202,8 +204,9 @@ module _ (bound constant : List ℕ → Bool) (z : List ℕ) (is_bound : bound z
           let after : StoreRel X s4 t4 = record {
             heap = heap.constant_set g.heap slot z in_x (own j) kept_z r;
             lines = g.lines;
+            host = g.host;
             built_ins = g.built_ins;
-            shaped = shapes.step_shaped s3 (binds slot.one z v) g.heap.left g.shaped (and_from _ true (lt-ltb i (length s3.heap.objects) (heap.there g.heap named_there).0) refl);
+            shaped = shapes.step_shaped s3 (in_heap (binds slot.one z v) refl) g.heap.left g.shaped (and_from _ true (lt-ltb i (length s3.heap.objects) (heap.there g.heap named_there).0) refl);
             kept = kept_set g.kept g.heap slot in_x z v (λ e. sym known_z);
           }
           in
@@ -218,6 +221,7 @@ module _ (bound constant : List ℕ → Bool) (z : List ℕ) (is_bound : bound z
           let full : StoreRel (with_done X slot.one) s4 t4 = record {
             heap = heap.agree_same up refl refl after.heap;
             lines = after.lines;
+            host = host_up up refl after.host;
             built_ins = λ k small. named_up up (after.built_ins k small);
             shaped = after.shaped;
             kept = kept_done after.kept slot in_x (λ y k e. after.heap.slots.one_slot y slot k in_x e) held
@@ -318,8 +322,9 @@ module _ (bound constant : List ℕ → Bool) (z : List ℕ) (is_bound : bound z
                 (λ x k. not_copied (bound x) (constant x) k)
                 (λ q. absurd (cc (sym shut ∙ l.opens ∙ q)));
             lines = g.lines;
+            host = host_up up refl g.host;
             built_ins = λ k few. named_up up (g.built_ins k few);
-            shaped = shapes.step_shaped s (opens e names) g.heap.left g.shaped small;
+            shaped = shapes.step_shaped s (in_heap (opens e names) refl) g.heap.left g.shaped small;
             kept = kept_opened g.kept g.heap slot e names refl (heap.round_there g.heap (heap.round_up l o)).0 (older_later (older_now g.kept (ready_up l ready)))
                 (λ x k. known_below i names x small)
                 (λ x p k. known_held i names x p (same x ∙ constant_bound (bound x) (constant x) k))

@@ -1,5 +1,5 @@
 -- What the prototype of functions has, and the text of an array (sections 15.3.4 and 15.4.4.2).
-use Rattle.std.proofs.Common.{◌≡◌, refl, ap, subst, ◌∙◌, ℕ, zero, suc, ◌-◌, ◌<◌, Bool, true, false, List, [], length, codes, arith}
+use Rattle.std.proofs.Common.{◌≡◌, refl, ap, subst, ◌∙◌, ℕ, zero, suc, ◌-◌, ◌≤◌, Bool, true, false, List, [], length, codes, arith}
 use Rattle.js_values.specs.declared.built_in.BuiltIn.{BuiltIn}
 use Rattle.js_values.specs.declared.built_in.BuiltIn.TheVariants as built_in
 use Rattle.js_values.specs.declared.ids.ObjId.{ObjId}
@@ -71,7 +71,7 @@ apply_function_rel c d calls h hs =
 
 -- ---- bound functions
 
-function_prototype_below : function_prototype.0 < built_in_count
+function_prototype_below : function_prototype.0 ≤ built_in_count
 unfolding built_in_count
 function_prototype_below = omega arith
 
@@ -97,7 +97,7 @@ bind_to_now : {W : World} {s t : Store} {this that : Value} {vs ws : List Value}
 bind_to_now {s = s} {t = t} {this = this} {that = that} {vs = vs} {ws = ws} k g a b n h hs callable =
     let i = length_of a s in
     let j = length_of b t in
-    then_rel (made_now k g (bound_object a this vs i) (bound_object b that ws j) (bound_fit a this vs i) (bound_fit b that ws j)
+    then_rel (made_now k g (bound_object a this vs i) (bound_object b that ws j) (bound_fit a this vs i) (bound_fit b that ws j) refl refl
     (bound_object_rel a b n h hs i j (length_of_same g a b n) g.built_ins) refl refl (refl, record { others = []; are = refl }, callable))
     (λ X j p q r. give_rel (object_value_rel p q r))
 
@@ -124,7 +124,7 @@ bind_function_rel {f = value.Object a} {g = value.Object b} (object n) hs = reco
 
 -- ---- the text of an array
 
-text_place : (function_at built_in.ObjectPrototypeToString).0 < built_in_count
+text_place : (function_at built_in.ObjectPrototypeToString).0 ≤ built_in_count
 unfolding function_place built_in_count
 text_place = omega arith
 

@@ -1,5 +1,6 @@
 -- Functions of both pages, how they are made and entered (sections 10.4.3, 10.5, 13 and 13.2).
-use Rattle.std.proofs.Common.{◌≡◌, refl, sym, ap, ◌∙◌, ℕ, suc, ◌<◌, ◌&&◌, true, List, [], ◌∷◌, length, Option, Some, None, arith, ◌+◌, Bool, false, subst, nat_lt, length-append, not, bytes_eq, if◌then◌else◌}
+use Rattle.std.proofs.Common.{◌≡◌, refl, sym, ap, ◌∙◌, ℕ, suc, ◌<◌, ◌≤◌, ◌&&◌, true, List, [], ◌∷◌, length, Option, Some, None, arith, ◌+◌, Bool, false, subst, nat_lt, length-append, not, bytes_eq, if◌then◌else◌}
+use Rattle.agreement.proofs.HostsUp.{host_up}
 use Rattle.agreement.proofs.Declared.{tops_passed}
 use Rattle.instrumenter.specs.Counting.{stmt_scopes}
 use Rattle.object_heap.specs.Object.{settled}
@@ -22,7 +23,7 @@ use Rattle.js_values.specs.declared.throw.Throw.TheVariants.{CannotDefine}
 use Rattle.js_values.specs.declared.value.Value.TheVariants.{Undefined}
 use Rattle.object_heap.specs.declared.object.Class.TheVariants.{Page}
 use Rattle.object_heap.specs.declared.property.Prop.{Prop}
-use Rattle.page_meaning.specs.Functions.{call_end, close_over, declare_globals, define_global, function_place, global_variables, make_function, own_global, script_property, variable_place, function_fit, function_object, function_steps, prototype_fit, prototype_object}
+use Rattle.page_meaning.specs.Functions.{call_end, close_over, declare_globals, define_global, take_function, global_variables, make_function, own_global, script_property, take_variable, function_fit, function_object, function_steps, prototype_fit, prototype_object}
 use Rattle.page_meaning.specs.Names.{Here}
 use Rattle.page_meaning.specs.Places.{function_prototype, object_prototype, window}
 use Rattle.page_meaning.specs.Store.{Store, with_heap}
@@ -43,6 +44,7 @@ use Rattle.agreement.proofs.Properties.{put_in_rel}
 use Rattle.agreement.proofs.Values.{done_rel, give_rel, object_value_rel, raise_rel, unless_rel}
 use Rattle.object_shapes.proofs.Callers as shapes
 use Rattle.page_meaning.specs.Places.{built_in_count}
+use Rattle.page_meaning.specs.Steps.{in_heap}
 use Rattle.object_shapes.specs.Links.{all_below, value_links}
 use Rattle.agreement.specs.Acts as acts
 use Rattle.agreement.specs.Acts.{ActRel, Agrees, AreKept, Ids, IsOlder, IsReady, SignalRel, StoreRel, break, continue, ended, return, scope_older, thrown, value}
@@ -50,11 +52,11 @@ use Rattle.agreement.specs.Trees.{frame_of, free_where}
 
 -- ---- functions are made
 
-pub function_prototype_place : function_prototype.0 < built_in_count
+pub function_prototype_place : function_prototype.0 ≤ built_in_count
 unfolding built_in_count
 function_prototype_place = omega arith
 
-pub window_place : window.0 < built_in_count
+pub window_place : window.0 ≤ built_in_count
 unfolding built_in_count
 window_place = omega arith
 
@@ -79,6 +81,7 @@ make_function_rel n fs x formals body opened e f trees same o older stands = rec
             })) refl
             (some (record { linked = g.built_ins function_prototype.0 function_prototype_place })) (some (record { linked = g.built_ins object_prototype.0 object_place }));
         lines = g.lines;
+        host = host_up up refl g.host;
         built_ins = λ k small. heap.named_up up (g.built_ins k small);
         shaped = shapes.function_shaped s (code x formals body) e g.heap.left g.shaped;
         kept = kept_function g.kept b (code x formals body) e (λ i j n. (g.heap.objects.inside i j n).0) (older W l s t g);
@@ -149,15 +152,16 @@ own_rel_opened n fs x formals body opened e f trees same o ready own stands = re
       let h1 = after_step s.heap (opens e ((x, Undefined) ∷ [])) in
       let sound1 = sound_opened s.heap g.heap.left e ((x, Undefined) ∷ []) in
       let h2 = functions_after h1 c (Some env) in
-      let shaped1 = shapes.step_shaped s (opens e ((x, Undefined) ∷ [])) g.heap.left g.shaped refl in
+      let shaped1 = shapes.step_shaped s (in_heap (opens e ((x, Undefined) ∷ [])) refl) g.heap.left g.shaped refl in
       let shaped2 = shapes.function_shaped (with_heap s h1) c (Some env) sound1 shaped1 in
       let below : all_below (length h2.objects) (value_links (heap.scope_value a)) ≡ true = place_below a (length h2.objects) (functions_longer h1 c (Some env)) in
-      let shaped3 = shapes.step_shaped (with_heap s h2) (binds env.0 x (heap.scope_value a)) (functions_sound h1 c (Some env) sound1) shaped2 below in
+      let shaped3 = shapes.step_shaped (with_heap s h2) (in_heap (binds env.0 x (heap.scope_value a)) refl) (functions_sound h1 c (Some env) sound1) shaped2 below in
       ended (with_own W s.heap t.heap x fs) up
       (value (related.object (heap.named_up (heap.larger_slot slot) (heap.named_up (heap.larger_object {W = with_object W a b} (suc a) (suc b)) (heap.named_object {W = W} a b)))))
       (record {
         heap = rw (left, right) made;
         lines = g.lines;
+        host = host_up up refl g.host;
         built_ins = λ k small. heap.named_up up (g.built_ins k small);
         shaped = shaped3;
         kept = rw left (kept_own g e f x fs formals body (heap.round_up l o) (ready_up l ready));
@@ -238,15 +242,15 @@ script_property_rel = record { value = some undefined; writable = refl; enumerab
 define_global_rel : {V : World} (x : List ℕ) → Agrees V (define_global x) (define_global x)
 define_global_rel x = on_built_ins (λ U i there. unless_rel (define_at_rel window window x (script_property Undefined) (script_property Undefined) (there window.0 window_place) script_property_rel) (λ W l. done_rel))
 
-function_place_rel : {V : World} {p q : Option Prop} (x : List ℕ) → Maybe (PropRel (named V)) p q → Agrees V (function_place x p) (function_place x q)
-function_place_rel x none = define_global_rel x
-function_place_rel x (some {a = p} {b = q} h) =
+take_function_rel : {V : World} {p q : Option Prop} (x : List ℕ) → Maybe (PropRel (named V)) p q → Agrees V (take_function x p) (take_function x q)
+take_function_rel x none = define_global_rel x
+take_function_rel x (some {a = p} {b = q} h) =
     choose_rel p.configurable q.configurable h.configurable (define_global_rel x)
     (choose_rel (p.writable && p.enumerable) (q.writable && q.enumerable) (ap (λ c. c && p.enumerable) h.writable ∙ ap (λ c. q.writable && c) h.enumerable) done_rel (raise_rel CannotDefine))
 
-variable_place_rel : {V : World} {p q : Option Prop} (x : List ℕ) → Maybe (PropRel (named V)) p q → Agrees V (variable_place x p) (variable_place x q)
-variable_place_rel x none = define_global_rel x
-variable_place_rel x (some h) = done_rel
+take_variable_rel : {V : World} {p q : Option Prop} (x : List ℕ) → Maybe (PropRel (named V)) p q → Agrees V (take_variable x p) (take_variable x q)
+take_variable_rel x none = define_global_rel x
+take_variable_rel x (some h) = done_rel
 
 own_global_rel : {W : World} {s t : Store} (x : List ℕ) → StoreRel W s t → Maybe (PropRel (named W)) (own_global x s) (own_global x t)
 own_global_rel x g = own_rel g window.0 window.0 (g.built_ins window.0 window_place) x
@@ -266,7 +270,7 @@ declare_globals_rel (then_stmt (function (code (Some x) formals body)) ss) k n t
     let both = and_parts (stmt_stands trees.demand n [] c) (stmts_stand trees.demand (n + stmt_scopes c) [] ss) e in
     let one = and_parts (are_plain trees.demand.opens (x ∷ [])) (function_stands trees.demand n [] (code None formals body)) both.0 in
     bind_rel (make_function_rel n [] None formals body _ None None trees (declared_code k n trees.demand.opens [] formals body same fields) outermost (all_older ready_outermost) one.1) (λ W l i m o.
-    also_rel (asking_rel {R = λ W. Maybe (PropRel (named W))} (λ X j s t g. own_global_rel x g) (λ X j p q r. function_place_rel x r)) (λ X j v w r.
+    also_rel (asking_rel {R = λ W. Maybe (PropRel (named W))} (λ X j s t g. own_global_rel x g) (λ X j p q r. take_function_rel x r)) (λ X j v w r.
     also_rel (on_built_ins (λ U i there. put_in_rel window window (there window.0 window_place) x (object_value_rel _ m (named_up (larger_more j i) o)))) (λ Y i y z u.
     declare_globals_rel ss k (n + stmt_scopes c) (trees_up (larger_more l (larger_more j i)) trees) same fields both.1)))
 declare_globals_rel {V = V} (then_stmt s ss) k n trees same fields e =
@@ -276,4 +280,4 @@ declare_globals_rel {V = V} (then_stmt s ss) k n trees same fields e =
 pub global_variables_rel : {V : World} (xs : List (List ℕ)) → Agrees V (global_variables xs) (global_variables xs)
 global_variables_rel [] = done_rel
 global_variables_rel (x ∷ xs) =
-    also_rel (asking_rel {R = λ W. Maybe (PropRel (named W))} (λ W l s t g. own_global_rel x g) (λ W l p q r. variable_place_rel x r)) (λ W l v w r. global_variables_rel xs)
+    also_rel (asking_rel {R = λ W. Maybe (PropRel (named W))} (λ W l s t g. own_global_rel x g) (λ W l p q r. take_variable_rel x r)) (λ W l v w r. global_variables_rel xs)

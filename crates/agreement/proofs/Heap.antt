@@ -1,12 +1,14 @@
 -- What is read of two pages that agree, and what is done to both.
-use Rattle.std.proofs.Common.{◌≡◌, inl, refl, sym, ap, ◌∙◌, ℕ, zero, suc, List, [], ◌∷◌, ◌++◌, length, Option, false, append_assoc, arith}
+use Rattle.std.proofs.Common.{◌≡◌, inl, refl, sym, ap, ◌∙◌, ℕ, zero, suc, Bool, true, false, List, [], ◌∷◌, ◌++◌, length, Option, append_assoc, arith, if◌then◌else◌}
 use Rattle.js_values.specs.declared.ids.ObjId.{ObjId}
 use Rattle.js_values.specs.declared.line.Line.{Line}
 use Rattle.js_values.specs.declared.line.LineKind.{LineKind}
 use Rattle.js_values.specs.declared.throw.Throw.{Throw}
 use Rattle.js_values.specs.declared.value.Value.{Value}
-use Rattle.object_heap.specs.Attempt.{Attempt}
+use Rattle.js_values.specs.declared.throw.Throw.TheVariants.{CannotDefine, CannotSet}
+use Rattle.object_heap.specs.Attempt.{Attempt, throws}
 use Rattle.object_heap.specs.Chain.{get, get_property, object_at}
+use Rattle.object_heap.specs.Heap as heaps
 use Rattle.object_heap.specs.Heap.{Contents, IsFit}
 use Rattle.object_heap.proofs.Callers.{kinds_steps}
 use Rattle.object_heap.specs.Laws.{IsSameKind, Step, after_step, defines, deletes, makes, prevents, puts}
@@ -16,7 +18,10 @@ use Rattle.object_heap.specs.declared.object.Class.{Class}
 use Rattle.object_heap.specs.declared.property.Change.{Change}
 use Rattle.object_heap.specs.declared.property.Prop.{Prop}
 use Rattle.page_meaning.specs.Act.{Outcome}
+use Rattle.page_meaning.specs.Classes.{class_at, is_made}
+use Rattle.page_meaning.specs.HostNames.{is_kept}
 use Rattle.page_meaning.specs.Primitives.{define_at, delete_at, make, one_less, prevent_at, put_at, put_line, stop, take_step, tells}
+use Rattle.page_meaning.specs.Steps as page
 use Rattle.page_meaning.specs.Store.{Store, with_heap}
 use Rattle.heap_relations.proofs.Callers as heap
 use Rattle.heap_relations.specs.Naming.{Agree, Before, Larger, Named, named, with_object, World}
@@ -24,6 +29,8 @@ use Rattle.heap_relations.specs.Related.{AttemptRel, ChangeRel, ClassRel, Each, 
 use Rattle.object_shapes.proofs.Callers as shapes
 use Rattle.object_shapes.specs.Shapes.{HasShape, IsShaped}
 use Rattle.agreement.proofs.Constants.{define_rest, delete_rest, is_page, kept_other, kept_same, prevent_rest, put_rest}
+use Rattle.agreement.proofs.HostReads.{is_kept_same}
+use Rattle.agreement.proofs.HostsUp.{host_up}
 use Rattle.agreement.proofs.Linked.{object_new, some_below, value_below}
 use Rattle.agreement.specs.Acts.{ActRel, AddedRel, AreKept, Equal, Ids, OutcomeRel, Relation, StoreRel, ended, stopped}
 
@@ -90,7 +97,7 @@ line_added b xs ys kind x y h e = record {
 pub put_line_rel : {V : World} (kind : LineKind) {f g : Store → List ℕ} → ((W : World) → Larger V W → (s t : Store) → StoreRel W s t → f s ≡ g t) → ActRel (Equal {A = Unit {0}}) V (put_line kind f) (put_line kind g)
 put_line_rel kind {f = f} {g = g} h = record {
   run = λ W l s t n r.
-      ended W heap.larger_same refl (record { heap = r.heap; lines = line_added W.before s.lines t.lines kind (f s) (g t) r.lines (h W l s t r); built_ins = r.built_ins; shaped = shapes.lines_shaped s _ r.shaped; kept = kept_same r.kept refl (omega arith) (λ j m n. inl refl) });
+      ended W heap.larger_same refl (record { heap = r.heap; lines = line_added W.before s.lines t.lines kind (f s) (g t) r.lines (h W l s t r); host = r.host; built_ins = r.built_ins; shaped = shapes.lines_shaped s _ r.shaped; kept = kept_same r.kept refl (omega arith) (λ j m n. inl refl) });
 }
 
 -- a step of the left keeps the kinds of objects
@@ -100,31 +107,48 @@ kinds_kept {s = s} g step j m n = (kinds_steps s.heap (step ∷ []) j (heap.ther
 -- what is tried on both heaps leaves them in agreement, and throws the same
 tried : {W : World} {s t : Store} {n : ℕ} {x y : Attempt Contents} → StoreRel W s t → AttemptRel (Agree W) x y → IsShaped (with_heap s x.after) → AreKept W (with_heap s x.after)
     → OutcomeRel (Equal {A = Option Throw}) W (Outcome.Ended x.thrown (with_heap s x.after) n) (Outcome.Ended y.thrown (with_heap t y.after) n)
-tried g h shaped kept = ended _ heap.larger_same h.thrown (record { heap = h.after; lines = g.lines; built_ins = g.built_ins; shaped = shaped; kept = kept })
+tried g h shaped kept = ended _ heap.larger_same h.thrown (record { heap = h.after; lines = g.lines; host = g.host; built_ins = g.built_ins; shaped = shaped; kept = kept })
+
+-- where something is kept on both sides, the same is thrown, and else both try
+module _ {W : World} {s t : Store} (g : StoreRel W s t) where
+  kept_or_tried : (e : Throw) (b c : Bool) {x y : Attempt Contents} → b ≡ c → AttemptRel (Agree W) x y
+      → AttemptRel (Agree W) (if b then throws s.heap e else x) (if c then throws t.heap e else y)
+  kept_or_tried e true true same h = record { after = g.heap; thrown = refl }
+  kept_or_tried e false false same h = h
+  kept_or_tried e true false same h = absurd (cc same)
+  kept_or_tried e false true same h = absurd (cc same)
+
+  rest_kept : (e : Throw) (b : Bool) (x : Attempt Contents) → AreKept W (with_heap s x.after) → AreKept W (with_heap s (if b then throws s.heap e else x).after)
+  rest_kept e true x h = kept_same g.kept refl (omega arith) (λ j m n. inl refl)
+  rest_kept e false x h = h
 
 pub put_at_rel : {V : World} (a b : ObjId) (x : List ℕ) (v w : Value) → Named V a.0 b.0 → ValueRel (named V) v w → ActRel (Equal {A = Option Throw}) V (put_at a x v) (put_at b x w)
 put_at_rel a b x v w n r = record {
-  run = λ W l s t m g. tried g (heap.put_tried g.heap (heap.named_up l n) x (heap.value_up l r))
-      (shapes.step_shaped s (puts a.0 x v) g.heap.left g.shaped (value_below g (heap.value_up l r)))
-      (let rest = put_rest s.heap a.0 x v in kept_same g.kept rest.0 rest.1 (kinds_kept g (puts a.0 x v)));
+  run = λ W l s t m g.
+      let there = heap.named_up l n in
+      tried g (kept_or_tried g CannotSet _ _ (is_kept_same g x (heap.class_read g.heap there)) (heap.put_tried g.heap there x (heap.value_up l r)))
+      (shapes.step_shaped s (page.puts a x v) g.heap.left g.shaped (value_below g (heap.value_up l r)))
+      (let rest = put_rest s.heap a.0 x v in rest_kept g CannotSet (is_kept s.host.nodes (class_at s a) x) (heaps.put s.heap a.0 x v) (kept_same g.kept rest.0 rest.1 (kinds_kept g (puts a.0 x v))));
 }
 
 pub define_at_rel : {V : World} (a b : ObjId) (x : List ℕ) (c d : Change) → Named V a.0 b.0 → ChangeRel (named V) c d → ActRel (Equal {A = Option Throw}) V (define_at a x c) (define_at b x d)
 define_at_rel a b x c d n r = record {
-  run = λ W l s t m g. tried g (heap.define_tried g.heap (heap.named_up l n) x (heap.change_up l r))
-      (shapes.step_shaped s (defines a.0 x c) g.heap.left g.shaped (some_below g (heap.change_up l r).value))
-      (let rest = define_rest s.heap a.0 x c in kept_same g.kept rest.0 rest.1 (kinds_kept g (defines a.0 x c)));
+  run = λ W l s t m g.
+      let there = heap.named_up l n in
+      tried g (kept_or_tried g CannotDefine _ _ (is_kept_same g x (heap.class_read g.heap there)) (heap.define_tried g.heap there x (heap.change_up l r)))
+      (shapes.step_shaped s (page.defines a x c) g.heap.left g.shaped (some_below g (heap.change_up l r).value))
+      (let rest = define_rest s.heap a.0 x c in rest_kept g CannotDefine (is_kept s.host.nodes (class_at s a) x) (heaps.define_own s.heap a.0 x c) (kept_same g.kept rest.0 rest.1 (kinds_kept g (defines a.0 x c))));
 }
 
 pub delete_at_rel : {V : World} (a b : ObjId) (x : List ℕ) → Named V a.0 b.0 → ActRel (Equal {A = Option Throw}) V (delete_at a x) (delete_at b x)
 delete_at_rel a b x n = record {
-  run = λ W l s t m g. tried g (heap.delete_tried g.heap (heap.named_up l n) x) (shapes.step_shaped s (deletes a.0 x) g.heap.left g.shaped tt)
+  run = λ W l s t m g. tried g (heap.delete_tried g.heap (heap.named_up l n) x) (shapes.step_shaped s (page.in_heap (deletes a.0 x) refl) g.heap.left g.shaped tt)
       (let rest = delete_rest s.heap a.0 x in kept_same g.kept rest.0 rest.1 (kinds_kept g (deletes a.0 x)));
 }
 
 pub prevent_at_rel : {V : World} (a b : ObjId) → Named V a.0 b.0 → ActRel (Equal {A = Option Throw}) V (prevent_at a) (prevent_at b)
 prevent_at_rel a b n = record {
-  run = λ W l s t m g. tried g (heap.prevent_tried g.heap (heap.named_up l n)) (shapes.step_shaped s (prevents a.0) g.heap.left g.shaped tt)
+  run = λ W l s t m g. tried g (heap.prevent_tried g.heap (heap.named_up l n)) (shapes.step_shaped s (page.in_heap (prevents a.0) refl) g.heap.left g.shaped tt)
       (let rest = prevent_rest s.heap a.0 in kept_same g.kept rest.0 rest.1 (kinds_kept g (prevents a.0)));
 }
 
@@ -142,20 +166,22 @@ target_rel (node h) = none
 target_rel (event h) = none
 
 -- in two pages that agree
-pub made_now : {W : World} {s t : Store} (n : ℕ) → StoreRel W s t → (o p : Object) (f : IsFit o) (g : IsFit p) → ObjectRel (named W) o p → o.closed ≡ false → is_page o.class ≡ false → HasShape s o o.class
-    → OutcomeRel Ids W ((make o f).run s n) ((make p g).run t n)
-made_now {W = W} {s = s} {t = t} n h o p f g r not_closed other shape =
+pub made_now : {W : World} {s t : Store} (n : ℕ) → StoreRel W s t → (o p : Object) (f : IsFit o) (g : IsFit p) (i : is_made o.class ≡ true) (j : is_made p.class ≡ true) → ObjectRel (named W) o p
+    → o.closed ≡ false → is_page o.class ≡ false → HasShape s o o.class → OutcomeRel Ids W ((make o f i).run s n) ((make p g j).run t n)
+made_now {W = W} {s = s} {t = t} n h o p f g made _ r not_closed other shape =
     let i = length s.heap.objects in
     let j = length t.heap.objects in
-    ended (with_object W i j) (heap.larger_object i j) (heap.named_object i j) (record {
-      heap = heap.objects_made W s.heap t.heap o p h.heap f g (heap.object_up (heap.larger_object i j) r) r.proto (target_rel r.class);
+    let up = heap.larger_object {W = W} i j in
+    ended (with_object W i j) up (heap.named_object i j) (record {
+      heap = heap.objects_made W s.heap t.heap o p h.heap f g (heap.object_up up r) r.proto (target_rel r.class);
       lines = h.lines;
-      built_ins = λ k small. heap.named_up (heap.larger_object i j) (h.built_ins k small);
-      shaped = shapes.step_shaped s (makes o f) h.heap.left h.shaped (object_new h o p r not_closed shape);
+      host = host_up up refl h.host;
+      built_ins = λ k small. heap.named_up up (h.built_ins k small);
+      shaped = shapes.step_shaped s (page.in_heap (makes o f) made) h.heap.left h.shaped (object_new h o p r not_closed shape);
       kept = kept_other h.kept j o other (λ c d n. (h.heap.objects.inside c d n).0);
     })
 
 -- an object that has its shape in whichever page it is made
-pub make_rel : {V : World} (o p : Object) (f : IsFit o) (g : IsFit p) → ObjectRel (named V) o p → o.closed ≡ false → is_page o.class ≡ false
-    → ((W : World) → Larger V W → (s t : Store) → StoreRel W s t → HasShape s o o.class) → ActRel Ids V (make o f) (make p g)
-make_rel o p f g r not_closed other shape = record { run = λ W l s t m h. made_now m h o p f g (heap.object_up l r) not_closed other (shape W l s t h) }
+pub make_rel : {V : World} (o p : Object) (f : IsFit o) (g : IsFit p) (i : is_made o.class ≡ true) (j : is_made p.class ≡ true) → ObjectRel (named V) o p → o.closed ≡ false → is_page o.class ≡ false
+    → ((W : World) → Larger V W → (s t : Store) → StoreRel W s t → HasShape s o o.class) → ActRel Ids V (make o f i) (make p g j)
+make_rel o p f g i j r not_closed other shape = record { run = λ W l s t m h. made_now m h o p f g i j (heap.object_up l r) not_closed other (shape W l s t h) }

@@ -90,11 +90,11 @@ one_declared_rel d that n x formals body opened trees (as_field keeps scoped) (e
       let k = l.slots s i in
       let field : IsField W x s = record { there = k; held = keeps; own = reserved_up x l own } in
       let mk = make_function_rel n (s.frame ∷ s.round) None formals body opened (Some (env_id s.one)) (Some (env_id s.two)) (trees_up l trees) same (inside s k) (all_older (scope s k (set_up l s ready))) stands in
-      let both = also_rel {f = λ v. done} {g = λ v. done} (also_rel {f = assigned (write x (reference.Environment (env_id s.one)))} {g = assigned (put_member (scope_value s.place) x)} (made_rel mk)
-      (λ X j v w r. also_rel (write_field_rel x s (record { there = j.slots s k; held = keeps; own = reserved_up x j field.own }) r) (λ Y z a c e. give_rel (value_up z r)))) (λ X j v w r. done_rel)
+      let both = also_rel {f = λ v. done} {g = λ v. done} (also_rel {f = assigned (write x (reference.Environment (env_id s.one)))} {g = assigned (put_member d (scope_value s.place) x)} (made_rel mk)
+      (λ X j v w r. also_rel (write_field_rel d x s (record { there = j.slots s k; held = keeps; own = reserved_up x j field.own }) r) (λ Y z a c e. give_rel (value_up z r)))) (λ X j v w r. done_rel)
       in
       let found = heap.scope_found g.heap s k scoped (sym l.opens ∙ opens) in
-      let right = ap (λ a. then_on (then_on a (on_value (λ base. also (with_properties base) (λ y. also (eval d b (func (code None formals opened))) (assigned (put_member y x)))))) (on_value (λ v. done)))
+      let right = ap (λ a. then_on (then_on a (on_value (λ base. also (with_properties base) (λ y. also (eval d b (func (code None formals opened))) (assigned (put_member d y x)))))) (on_value (λ v. done)))
       (name_run d b u m (scope_name s.frame.number) (env_id s.two) (scope_value s.place) g.heap.right.environments found)
       in
       rw right (both.run W larger_same t u m g);

@@ -14,7 +14,7 @@ use Rattle.heap_relations.specs.Naming.{Named, named, World}
 use Rattle.heap_relations.specs.Related.{ClassRel, Each, Entries, Maybe, ObjectIds, ObjectRel, PropRel, ValueRel, array, bound, each, entry, event, fault, math, native, no_entries, no_more, node, none, null, num, object, page, plain, some, text, truth, undefined, window}
 use Rattle.object_shapes.proofs.Callers.{below_join}
 use Rattle.object_shapes.specs.Laws.{IsNew, ValueBelow}
-use Rattle.object_shapes.specs.Links.{all_below, bound_links, made_links, parts_links, props_links, proto_links, value_links, values_links}
+use Rattle.object_shapes.specs.Links.{all_below, bound_links, event_links, made_links, parts_links, props_links, proto_links, value_links, values_links}
 use Rattle.object_shapes.specs.Shapes.{HasShape}
 use Rattle.agreement.specs.Acts.{StoreRel}
 
@@ -65,12 +65,24 @@ module _ {W : World} {s t : Store} (g : StoreRel W s t) where
   parts_below (node h) = refl
   parts_below (event h) = refl
 
+  event_below : {c d : Class} → ClassRel (named W) c d → all_below (length s.heap.objects) (event_links c) ≡ true
+  event_below plain = refl
+  event_below array = refl
+  event_below (page h) = refl
+  event_below native = refl
+  event_below (bound n h hs) = refl
+  event_below fault = refl
+  event_below math = refl
+  event_below window = refl
+  event_below (node h) = refl
+  event_below (event {p = p} h) = below_join (length s.heap.objects) (proto_links p.target) (proto_links p.current) (proto_below h.target) (proto_below h.current)
+
   -- an object that is made on both sides
   pub object_new : (o p : Object) → ObjectRel (named W) o p → o.closed ≡ false → HasShape s o o.class → IsNew s o
   object_new o p r open_one shape = record {
-    there = below_join (length s.heap.objects) (made_links o) (props_links o.props)
+    there = below_join (length s.heap.objects) (made_links o) (event_links o.class ++ props_links o.props)
         (below_join (length s.heap.objects) (proto_links o.proto) (parts_links o.class) (proto_below r.proto) (parts_below r.class))
-        (props_below r.props);
+        (below_join (length s.heap.objects) (event_links o.class) (props_links o.props) (event_below r.class) (props_below r.props));
     made = shape;
     not_closed = open_one;
   }

@@ -1,5 +1,5 @@
 -- Loops of acts that agree (section 12.6).
-use Rattle.std.proofs.Common.{◌≡◌, refl, ap, subst, ◌∙◌, ℕ, zero, suc, ◌<◌, ◌&&◌, Bool, true, false, not, List, [], ◌∷◌, ◌++◌, map, Option, Some, if◌then◌else◌, bytes_eq, arith}
+use Rattle.std.proofs.Common.{◌≡◌, refl, ap, subst, ◌∙◌, ℕ, zero, suc, ◌<◌, ◌≤◌, ◌&&◌, Bool, true, false, not, List, [], ◌∷◌, ◌++◌, map, Option, Some, if◌then◌else◌, bytes_eq, arith}
 use Rattle.std.specs.List.{list_any}
 use Rattle.std.specs.Map.{keys_of}
 use Rattle.std.specs.Option.{ForSome}
@@ -7,6 +7,7 @@ use Rattle.js_values.specs.declared.ids.ObjId.{ObjId}
 use Rattle.js_values.specs.declared.value.Value.{Value}
 use Rattle.js_values.specs.declared.value.Value.TheVariants as value
 use Rattle.object_heap.specs.Chain.{AreOlder, object_at}
+use Rattle.object_heap.specs.Define.{length_name}
 use Rattle.object_heap.specs.Object as heap
 use Rattle.object_heap.specs.Property.{Props}
 use Rattle.page_meaning.specs.Act.{Act}
@@ -106,7 +107,7 @@ listed_up_rel g seen a b n =
         let same : a.0 ≡ b.0 = cc e in
         omega (arith, same)
 
-built_in_up : {W : World} {s t : Store} → StoreRel W s t → (seen : List (List ℕ)) (at : ObjId) → at.0 < built_in_count → ListedRel W (listed_up s seen (Some at)) (listed_up t seen (Some at))
+built_in_up : {W : World} {s t : Store} → StoreRel W s t → (seen : List (List ℕ)) (at : ObjId) → at.0 ≤ built_in_count → ListedRel W (listed_up s seen (Some at)) (listed_up t seen (Some at))
 built_in_up g seen at h = listed_up_rel g seen at at (g.built_ins at.0 h)
 
 pub listed_of_rel : {W : World} {s t : Store} {v w : Value} → StoreRel W s t → ValueRel (named W) v w → ListedRel W (listed_of s v) (listed_of t w)
@@ -114,7 +115,7 @@ listed_of_rel g undefined = no_more
 listed_of_rel g null = no_more
 listed_of_rel g truth = built_in_up g [] (at_place boolean_prototype_place) boolean_place
 listed_of_rel g num = built_in_up g [] (at_place number_prototype_place) number_place
-listed_of_rel {v = value.Text t} g text = each_append (unit_names_rel 0 t) (built_in_up g (map (λ p. p.1) (unit_names 0 t)) (at_place string_prototype_place) string_place)
+listed_of_rel {v = value.Text t} g text = each_append (unit_names_rel 0 t) (built_in_up g (length_name ∷ map (λ p. p.1) (unit_names 0 t)) (at_place string_prototype_place) string_place)
 listed_of_rel {v = value.Object a} {w = value.Object b} g (object n) = listed_up_rel g [] a b n
 
 -- ---- for-in

@@ -1,5 +1,5 @@
 -- References to names of both pages (sections 8.7 and 10.2.2.1).
-use Rattle.std.proofs.Common.{◌≡◌, refl, sym, ap, subst, ◌∙◌, ℕ, ◌<◌, Bool, true, false, not, List, Option, Some, None, arith}
+use Rattle.std.proofs.Common.{◌≡◌, refl, sym, ap, subst, ◌∙◌, ℕ, ◌≤◌, Bool, true, false, not, List, Option, Some, None, arith}
 use Rattle.std.proofs.lemmas.Bool.{and_parts, not-true}
 use Rattle.js_values.specs.declared.ids.EnvId.{EnvId}
 use Rattle.js_values.specs.declared.throw.Throw.TheVariants.{NotDefined}
@@ -23,6 +23,7 @@ use Rattle.heap_relations.specs.Related.{Maybe, ValueRel, none, some, undefined}
 use Rattle.object_heap.specs.Laws.{binds}
 use Rattle.object_shapes.proofs.Callers as shapes
 use Rattle.page_meaning.specs.Places.{built_in_count}
+use Rattle.page_meaning.specs.Steps.{in_heap}
 use Rattle.agreement.proofs.Constants.{kept_set, ready_up}
 use Rattle.agreement.proofs.Linked.{value_below}
 use Rattle.agreement.specs.Acts.{ActRel, Agrees, Continues, Equal, OutcomeRel, SignalRel, StoreRel, ended}
@@ -57,7 +58,7 @@ here_up l h = record { trees = trees_up l h.trees; opens = h.opens; fields = h.f
 
 -- ---- the object that has the globals
 
-window_place : window.0 < built_in_count
+window_place : window.0 ≤ built_in_count
 unfolding built_in_count
 window_place = omega arith
 
@@ -94,8 +95,8 @@ found_rel : {V : World} {ps : List Object} {look : List ℕ → Option (EnvId ×
     → ActRel (ReferenceRel x) V (resolved x o) (resolved x q)
 found_rel {x = x} unbound e own = outside_rel x
 found_rel (is_free s i free v) e own = ret_rel (λ W l. reference_up l (bound s i free own))
-found_rel (is_captured s i held opens look p v) e own = absurd (cc e)
-found_rel (is_copied s opens look p v) e own = absurd (cc e)
+found_rel (is_captured s i held opens plain look p v) e own = absurd (cc e)
+found_rel (is_copied s opens plain look p v) e own = absurd (cc e)
 found_rel (is_sealed v) e own = absurd (cc e)
 found_rel is_unused e own = absurd (cc e)
 
@@ -112,8 +113,8 @@ resolve_rel k fs a b x h f e = record {
 held_rel : {V : World} {ps : List Object} {look : List ℕ → Option (EnvId × Value)} {x : List ℕ} {p : Place} {o q : Option (EnvId × Value)} → FoundRel V ps look x p o q → p ≡ Itself → ValueRel (named V) (held o) (held q)
 held_rel unbound e = undefined
 held_rel (is_free s i free v) e = v
-held_rel (is_captured s i held opens look p v) e = absurd (cc e)
-held_rel (is_copied s opens look p v) e = absurd (cc e)
+held_rel (is_captured s i held opens plain look p v) e = absurd (cc e)
+held_rel (is_copied s opens plain look p v) e = absurd (cc e)
 held_rel (is_sealed v) e = v
 held_rel is_unused e = absurd (cc e)
 
@@ -140,8 +141,9 @@ bind_name_rel {v = v} s x i free own r = record {
   run = λ W l u t n g. ended W larger_same refl (record {
     heap = heap.name_set g.heap s x (l.slots s i) (reserved_up x l own) free (value_up l r);
     lines = g.lines;
+    host = g.host;
     built_ins = g.built_ins;
-    shaped = shapes.step_shaped u (binds s.one x v) g.heap.left g.shaped (value_below g (value_up l r));
+    shaped = shapes.step_shaped u (in_heap (binds s.one x v) refl) g.heap.left g.shaped (value_below g (value_up l r));
     kept = kept_set g.kept g.heap s (l.slots s i) x v (λ c. absurd (cc (sym free ∙ c)));
   });
 }
@@ -171,8 +173,8 @@ module _ {W : World} {s t : Store} (n : ℕ) (g : StoreRel W s t) (x : List ℕ)
       → look_in s.heap.environments a x ≡ o → look_in t.heap.environments b x ≡ q → OutcomeRel SignalRel W (then_on ((resolved x o).run s n) f) (then_on ((resolved x q).run t n) f)
   reached_rel unbound e i j = outside.run W larger_same s t n g
   reached_rel (is_free z k free r) e i j = both_values (env_id z.one) (env_id z.two) i j r
-  reached_rel (is_captured z k held opens look p r) e i j = absurd (cc e)
-  reached_rel (is_copied z opens look p r) e i j = absurd (cc e)
+  reached_rel (is_captured z k held opens plain look p r) e i j = absurd (cc e)
+  reached_rel (is_copied z opens plain look p r) e i j = absurd (cc e)
   reached_rel (is_sealed {e = c} {f = d} r) e i j = both_values c d i j r
   reached_rel is_unused e i j = absurd (cc e)
 

@@ -1,9 +1,10 @@
 -- The constructor `Object`, what it has, and what its prototype has, in both pages (section 15.2).
-use Rattle.std.proofs.Common.{◌≡◌, refl, ap, subst, ℕ, zero, suc, Bool, true, false, not, cond, ◌&&◌, List, [], ◌∷◌, ◌++◌, Option, filter, codes}
+use Rattle.std.proofs.Common.{◌≡◌, refl, ap, subst, ℕ, zero, suc, Bool, true, false, not, cond, ◌&&◌, List, [], ◌∷◌, ◌++◌, Option, Result, filter, codes}
 use Rattle.std.specs.Fmt.{decimal}
 use Rattle.std.specs.List.{list_all}
 use Rattle.std.specs.Map.{keys_of}
 use Rattle.js_values.specs.declared.ids.ObjId.{ObjId}
+use Rattle.js_values.specs.declared.throw.Throw.{Throw}
 use Rattle.js_values.specs.declared.throw.Throw.TheVariants.{WrongArgument}
 use Rattle.js_values.specs.declared.value.Value.{Value}
 use Rattle.js_values.specs.declared.value.Value.TheVariants as value
@@ -22,7 +23,7 @@ use Rattle.heap_relations.proofs.Callers.{is_some_same, larger_more}
 use Rattle.heap_relations.specs.Naming.{Larger, Named, named, World}
 use Rattle.heap_relations.specs.Related.{ChangeRel, Each, Entries, Maybe, ObjectIds, ObjectRel, PropRel, ValueRel, each, entry, no_entries, no_more, none, null, num, object, plain, some, text, truth, undefined}
 use Rattle.agreement.proofs.Acts.{also_rel, asking_rel, bind_rel}
-use Rattle.agreement.proofs.Descriptors.{change_in_rel, define_in_rel, new_descriptor_rel, truth_same}
+use Rattle.agreement.proofs.Descriptors.{TriedRel, change_in_rel, define_in_rel, failed, new_descriptor_rel, told, truth_same}
 use Rattle.agreement.proofs.Heap.{change_up, class_rel, make_rel, named_up, object_rel, own_rel, prevent_at_rel, value_up}
 use Rattle.agreement.proofs.Lines.{class_name_same}
 use Rattle.agreement.proofs.Made.{made_rel, new_list_rel, new_plain_rel}
@@ -118,36 +119,35 @@ own_enumerable_names_rel a b n = asking_rel {R = Equal} (λ W l s t g. enumerabl
 
 -- ---- definitions
 
-define_as_rel : {V : World} {c d : Option Change} (a b : ObjId) → Named V a.0 b.0 → (x : List ℕ) → Maybe (ChangeRel (named V)) c d → Agrees V (define_as a x c) (define_as b x d)
-define_as_rel a b n x none = raise_rel WrongArgument
-define_as_rel a b n x (some r) = also_rel (define_in_rel a b n x r) (λ W l v w h. give_rel (object (named_up l n)))
+define_as_rel : {V : World} {c d : Result Change Throw} (a b : ObjId) → Named V a.0 b.0 → (x : List ℕ) → TriedRel (ChangeRel (named V)) c d → Agrees V (define_as a x c) (define_as b x d)
+define_as_rel a b n x (failed t) = raise_rel t
+define_as_rel a b n x (told r) = also_rel (define_in_rel a b n x r) (λ W l v w h. give_rel (object (named_up l n)))
 
-define_named_rel : {V : World} {c d : Option Change} {x y : List ℕ} (a b : ObjId) → Named V a.0 b.0 → x ≡ y → Maybe (ChangeRel (named V)) c d → Agrees V (define_as a x c) (define_as b y d)
+define_named_rel : {V : World} {c d : Result Change Throw} {x y : List ℕ} (a b : ObjId) → Named V a.0 b.0 → x ≡ y → TriedRel (ChangeRel (named V)) c d → Agrees V (define_as a x c) (define_as b y d)
 define_named_rel {V = V} {c = c} {d = d} {x = x} a b n e r = subst (λ y. Agrees V (define_as a x c) (define_as b y d)) e (define_as_rel a b n x r)
 
 pub define_property_rel : {V : World} {v w p q : Value} (c d : Calls) → ValueRel (named V) v w → ValueRel (named V) p q → (a b : ObjId) → Named V a.0 b.0
     → Agrees V (define_property c v p a) (define_property d w q b)
 define_property_rel c d h k a b n = also_rel (to_text_rel c d h) (λ W l v w r.
-    asking_rel {R = λ W. Maybe (ChangeRel (named W))} (λ X j s t g. change_in_rel g (value_up (larger_more l j) k))
+    asking_rel {R = λ W. TriedRel (ChangeRel (named W))} (λ X j s t g. change_in_rel g (value_up (larger_more l j) k))
     (λ X j x y m. define_named_rel a b (named_up (larger_more l j) n) (text_in_same r) m))
 
 abbrev pub ChangesRel : World → Changes → Changes → Type 0
 ChangesRel W = Entries (ChangeRel (named W))
 
-one_change_rel : {V : World} {c d : Option Change} {cs ds : Option Changes} (x : List ℕ) → Maybe (ChangeRel (named V)) c d → Maybe (ChangesRel V) cs ds
-    → Maybe (ChangesRel V) (one_change x c cs) (one_change x d ds)
-one_change_rel x none none = none
-one_change_rel x none (some k) = none
-one_change_rel x (some h) none = none
-one_change_rel x (some h) (some k) = some (entry h k)
+one_change_rel : {V : World} {c d : Result Change Throw} {cs ds : Result Changes Throw} (x : List ℕ) → TriedRel (ChangeRel (named V)) c d → TriedRel (ChangesRel V) cs ds
+    → TriedRel (ChangesRel V) (one_change x c cs) (one_change x d ds)
+one_change_rel x (failed t) k = failed t
+one_change_rel x (told h) (failed t) = failed t
+one_change_rel x (told h) (told k) = told (entry h k)
 
-changes_in_rel : {W : World} {s t : Store} → StoreRel W s t → (a b : ObjId) → Named W a.0 b.0 → (xs : List (List ℕ)) → Maybe (ChangesRel W) (changes_in s a xs) (changes_in t b xs)
-changes_in_rel g a b n [] = some no_entries
+changes_in_rel : {W : World} {s t : Store} → StoreRel W s t → (a b : ObjId) → Named W a.0 b.0 → (xs : List (List ℕ)) → TriedRel (ChangesRel W) (changes_in s a xs) (changes_in t b xs)
+changes_in_rel g a b n [] = told no_entries
 changes_in_rel g a b n (x ∷ xs) = one_change_rel x (change_in_rel g (get_at_rel g a b n x)) (changes_in_rel g a b n xs)
 
-pub all_changes_rel : {W : World} {s t : Store} → StoreRel W s t → (a b : ObjId) → Named W a.0 b.0 → Maybe (ChangesRel W) (all_changes s a) (all_changes t b)
+pub all_changes_rel : {W : World} {s t : Store} → StoreRel W s t → (a b : ObjId) → Named W a.0 b.0 → TriedRel (ChangesRel W) (all_changes s a) (all_changes t b)
 all_changes_rel {W = W} {s = s} {t = t} g a b n =
-    subst (λ xs. Maybe (ChangesRel W) (all_changes s a) (changes_in t b xs)) (enumerable_names_same (object_rel g a.0 b.0 n).props)
+    subst (λ xs. TriedRel (ChangesRel W) (all_changes s a) (changes_in t b xs)) (enumerable_names_same (object_rel g a.0 b.0 n).props)
     (changes_in_rel g a b n (enumerable_names (props_at s a)))
 
 changes_up : {V W : World} {cs ds : Changes} → Larger V W → ChangesRel V cs ds → ChangesRel W cs ds
@@ -158,9 +158,9 @@ define_each_rel : {V : World} {cs ds : Changes} (a b : ObjId) → Named V a.0 b.
 define_each_rel a b n no_entries = give_rel (object n)
 define_each_rel {cs = c ∷ cs} {ds = d ∷ ds} a b n (entry {name = x} h r) = also_rel (define_in_rel a b n x h) (λ W l v w k. define_each_rel {cs = cs} {ds = ds} a b (named_up l n) (changes_up l r))
 
-define_given_rel : {V : World} {cs ds : Option Changes} (a b : ObjId) → Named V a.0 b.0 → Maybe (ChangesRel V) cs ds → Agrees V (define_given a cs) (define_given b ds)
-define_given_rel a b n none = raise_rel WrongArgument
-define_given_rel a b n (some r) = define_each_rel a b n r
+define_given_rel : {V : World} {cs ds : Result Changes Throw} (a b : ObjId) → Named V a.0 b.0 → TriedRel (ChangesRel V) cs ds → Agrees V (define_given a cs) (define_given b ds)
+define_given_rel a b n (failed t) = raise_rel t
+define_given_rel a b n (told r) = define_each_rel a b n r
 
 pub define_properties_rel : {V : World} {v w : Value} → ValueRel (named V) v w → (a b : ObjId) → Named V a.0 b.0 → Agrees V (define_properties v a) (define_properties w b)
 define_properties_rel undefined a b n = raise_rel WrongArgument
@@ -170,7 +170,7 @@ define_properties_rel num a b n = give_rel (object n)
 define_properties_rel {v = value.Text []} text a b n = give_rel (object n)
 define_properties_rel {v = value.Text (u ∷ us)} text a b n = raise_rel WrongArgument
 define_properties_rel {v = value.Object p} {w = value.Object q} (object m) a b n =
-    asking_rel {R = λ W. Maybe (ChangesRel W)} (λ W l s t g. all_changes_rel g p q (named_up l m)) (λ W l cs ds r. define_given_rel a b (named_up l n) r)
+    asking_rel {R = λ W. TriedRel (ChangesRel W)} (λ W l s t g. all_changes_rel g p q (named_up l m)) (λ W l cs ds r. define_given_rel a b (named_up l n) r)
 
 with_given_rel : {V : World} {v w : Value} → ValueRel (named V) v w → (a b : ObjId) → Named V a.0 b.0 → Agrees V (with_given v a) (with_given w b)
 with_given_rel undefined a b n = give_rel (object n)
@@ -184,7 +184,7 @@ plain_rel : {V : World} {p q : Option ObjId} → Maybe (ObjectIds (named V)) p q
 plain_rel h = record { class = plain; proto = h; extensible = refl; closed = refl; props = no_entries }
 
 new_with_rel : {V : World} {p q : Option ObjId} {v w : Value} → Maybe (ObjectIds (named V)) p q → ValueRel (named V) v w → Agrees V (new_with p v) (new_with q w)
-new_with_rel {p = p} {q = q} h k = bind_rel (make_rel (new_object class.Plain p) (new_object class.Plain q) (new_fit class.Plain p) (new_fit class.Plain q) (plain_rel h) refl refl (λ W l s t g. tt))
+new_with_rel {p = p} {q = q} h k = bind_rel (make_rel (new_object class.Plain p) (new_object class.Plain q) (new_fit class.Plain p) (new_fit class.Plain q) refl refl (plain_rel h) refl refl (λ W l s t g. tt))
     (λ W l a b n. with_given_rel (value_up l k) a b n)
 
 pub create_rel : {V : World} {p q v w : Value} → ValueRel (named V) p q → ValueRel (named V) v w → Agrees V (create p v) (create q w)

@@ -24,8 +24,9 @@ use Rattle.instrumenter.specs.Opening.{open_expr}
 use Rattle.agreement.specs.Opened.{HereRel, deletes_no_field, expr_stands, name_stands, opened_at, target_stands, Demand}
 use Rattle.agreement.proofs.Acts.{act_up, also_rel}
 use Rattle.agreement.proofs.Heap.{value_up}
+use Rattle.agreement.proofs.HostPuts.{put_member_rel}
 use Rattle.agreement.proofs.Operators.{operate_one_rel, operate_rel, update_with_rel}
-use Rattle.agreement.proofs.Properties.{delete_member_rel, get_index_rel, get_member_rel, key_of_rel, put_member_rel, read_property_rel, text_in_same, with_properties_rel}
+use Rattle.agreement.proofs.Properties.{delete_member_rel, get_index_rel, get_member_rel, key_of_rel, read_property_rel, text_in_same, with_properties_rel}
 use Rattle.agreement.proofs.Targets.{assign_rel, assign_with_rel, call_name_rel, delete_name_rel, no_field_at, read_at, target_at, type_rel, update_rel}
 use Rattle.agreement.proofs.Values.{give_rel}
 
@@ -44,19 +45,19 @@ read_named_rel {v = v} {w = w} h r = at_name (read_property v) (read_property w)
 delete_named_rel : {V : World} {v w k l : Value} → ValueRel (named V) v w → ValueRel (named V) k l → Agrees V (delete_member v (text_in k)) (delete_member w (text_in l))
 delete_named_rel {v = v} {w = w} h r = at_name (delete_member v) (delete_member w) r (λ x. delete_member_rel h x)
 
-pub put_named_rel : {V : World} {v w k l p q : Value} → ValueRel (named V) v w → ValueRel (named V) k l → ValueRel (named V) p q → Agrees V (put_member v (text_in k) p) (put_member w (text_in l) q)
-put_named_rel {v = v} {w = w} {p = p} {q = q} h r s = at_name (λ x. put_member v x p) (λ x. put_member w x q) r (λ x. put_member_rel h x s)
+pub put_named_rel : {V : World} {v w k l p q : Value} (c d : Calls) → ValueRel (named V) v w → ValueRel (named V) k l → ValueRel (named V) p q → Agrees V (put_member c v (text_in k) p) (put_member d w (text_in l) q)
+put_named_rel {v = v} {w = w} {p = p} {q = q} c d h r s = at_name (λ x. put_member c v x p) (λ x. put_member d w x q) r (λ x. put_member_rel c d h x s)
 
 -- ---- what goes on
 
 pub assigned_rel : {V : World} {v w : Value} {f g : Value → Act} → Continues V f g → ValueRel (named V) v w → Agrees V (assigned f v) (assigned g w)
 assigned_rel m h = also_rel (m _ larger_same _ _ h) (λ W l a b r. give_rel (value_up l h))
 
-puts : {V : World} {v w : Value} (x : List ℕ) → ValueRel (named V) v w → Continues V (put_member v x) (put_member w x)
-puts x h = λ W l a b r. put_member_rel (value_up l h) x r
+puts : {V : World} {v w : Value} (c d : Calls) (x : List ℕ) → ValueRel (named V) v w → Continues V (put_member c v x) (put_member d w x)
+puts c d x h = λ W l a b r. put_member_rel c d (value_up l h) x r
 
-puts_at : {V : World} {v w k l : Value} → ValueRel (named V) v w → ValueRel (named V) k l → Continues V (put_member v (text_in k)) (put_member w (text_in l))
-puts_at h k = λ W l a b r. put_named_rel (value_up l h) (value_up l k) r
+puts_at : {V : World} {v w k l : Value} (c d : Calls) → ValueRel (named V) v w → ValueRel (named V) k l → Continues V (put_member c v (text_in k)) (put_member d w (text_in l))
+puts_at c d h k = λ W l a b r. put_named_rel c d (value_up l h) (value_up l k) r
 
 pub calls_with : {V : World} {c d : Calls} {f g v w : Value} → CallsRel V c d → ValueRel (named V) f g → ValueRel (named V) v w → ContinuesAll V (c.call f v) (d.call g w)
 calls_with calls r h = λ W l vs ws hs. calls.call W l (value_up l r) (value_up l h) hs
@@ -120,12 +121,12 @@ module _ {V : World} (c d : Calls) (around : Around) (n : ℕ) (fs : List Frame)
       → PartsRel V c d around n a b e → Agrees V (eval c a (update up prefix e)) (eval d b (update up prefix (open_expr around n e)))
   update_all_rel up prefix (name x) f parts = update_rel c d around fs a b x h f up prefix calls (target_at c d around fs a b x h f)
   update_all_rel up prefix (member e x) f parts =
-      also_rel parts (λ W l v w r. also_rel (get_member_rel r x) (λ X j p q s. update_with_rel c d up prefix (puts x (value_up j r)) s))
+      also_rel parts (λ W l v w r. also_rel (get_member_rel r x) (λ X j p q s. update_with_rel c d up prefix (puts c d x (value_up j r)) s))
   update_all_rel up prefix (index e u) f parts =
       also_rel parts.0 (λ W l v w r. also_rel (act_up l parts.1) (λ X j p q s.
       also_rel (key_of_rel c d (value_up j r) s) (λ Y i x y t.
       let base = value_up (larger_more j i) r in
-      also_rel (read_named_rel base t) (λ Z o g k n. update_with_rel c d up prefix (puts_at (value_up o base) (value_up o t)) n))))
+      also_rel (read_named_rel base t) (λ Z o g k n. update_with_rel c d up prefix (puts_at c d (value_up o base) (value_up o t)) n))))
   update_all_rel up prefix (func (code x formals body)) f parts = give_rel related.undefined
   update_all_rel up prefix e f parts = give_rel related.undefined
 
@@ -134,11 +135,11 @@ module _ {V : World} (c d : Calls) (around : Around) (n : ℕ) (fs : List Frame)
   assign_all_rel (name x) u v f parts m = assign_rel c d around fs a b x h f u v (target_at c d around fs a b x h f) m
   assign_all_rel (member e x) u v f parts m =
       also_rel parts (λ W l v w r. also_rel (with_properties_rel r) (λ X j p q s.
-      also_rel (act_up (larger_more l j) m) (λ Y i y z t. assigned_rel (puts x (value_up i s)) t)))
+      also_rel (act_up (larger_more l j) m) (λ Y i y z t. assigned_rel (puts c d x (value_up i s)) t)))
   assign_all_rel (index e k) u v f parts m =
       also_rel parts.0 (λ W l v w r. also_rel (act_up l parts.1) (λ X j p q s.
       also_rel (key_of_rel c d (value_up j r) s) (λ Y i x y t.
-      also_rel (act_up (larger_more l (larger_more j i)) m) (λ Z o p q z. assigned_rel (puts_at (value_up (larger_more j (larger_more i o)) r) (value_up o t)) z))))
+      also_rel (act_up (larger_more l (larger_more j i)) m) (λ Z o p q z. assigned_rel (puts_at c d (value_up (larger_more j (larger_more i o)) r) (value_up o t)) z))))
   assign_all_rel (func (code x formals body)) u v f parts m = give_rel related.undefined
   assign_all_rel e u v f parts m = give_rel related.undefined
 
@@ -148,7 +149,7 @@ module _ {V : World} (c d : Calls) (around : Around) (n : ℕ) (fs : List Frame)
   assign_with_all_rel op (member e x) u v f parts m =
       also_rel parts (λ W l v w r. also_rel (get_member_rel r x) (λ X j p q s.
       also_rel (act_up (larger_more l j) m) (λ Y i y z t.
-      also_rel (operate_rel c d op (value_up i s) t) (λ Z o p q g. assigned_rel (puts x (value_up (larger_more j (larger_more i o)) r)) g))))
+      also_rel (operate_rel c d op (value_up i s) t) (λ Z o p q g. assigned_rel (puts c d x (value_up (larger_more j (larger_more i o)) r)) g))))
   assign_with_all_rel op (index e k) u v f parts m =
       also_rel parts.0 (λ W l v w r. also_rel (act_up l parts.1) (λ X j p q s.
       also_rel (key_of_rel c d (value_up j r) s) (λ Y i x y t.
@@ -157,6 +158,6 @@ module _ {V : World} (c d : Calls) (around : Around) (n : ℕ) (fs : List Frame)
       also_rel (act_up (larger_more l (larger_more j (larger_more i o))) m) (λ S y p q new.
       also_rel (operate_rel c d op (value_up y old) new) (λ T z p q result.
       let more = larger_more o (larger_more y z) in
-      assigned_rel (puts_at (value_up more base) (value_up more t)) result))))))
+      assigned_rel (puts_at c d (value_up more base) (value_up more t)) result))))))
   assign_with_all_rel op (func (code x formals body)) u v f parts m = give_rel related.undefined
   assign_with_all_rel op e u v f parts m = give_rel related.undefined

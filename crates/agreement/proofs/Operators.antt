@@ -4,7 +4,7 @@ use Rattle.std.specs.Option.{ForSome}
 use Rattle.js_core.specs.declared.operators.BinaryOp.{BinaryOp}
 use Rattle.js_core.specs.declared.operators.BinaryOp.TheVariants.{Mul, Div, Rem, Add, Sub, Shl, Shr, Ushr, Less, Greater, LessEq, GreaterEq, InstanceOf, Within, Equal as IsEqual, Unequal, Same, NotSame, BitAnd, BitXor, BitOr}
 use Rattle.js_core.specs.declared.operators.UnaryOp.{UnaryOp}
-use Rattle.js_core.specs.declared.operators.UnaryOp.TheVariants.{Void, Typeof, Plus, Minus, BitNot, Not}
+use Rattle.js_core.specs.declared.operators.UnaryOp.TheVariants.{Delete, Void, Typeof, Plus, Minus, BitNot, Not}
 use Rattle.js_values.specs.declared.ids.ObjId.{ObjId}
 use Rattle.js_values.specs.declared.throw.Throw.{Throw}
 use Rattle.js_values.specs.declared.throw.Throw.TheVariants.{NotFunction, NotObject, OutOfRange, TextTooLong}
@@ -27,7 +27,7 @@ use Rattle.page_meaning.specs.Convert.{a_number, as_number, number_in, text_in, 
 use Rattle.page_meaning.specs.Errors.{settle}
 use Rattle.page_meaning.specs.Operators.{as_numbers, give_type, has_instance, instance_of, is_above, is_instance_of, is_within, less_of, loosely, next_target, of_loose, on_bits, on_numbers, on_primitives, one_more, operate, operate_one, prototype_for_instances, says, stands_above, sum_of, target_of, type_of, type_of_object, update_with, updated_value, yes_or_no}
 use Rattle.page_host.specs.HostNames.{text_or_long}
-use Rattle.page_meaning.specs.Properties.{has_property, is_object}
+use Rattle.page_meaning.specs.Properties.{has_member, is_object}
 use Rattle.page_meaning.specs.Store.{Store}
 use Rattle.heap_relations.proofs.Callers.{larger_more}
 use Rattle.heap_relations.specs.Naming.{Larger, Named, named, World}
@@ -35,7 +35,7 @@ use Rattle.heap_relations.specs.Related.{ClassRel, IsOneToOne, Links, Maybe, Obj
 use Rattle.agreement.specs.Acts.{Agrees, Continues, Equal, StoreRel}
 use Rattle.agreement.proofs.Acts.{also_rel, asking_rel, choose_rel, on_one_to_one}
 use Rattle.agreement.proofs.Heap.{named_up, value_up}
-use Rattle.agreement.proofs.Properties.{class_of_rel, get_at_rel, has_property_same, is_function_same, text_in_same}
+use Rattle.agreement.proofs.Properties.{class_of_rel, get_at_rel, has_member_same, is_function_same, text_in_same}
 use Rattle.agreement.proofs.Values.{SettledRel, give_rel, number_of_rel, raise_rel, refused, settle_rel, settled, text_of_same, text_same, to_number_rel, to_primitive_rel, to_text_rel}
 
 -- ---- pure parts of values that are related
@@ -329,14 +329,14 @@ instance_of_rel h num = raise_rel NotFunction
 instance_of_rel h text = raise_rel NotFunction
 
 -- a name is looked for in both
-has_property_in : {W : World} {s t : Store} {v w : Value} → StoreRel W s t → (a b : ObjId) → Named W a.0 b.0 → ValueRel (named W) v w
-    → has_property s a (text_in v) ≡ has_property t b (text_in w)
-has_property_in {s = s} {t = t} {v = v} {w = w} g a b n r = has_property_same g a b n (text_in v) ∙ ap (has_property t b) (text_in_same r)
+has_member_in : {W : World} {s t : Store} {v w : Value} → StoreRel W s t → (a b : ObjId) → Named W a.0 b.0 → ValueRel (named W) v w
+    → has_member s a (text_in v) ≡ has_member t b (text_in w)
+has_member_in {s = s} {t = t} {v = v} {w = w} g a b n r = has_member_same g a b n (text_in v) ∙ ap (has_member t b) (text_in_same r)
 
 pub is_within_rel : {V : World} {v w p q : Value} (c d : Calls) → ValueRel (named V) v w → ValueRel (named V) p q → Agrees V (is_within c v p) (is_within d w q)
 is_within_rel {p = value.Object a} {q = value.Object b} c d h (object n) =
     also_rel (to_text_rel c d h) (λ W l x y r.
-    asking_rel {R = Equal} (λ X j s t g. has_property_in g a b (named_up (larger_more l j) n) (value_up j r)) (λ X j x y e. give_rel (truth_same e)))
+    asking_rel {R = Equal} (λ X j s t g. has_member_in g a b (named_up (larger_more l j) n) (value_up j r)) (λ X j x y e. give_rel (truth_same e)))
 is_within_rel c d h undefined = raise_rel NotObject
 is_within_rel c d h null = raise_rel NotObject
 is_within_rel c d h truth = raise_rel NotObject
@@ -396,7 +396,7 @@ operate_one_rel c d Plus h = to_number_rel c d h
 operate_one_rel c d Minus h = also_rel (to_number_rel c d h) (λ W l v w r. settle_number_rel (whole_sub (Some (pos 0))) r)
 operate_one_rel c d BitNot h = also_rel (to_number_rel c d h) (λ W l v w r. give_rel (number_same (ap whole_not (number_in_same r))))
 operate_one_rel c d Not h = give_rel (truth_same (ap not (is_true_same h)))
-operate_one_rel c d op h = give_rel truth
+operate_one_rel c d Delete h = give_rel truth
 
 -- ---- updates
 

@@ -9,7 +9,7 @@ use Rattle.object_heap.specs.Object.{Object}
 use Rattle.object_heap.specs.Property.{Props}
 use Rattle.object_heap.specs.declared.object.Class.{Class}
 use Rattle.object_heap.specs.declared.object.Class.TheVariants as class
-use Rattle.object_shapes.specs.Links.{object_links, parts_links, props_links, proto_links, value_links, values_links}
+use Rattle.object_shapes.specs.Links.{event_links, object_links, parts_links, props_links, proto_links, value_links, values_links}
 use Rattle.page_meaning.specs.Store.{Store}
 use Rattle.heap_relations.proofs.Callers as heap
 use Rattle.heap_relations.specs.Naming.{Frame, In, Named, named, Round, World, here, there}
@@ -87,9 +87,21 @@ module _ {W : World} where
   parts_links_rel (node n) = no_more
   parts_links_rel (event p) = no_more
 
+  event_links_rel : {c d : Class} → ClassRel (named W) c d → Each (Named W) (event_links c) (event_links d)
+  event_links_rel plain = no_more
+  event_links_rel array = no_more
+  event_links_rel (page h) = no_more
+  event_links_rel native = no_more
+  event_links_rel (bound n h hs) = no_more
+  event_links_rel fault = no_more
+  event_links_rel math = no_more
+  event_links_rel window = no_more
+  event_links_rel (node n) = no_more
+  event_links_rel (event p) = heap.each_append (proto_links_rel p.target) (proto_links_rel p.current)
+
   -- what two objects refer to is named place by place
   pub object_links_rel : {o p : Object} → ObjectRel (named W) o p → Each (Named W) (object_links o) (object_links p)
-  object_links_rel h = heap.each_append (heap.each_append (proto_links_rel h.proto) (parts_links_rel h.class)) (props_links_rel h.props)
+  object_links_rel h = heap.each_append (heap.each_append (proto_links_rel h.proto) (parts_links_rel h.class)) (heap.each_append (event_links_rel h.class) (props_links_rel h.props))
 
 -- each that stands on both sides is related to itself
 each_head : {R : ℕ → ℕ → Type 0} {a b : ℕ} {xs ys : List ℕ} → Each R (a ∷ xs) (b ∷ ys) → R a b

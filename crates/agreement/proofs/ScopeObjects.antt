@@ -1,25 +1,37 @@
 -- Names that the right has in scope objects (sections 8.7, 10.2.2.1 and 11.2.1).
-use Rattle.std.proofs.Common.{◌≡◌, refl, sym, ap, ◌∙◌, ℕ, true, false, List, Option, Some, unwrap_or}
+use Rattle.std.proofs.Common.{◌≡◌, refl, sym, ap, ◌∙◌, ℕ, ◌&&◌, true, false, List, Option, Some, None, Ok, unwrap_or, bytes_eq}
 use Rattle.page_meaning.specs.declared.signal.Signal.{Signal}
 use Rattle.js_core.specs.Tree.{member, name}
 use Rattle.js_values.specs.declared.ids.EnvId.{EnvId}
+use Rattle.js_values.specs.declared.ids.ObjId.{ObjId}
 use Rattle.js_values.specs.declared.value.Value.{Value}
 use Rattle.js_values.specs.declared.value.Value.TheVariants as value
 use Rattle.object_heap.proofs.Callers.{lookup_on}
-use Rattle.object_heap.specs.Chain.{get, object_at}
+use Rattle.object_heap.specs.Attempt.{Attempt}
+use Rattle.object_heap.specs.Chain.{object_at}
+use Rattle.object_heap.specs.Define.{length_name}
 use Rattle.object_heap.specs.Environment.{AreInside, environment_at}
-use Rattle.object_heap.specs.Heap.{first_bound, look_in, lookup, put}
+use Rattle.object_heap.specs.Heap.{Contents, first_bound, look_in, lookup, put}
 use Rattle.object_heap.specs.Laws.{binds}
 use Rattle.object_heap.specs.Object.{is_list}
-use Rattle.page_meaning.specs.Act.{Act, Calls, Ended, also, bind, give, on_value, then_on}
+use Rattle.object_heap.specs.Property.{own_property}
+use Rattle.object_heap.specs.declared.object.Class.TheVariants as class
+use Rattle.object_heap.specs.declared.property.Prop.{Prop}
+use Rattle.page_host.specs.declared.host_name.HostName.{HostName}
+use Rattle.page_host.specs.HostNames.{host_name}
+use Rattle.page_meaning.specs.Act.{Act, Calls, Ended, also, bind, choose, give, on_value, then_on}
 use Rattle.page_meaning.specs.Expressions.{eval}
 use Rattle.page_meaning.specs.Names.{Here, held, read, resolve as resolve_here, resolved, write}
-use Rattle.page_meaning.specs.Properties.{get_member}
-use Rattle.page_meaning.specs.HostPuts.{put_member}
+use Rattle.page_meaning.specs.Convert.{number_of}
+use Rattle.page_meaning.specs.Errors.{on_refusal, settle}
+use Rattle.page_meaning.specs.HostNames.{held as shown}
+use Rattle.page_meaning.specs.HostPuts.{put_member, put_named, put_seen}
+use Rattle.page_meaning.specs.Properties.{get_member, named_at, put_in, seen_at, seen_value, stored}
 use Rattle.page_meaning.specs.Store.{Store, with_heap}
 use Rattle.page_meaning.specs.declared.reference.Reference.{Reference}
 use Rattle.page_meaning.specs.declared.reference.Reference.TheVariants.{Environment}
 use Rattle.page_meaning.specs.declared.signal.Signal.TheVariants as signal
+use Rattle.page_meaning.specs.Steps.{in_heap}
 use Rattle.object_shapes.proofs.Callers as shapes
 use Rattle.heap_relations.proofs.Callers as heap
 use Rattle.heap_relations.specs.Naming.{Captured, FoundRel, Frame, In, InScope, Larger, Place, Slot, World, env_id, is_captured, is_copied, is_free, is_reserved, is_sealed, is_unused, named, nowhere as unbound, resolve, scope_name}
@@ -28,6 +40,7 @@ use Rattle.instrumenter.specs.Around.{Around}
 use Rattle.agreement.proofs.Constants.{kept_set}
 use Rattle.agreement.proofs.Linked.{value_below}
 use Rattle.agreement.proofs.Names.{GoesOn, here_up, own_name, reserved_up, value_at}
+use Rattle.agreement.proofs.PlainPuts.{put_plain}
 use Rattle.agreement.specs.Acts.{ActRel, Agrees, Continues, OutcomeRel, Relation, SignalRel, StoreRel, ended, value as given}
 use Rattle.agreement.specs.Opened.{HereRel, field_at, name_stands}
 
@@ -43,34 +56,49 @@ name_run d b t n z e v ages found =
     ap (λ o. then_on ((resolved z o).run t n) (read z)) found
     ∙ value_at z (read z) give t n b.env e v (λ f u m. refl) ages found
 
+-- an own property of a plain object is what is seen first, also where its name is one of the host's
+module _ (t : Store) (place : ℕ) (x : List ℕ) (p : Prop) (plain : (object_at t.heap.objects place).class ≡ class.Plain) (own : own_property (object_at t.heap.objects place).props x ≡ Some p) where
+  own_seen : (m : HostName) → seen_at t (record { 0 = place }) x m ≡ Some (shown p)
+  own_seen m = rw (plain, own) refl
+
+  own_named : (o : Option HostName) → named_at t (record { 0 = place }) x o ≡ Ok p.value
+  own_named None = ap (λ q. Ok (unwrap_or q value.Undefined)) (heap.get_own t.heap.objects place x p own)
+  own_named (Some m) = ap (seen_value t m) (own_seen m)
+
+  -- and where it is put
+  own_put : (d : Calls) (n : ℕ) (w : Value) (o : Option HostName) → (put_named d (record { 0 = place }) x w o).run t n ≡ (put_in (record { 0 = place }) x w).run t n
+  own_put d n w None = refl
+  own_put d n w (Some m) = ap (λ q. (put_seen d (record { 0 = place }) x m w q).run t n) (own_seen m)
+
 -- a property of the object that a name has
-pub member_run : (d : Calls) (b : Here) (t : Store) (n : ℕ) (z x : List ℕ) (e : EnvId) (place : ℕ) (w : Value) → AreInside t.heap.environments
-    → look_in t.heap.environments b.env z ≡ Some (e, scope_value place) → get t.heap.objects place x ≡ Some w
-    → (eval d b (member (name z) x)).run t n ≡ Ended (signal.Value w) t n
-member_run d b t n z x e place w ages found got =
+pub member_run : (d : Calls) (b : Here) (t : Store) (n : ℕ) (z x : List ℕ) (e : EnvId) (place : ℕ) (p : Prop) → AreInside t.heap.environments
+    → look_in t.heap.environments b.env z ≡ Some (e, scope_value place) → (object_at t.heap.objects place).class ≡ class.Plain
+    → own_property (object_at t.heap.objects place).props x ≡ Some p → (eval d b (member (name z) x)).run t n ≡ Ended (signal.Value p.value) t n
+member_run d b t n z x e place p ages found plain own =
     ap (λ o. then_on o (on_value (λ base. get_member base x))) (name_run d b t n z e (scope_value place) ages found)
-    ∙ ap (λ o. Ended (signal.Value (unwrap_or o value.Undefined)) t n) got
+    ∙ ap (λ r. (settle r).run t n) (own_named t place x p plain own (host_name x))
 
 -- ---- a name is read at once
 
 module _ {W : World} {s t : Store} (n : ℕ) (g : StoreRel W s t) (x : List ℕ) (f : Reference → Act) (p : Value → Act) (goes : GoesOn x f p) (go : Continues W p p) (d : Calls) (a b : Here) (m : ℕ)
     (q : Act) (then : (w : Value) → (eval d b (member (name (scope_name m)) x)).run t n ≡ Ended (signal.Value w) t n → q.run t n ≡ (p w).run t n) where
-  both_read : {v w : Value} {e k : EnvId} (i place : ℕ) → look_in s.heap.environments a.env x ≡ Some (e, v) → look_in t.heap.environments b.env (scope_name i) ≡ Some (k, scope_value place) → i ≡ m
-      → get t.heap.objects place x ≡ Some w → ValueRel (named W) v w → OutcomeRel SignalRel W ((bind (resolve_here a x) f).run s n) (q.run t n)
-  both_read {v = v} {w = w} {e = e} {k = k} i place left right same got r =
+  both_read : {v : Value} {r : Prop} {e k : EnvId} (i place : ℕ) → look_in s.heap.environments a.env x ≡ Some (e, v) → look_in t.heap.environments b.env (scope_name i) ≡ Some (k, scope_value place) → i ≡ m
+      → (object_at t.heap.objects place).class ≡ class.Plain → own_property (object_at t.heap.objects place).props x ≡ Some r → ValueRel (named W) v r.value
+      → OutcomeRel SignalRel W ((bind (resolve_here a x) f).run s n) (q.run t n)
+  both_read {v = v} {r = u} {e = e} {k = k} i place left right same plain own r =
       let there : look_in t.heap.environments b.env (scope_name m) ≡ Some (k, scope_value place) = ap (λ j. look_in t.heap.environments b.env (scope_name j)) (sym same) ∙ right in
       let one : (bind (resolve_here a x) f).run s n ≡ (p v).run s n =
       ap (λ o. then_on ((resolved x o).run s n) f) left ∙ value_at x f p s n a.env e v goes g.heap.left.environments left
       in
-      let two : q.run t n ≡ (p w).run t n = then w (member_run d b t n (scope_name m) x k place w g.heap.right.environments there got) in
-      rw (one, two) ((go W heap.larger_same v w r).run W heap.larger_same s t n g)
+      let two : q.run t n ≡ (p u.value).run t n = then u.value (member_run d b t n (scope_name m) x k place u g.heap.right.environments there plain own) in
+      rw (one, two) ((go W heap.larger_same v u.value r).run W heap.larger_same s t n g)
 
   field_found : {P : Place} {o u : Option (EnvId × Value)} → FoundRel W t.heap.objects (look_in t.heap.environments b.env) x P o u → field_at P ≡ Some m
       → look_in s.heap.environments a.env x ≡ o → OutcomeRel SignalRel W ((bind (resolve_here a x) f).run s n) (q.run t n)
   field_found unbound e left = absurd (cc e)
   field_found (is_free z k free r) e left = absurd (cc e)
-  field_found (is_captured z k keeps opens look {p = v} own r) e left = both_read z.frame.number z.place left look (cc e) (heap.get_own t.heap.objects z.place x v own) r
-  field_found (is_copied z opens look {p = v} own r) e left = both_read z.frame.number z.place left look (cc e) (heap.get_own t.heap.objects z.place x v own) r
+  field_found (is_captured z k keeps opens plain look {p = v} own r) e left = both_read {r = v} z.frame.number z.place left look (cc e) plain own r
+  field_found (is_copied z opens plain look {p = v} own r) e left = both_read {r = v} z.frame.number z.place left look (cc e) plain own r
   field_found (is_sealed r) e left = absurd (cc e)
   field_found is_unused e left = absurd (cc e)
 
@@ -102,7 +130,7 @@ in_scope_found : {R : Relation Signal} {W : World} {s t : Store} {P : Place} {o 
     → OutcomeRel R W ((bind (resolve_here a x) f).run s n) ((also (eval d b (name (scope_name m))) q).run t n)
 in_scope_found n d a b x m f q g own unbound e left go = absurd (cc e)
 in_scope_found n d a b x m f q g own (is_free z k free r) e left go = absurd (cc e)
-in_scope_found {s = s} {t = t} n d a b x m f q g own (is_captured z k keeps opens look p r) e left go =
+in_scope_found {s = s} {t = t} n d a b x m f q g own (is_captured z k keeps opens plain look p r) e left go =
     let same : z.frame.number ≡ m = cc e in
     let there : look_in t.heap.environments b.env (scope_name m) ≡ Some (env_id z.two, scope_value z.place) =
     ap (λ j. look_in t.heap.environments b.env (scope_name j)) (sym same) ∙ look
@@ -112,7 +140,7 @@ in_scope_found {s = s} {t = t} n d a b x m f q g own (is_captured z k keeps open
     ap (λ o. then_on o (on_value q)) (name_run d b t n (scope_name m) (env_id z.two) (scope_value z.place) g.heap.right.environments there)
     in
     rw (one, two) ((go z (record { there = k; held = keeps; own = own })).run _ heap.larger_same s t n g)
-in_scope_found n d a b x m f q g own (is_copied z opens look p r) e left go = absurd (cc e)
+in_scope_found n d a b x m f q g own (is_copied z opens plain look p r) e left go = absurd (cc e)
 in_scope_found n d a b x m f q g own (is_sealed r) e left go = absurd (cc e)
 in_scope_found n d a b x m f q g own is_unused e left go = absurd (cc e)
 
@@ -138,25 +166,35 @@ read_field_rel x z i = record {
       ∙ ap (λ o. first_bound z.one o (environment_at s.heap.environments z.one).outer (λ y. lookup s.heap.environments y x)) r.one
       in
       let one : (read x (Environment (env_id z.one))).run s n ≡ Ended (signal.Value r.left) s n = ap (λ o. Ended (signal.Value (held o)) s n) found in
-      let two : (get_member (scope_value z.place) x).run t n ≡ Ended (signal.Value r.right) t n = ap (λ o. Ended (signal.Value (unwrap_or o value.Undefined)) t n) r.two in
+      let two : (get_member (scope_value z.place) x).run t n ≡ Ended (signal.Value r.prop.value) t n =
+      ap (λ q. (settle q).run t n) (own_named t z.place x r.prop r.plain r.own (host_name x))
+      in
       rw (one, two) (ended W heap.larger_same (given r.same) g);
 }
 
 -- it takes a value
-pub write_field_rel : {V : World} {v w : Value} (x : List ℕ) (z : Slot) → IsField V x z → ValueRel (named V) v w
-    → Agrees V (write x (Environment (env_id z.one)) v) (put_member (scope_value z.place) x w)
-write_field_rel {v = v} {w = w} x z i h = record {
+pub write_field_rel : {V : World} {v w : Value} (d : Calls) (x : List ℕ) (z : Slot) → IsField V x z → ValueRel (named V) v w
+    → Agrees V (write x (Environment (env_id z.one)) v) (put_member d (scope_value z.place) x w)
+write_field_rel {v = v} {w = w} d x z i h = record {
   run = λ W l s t n g.
       let j = is_field_up l i in
       let r = heap.captured_read g.heap z x j.there j.own j.held in
       let m = heap.captured_set g.heap z x j.there j.own j.held (heap.value_up l h) in
-      let plain : is_list (object_at t.heap.objects z.place).class ≡ false = ap is_list r.plain in
-      let two : (put_member (scope_value z.place) x w).run t n ≡ Ended (signal.Value w) (with_heap t (put t.heap z.place x w).after) n = rw (plain, m.thrown) refl in
+      let at : ObjId = record { 0 = z.place } in
+      let put_there : (put_in at x w).run t n ≡ Ended (signal.Value w) (with_heap t (put t.heap z.place x w).after) n =
+      ap (λ c. (choose (is_list c && bytes_eq x length_name) (also (settle (number_of w)) (stored at x)) (stored at x w)).run t n) r.plain
+      ∙ ap (λ (a : Attempt Contents). (on_refusal (give w) a.thrown).run (with_heap t a.after) n) (put_plain t at x r.plain w)
+      ∙ ap (λ o. (on_refusal (give w) o).run (with_heap t (put t.heap z.place x w).after) n) m.thrown
+      in
+      let two : (put_member d (scope_value z.place) x w).run t n ≡ Ended (signal.Value w) (with_heap t (put t.heap z.place x w).after) n =
+      own_put t z.place x r.prop r.plain r.own d n w (host_name x) ∙ put_there
+      in
       rw two (ended W heap.larger_same (given (heap.value_up l h)) (record {
         heap = m.after;
         lines = g.lines;
+        host = g.host;
         built_ins = g.built_ins;
-        shaped = shapes.step_shaped s (binds z.one x v) g.heap.left g.shaped (value_below g (heap.value_up l h));
+        shaped = shapes.step_shaped s (in_heap (binds z.one x v) refl) g.heap.left g.shaped (value_below g (heap.value_up l h));
         kept = kept_set g.kept g.heap z j.there x v (λ c. absurd (cc (sym j.held ∙ c)));
       }));
 }

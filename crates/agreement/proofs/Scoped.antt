@@ -1,5 +1,7 @@
 -- The right enters a scope that has an object: it makes an environment and the object alone (sections 10.5, 11.1.5 and 12.14).
-use Rattle.std.proofs.Common.{◌≡◌, refl, sym, ap, ◌∙◌, ℕ, ◌<◌, ◌^◌, Bool, true, false, nat_eq, nat_lt, List, [], ◌∷◌, Option, Some, None, length, arith, if◌then◌else◌, subst}
+use Rattle.std.proofs.Common.{◌≡◌, inl, inr, refl, sym, ap, ◌∙◌, ℕ, ◌<◌, ◌^◌, Bool, true, false, nat_eq, nat_lt, List, [], ◌∷◌, Option, Some, None, length, length-append, arith, if◌then◌else◌, subst}
+use Rattle.std.specs.Prelude.{IsTrue}
+use Rattle.agreement.proofs.HostsUp.{host_up}
 use Rattle.agreement.proofs.ScopeObjects.{name_run}
 use Rattle.std.proofs.lemmas.Bool.{and_parts, eq-eqb, ltb-true}
 use Rattle.js_core.specs.Tree as tree
@@ -7,11 +9,16 @@ use Rattle.js_core.specs.Tree.{assign, expr, literal, name, no_fields, then_fiel
 use Rattle.js_values.specs.declared.ids.EnvId.{EnvId}
 use Rattle.js_values.specs.declared.ids.ObjId.{ObjId}
 use Rattle.js_values.specs.declared.value.Value.{Value}
-use Rattle.object_heap.proofs.Callers.{environment_last, lookup_on, sound_opened}
+use Rattle.object_heap.proofs.Callers.{environment_last, kinds_steps, lookup_on, object_last, sound_opened}
+use Rattle.object_heap.specs.Attempt.{Attempt}
+use Rattle.object_heap.specs.Chain.{object_at}
 use Rattle.object_heap.specs.Define.{whole_property}
 use Rattle.object_heap.specs.Environment.{AreInside, Bound, Environment, environment_at, inside as inside_older, new_environment, value_of}
 use Rattle.object_heap.specs.Heap.{Contents, IsSound, define_own, first_bound, look_in, lookup, made, new_object, opened, set}
-use Rattle.object_heap.specs.Laws.{opens}
+use Rattle.object_heap.specs.Laws.{IsSameKind, defines, opens}
+use Rattle.object_heap.specs.Object.{Object, is_event, settled}
+use Rattle.object_heap.specs.declared.object.Class.{Class}
+use Rattle.object_heap.specs.declared.property.Change.{Change}
 use Rattle.object_heap.specs.declared.object.Class.TheVariants as class
 use Rattle.page_meaning.specs.Act.{Act, Calls, Ended, also, bind, done, give, nothing, on_value, then_on}
 use Rattle.page_meaning.specs.Errors.{on_refusal}
@@ -24,6 +31,7 @@ use Rattle.page_meaning.specs.Statements.{exec}
 use Rattle.page_meaning.specs.Store.{Store, with_heap}
 use Rattle.page_meaning.specs.declared.reference.Reference.TheVariants as reference
 use Rattle.page_meaning.specs.declared.signal.Signal.TheVariants as signal
+use Rattle.page_meaning.specs.Steps.{in_heap}
 use Rattle.heap_relations.proofs.Callers as heap
 use Rattle.heap_relations.proofs.Callers.{larger_same, scope_value}
 use Rattle.heap_relations.specs.Naming.{Constant, Copied, Frame, Larger, OwnName, Round, World, are_below, env_id, is_scope_name, named, scope_name, with_slot}
@@ -33,9 +41,10 @@ use Rattle.object_shapes.specs.Links.{all_below, bound_links}
 use Rattle.instrumenter.specs.Around.{var_of}
 use Rattle.scope_analysis.specs.Names.{is_among}
 use Rattle.agreement.proofs.Acts.{outcome_up}
-use Rattle.agreement.proofs.Constants.{kept_opened, not_done, older_now, ready_up}
+use Rattle.agreement.proofs.Constants.{define_rest, kept_opened, not_done, older_now, ready_up}
 use Rattle.agreement.proofs.Entries.{Enters, enters}
 use Rattle.agreement.proofs.Made.{object_place}
+use Rattle.agreement.proofs.PlainPuts.{define_plain}
 use Rattle.agreement.specs.Acts.{Agrees, IsReady, StoreRel}
 use Rattle.agreement.specs.Opened.{is_numbered, kept_in, scope_frame}
 
@@ -49,25 +58,47 @@ pub data FieldsHave (d : Calls) (b : Here) (es : List Environment) : tree.Fields
 abbrev at_place : ℕ → ObjId
 at_place k = record { 0 = k }
 
+-- the object stays a plain one
+still_plain : (h : Contents) (k : ℕ) (x : List ℕ) (c : Change) → k < length h.objects → (object_at h.objects k).class ≡ class.Plain → (object_at (define_own h k x c).after.objects k).class ≡ class.Plain
+still_plain h k x c there plain = by (kinds_steps h (defines k x c ∷ []) k there).0 plain
+  where
+    by : {d e : Class} → IsSameKind d e → e ≡ class.Plain → d ≡ class.Plain
+    by (inl same) is = same ∙ is
+    by (inr both) is = absurd (never both.1 is)
+      where
+        never : {e : Class} → IsTrue (is_event e) → e ≡ class.Plain → ⊥
+        never event is = let wrong : is_event class.Plain ≡ true = ap is_event (sym is) ∙ event in cc wrong
+
 fields_run : (d : Calls) (b : Here) (es : List Environment) (fs : tree.Fields) (vs : Bound) (t : Store) (n k : ℕ) → t.heap.environments ≡ es → FieldsHave d b es fs vs → IsFillable t.heap k vs
+    → k < length t.heap.objects → (object_at t.heap.objects k).class ≡ class.Plain
     → (eval_fields d b fs (at_place k)).run t n ≡ Ended (signal.Value (scope_value k)) (with_heap t (filled t.heap k vs)) n
 unfolding define_own
-fields_run d b es _ _ t n k same no_more_fields fill = refl
-fields_run d b es _ _ t n k same (field {x = x} {e = e} {v = v} {fs = fs} {vs = vs} run rest) fill =
+fields_run d b es _ _ t n k same no_more_fields fill there plain = refl
+fields_run d b es _ _ t n k same (field {x = x} {e = e} {v = v} {fs = fs} {vs = vs} run rest) fill there plain =
     let after = with_heap t (define_own t.heap k x (whole_property v)).after in
     ap (λ o. then_on o (on_value (λ u. also (define_member (at_place k) x u) (λ w. eval_fields d b fs (at_place k))))) (run t n same)
+    ∙ ap (λ (a : Attempt Contents). then_on ((on_refusal (give v) a.thrown).run (with_heap t a.after) n) (on_value (λ w. eval_fields d b fs (at_place k)))) (define_plain t (at_place k) x plain (whole_property v))
     ∙ ap (λ o. then_on ((on_refusal (give v) o).run after n) (on_value (λ w. eval_fields d b fs (at_place k)))) fill.0
-    ∙ fields_run d b es fs vs after n k same rest fill.1
+    ∙ fields_run d b es fs vs after n k same rest fill.1 (omega (arith, there, (define_rest t.heap k x (whole_property v)).1)) (still_plain t.heap k x (whole_property v) there plain)
 
 -- the object is the youngest
 abbrev filled_heap : Contents → Bound → Contents
 filled_heap h vs = filled (made h (new_object class.Plain (Some object_prototype))) (length h.objects) vs
 
+abbrev with_plain : Contents → Contents
+with_plain h = made h (new_object class.Plain (Some object_prototype))
+
+made_there : (h : Contents) → length h.objects < length (with_plain h).objects
+made_there h = omega (arith, length-append h.objects (settled (length h.objects) (new_object class.Plain (Some object_prototype)) ∷ []))
+
+made_plain : (h : Contents) → (object_at (with_plain h).objects (length h.objects)).class ≡ class.Plain
+made_plain h = ap (λ (o : Object). o.class) (object_last h.objects (settled (length h.objects) (new_object class.Plain (Some object_prototype))))
+
 literal_run : (d : Calls) (b : Here) (fs : tree.Fields) (vs : Bound) (t : Store) (n : ℕ) → FieldsHave d b t.heap.environments fs vs → AreFresh [] vs
     → (eval d b (literal fs)).run t n ≡ Ended (signal.Value (scope_value (length t.heap.objects))) (with_heap t (filled_heap t.heap vs)) n
 literal_run d b fs vs t n have fresh =
     fields_run d b t.heap.environments fs vs (with_heap t (made t.heap (new_object class.Plain (Some object_prototype)))) n (length t.heap.objects) refl have
-    (heap.scope_fillable t.heap (Some object_prototype) vs fresh)
+    (heap.scope_fillable t.heap (Some object_prototype) vs fresh) (made_there t.heap) (made_plain t.heap)
 
 -- ---- the first statement of the scope, which binds the object to a name
 
@@ -150,8 +181,9 @@ enter_scoped {V = V} d this y ys n bound fs e f names others old lit begin L R Q
         heap = heap.scope_entered W s.heap t.heap e f names others (Some object_prototype) (λ x. kept_in (is_among x (y ∷ ys)) (bound x) false) n fs z.values old z.known g.heap (sym l.opens ∙ opened_there) (heap.round_up l o) small parts.1
             (λ a i. prototype_there a i (heap.there g.heap (g.built_ins object_prototype.0 object_place)).1) z.fresh z.same z.own hidden;
         lines = g.lines;
+        host = host_up up refl g.host;
         built_ins = λ k few. heap.named_up up (g.built_ins k few);
-        shaped = shapes.step_shaped s (opens e names) g.heap.left g.shaped (below W l s t g);
+        shaped = shapes.step_shaped s (in_heap (opens e names) refl) g.heap.left g.shaped (below W l s t g);
         kept = kept_opened g.kept g.heap slot e names refl (heap.round_there g.heap (heap.round_up l o)).0 (older_now g.kept (ready_up l ready))
             (λ x c. absurd (never_constant (is_among x (y ∷ ys)) (bound x) c)) (λ x p c. absurd (never_constant (is_among x (y ∷ ys)) (bound x) c)) (λ p. omega arith) (not_done g.kept);
       }

@@ -22,6 +22,7 @@ use Rattle.page_meaning.specs.Functions.{function_steps}
 use Rattle.page_meaning.specs.Kept.{Keeps, keeps_all, keeps_on}
 use Rattle.page_meaning.specs.Names.{Here}
 use Rattle.page_meaning.specs.Store.{Store, with_heap}
+use Rattle.page_meaning.proofs.Stepping.{heap_of_steps}
 use Rattle.page_meaning.specs.declared.signal.Signal.{Signal}
 use Rattle.page_meaning.specs.declared.signal.Signal.TheVariants as signal
 use Rattle.scope_analysis.specs.Names.{own_name}
@@ -72,8 +73,10 @@ class_later s c env u kept =
     let made = with_made s c env in
     let k = length s.heap.objects in
     let is : (object_at made.heap.objects k).class ≡ class.Page c env = function_made_class s.heap c env in
-    let kind = (kinds_steps made.heap kept.changes k (objects_reach s.heap c env).1).0 in
-    by (subst (λ (h : Contents). IsSameKind (object_at h.objects k).class (object_at made.heap.objects k).class) (sym kept.heap) kind) is
+    let steps = heap_of_steps made kept.steps in
+    let same : u.heap ≡ after_steps made.heap steps.0 = ap (λ (t : Store). t.heap) kept.is ∙ steps.1 in
+    let kind = (kinds_steps made.heap steps.0 k (objects_reach s.heap c env).1).0 in
+    by (subst (λ (h : Contents). IsSameKind (object_at h.objects k).class (object_at made.heap.objects k).class) (sym same) kind) is
   where
     by : {d e : Class} → IsSameKind d e → e ≡ class.Page c env → d ≡ class.Page c env
     by (inl same) is = same ∙ is
@@ -93,6 +96,7 @@ made_rel {W = W} {s = s} {t = t} g c d e f =
       heap = heap.others W s.heap t.heap (with_made s c e).heap (with_made t d f).heap g.heap one.0 two.0 same other
           (functions_sound s.heap c e g.heap.left) (functions_sound t.heap d f g.heap.right);
       lines = g.lines;
+      host = g.host;
       built_ins = g.built_ins;
       shaped = shapes.function_shaped s c e g.heap.left g.shaped;
       kept = kept_beside g.kept c e (λ j m n. (g.heap.objects.inside j m n).0);

@@ -121,8 +121,8 @@ module _ {V : World} (c d : Calls) (k : Around) (fs : List Frame) (a b : Here) (
   writes : {W : World} {r q : Reference} → ReferenceRel x W r q → Continues W (write x r) (write x q)
   writes n = λ X l v w i. write_rel x (reference_up l n) i
 
-  puts : {W : World} {z : Slot} → IsField W x z → Continues W (write x (Environment (env_id z.one))) (put_member (scope_value z.place) x)
-  puts {z = z} i = λ X l v w r. write_field_rel x z (is_field_up l i) r
+  puts : {W : World} {z : Slot} → IsField W x z → Continues W (write x (Environment (env_id z.one))) (put_member d (scope_value z.place) x)
+  puts {z = z} i = λ X l v w r. write_field_rel d x z (is_field_up l i) r
 
   assigned_rel : {W : World} {v w : Value} {p q : Value → Act} → Continues W p q → ValueRel (named W) v w → Agrees W (assigned p v) (assigned q w)
   assigned_rel m i = also_rel (m _ larger_same _ _ i) (λ W l u y r. give_rel (value_up l i))
@@ -133,8 +133,8 @@ module _ {V : World} (c d : Calls) (k : Around) (fs : List Frame) (a b : Here) (
     assign_rel e u (itself i) m =
         bind_rel (resolve_rel k fs a b x h f i) (λ W l r q n. also_rel (act_up l m) (λ X j v w s. assigned_rel (writes (reference_up j n)) s))
     assign_rel e u (in_scope n i) m =
-        in_scope_rel d k fs a b x n (λ r. also (eval c a e) (assigned (write x r))) (λ base. also (with_properties base) (λ y. also (eval d b u) (assigned (put_member y x)))) h f i
-        (λ W l z j. after_given (scope_value z.place) (λ y. also (eval d b u) (assigned (put_member y x))) (also_rel (act_up l m) (λ X o v w s. assigned_rel (puts (is_field_up o j)) s)))
+        in_scope_rel d k fs a b x n (λ r. also (eval c a e) (assigned (write x r))) (λ base. also (with_properties base) (λ y. also (eval d b u) (assigned (put_member d y x)))) h f i
+        (λ W l z j. after_given (scope_value z.place) (λ y. also (eval d b u) (assigned (put_member d y x))) (also_rel (act_up l m) (λ X o v w s. assigned_rel (puts (is_field_up o j)) s)))
 
     pub update_rel : {o : Option ℕ} (up prefix : Bool) → CallsRel V c d → TargetAt fs x o
         → Agrees V (eval c a (update up prefix (name x))) (eval d b (update up prefix (field_or_name o x)))
@@ -159,7 +159,7 @@ module _ {V : World} (c d : Calls) (k : Around) (fs : List Frame) (a b : Here) (
     pub assign_name_rel : {o : Option ℕ} {v w : Value} → TargetAt fs x o → ValueRel (named V) v w → Agrees V (assign_name a x v) (assign_to d b (field_or_name o x) w)
     assign_name_rel (itself i) r = bind_rel (resolve_rel k fs a b x h f i) (λ W l q p n. write_rel x n (value_up l r))
     assign_name_rel {v = v} {w = w} (in_scope n i) r =
-        in_scope_rel d k fs a b x n (λ q. write x q v) (λ base. also (with_properties base) (λ y. put_member y x w)) h f i (λ W l z j. after_given (scope_value z.place) (λ y. put_member y x w) (write_field_rel x z j (value_up l r)))
+        in_scope_rel d k fs a b x n (λ q. write x q v) (λ base. also (with_properties base) (λ y. put_member d y x w)) h f i (λ W l z j. after_given (scope_value z.place) (λ y. put_member d y x w) (write_field_rel d x z j (value_up l r)))
 
     -- an initialiser (12.2), whose value nothing uses
     pub declare_rel : {o : Option ℕ} (e u : tree.Expr) → TargetAt fs x o → Agrees V (eval c a e) (eval d b u)
@@ -167,9 +167,9 @@ module _ {V : World} (c d : Calls) (k : Around) (fs : List Frame) (a b : Here) (
     declare_rel e u (itself i) m =
         bind_rel (resolve_rel k fs a b x h f i) (λ W l r q n. also_drops_rel (write x r) (assigned (write x q)) (act_up l m) (λ X j v w s. gives_rel w (dropped_rel (write_rel x (reference_up j n) s))))
     declare_rel e u (in_scope n i) m =
-        in_scope_rel d k fs a b x n (λ r. also (eval c a e) (write x r)) (λ base. also (with_properties base) (λ y. also (eval d b u) (assigned (put_member y x)))) h f i
-        (λ W l z j. after_given (scope_value z.place) (λ y. also (eval d b u) (assigned (put_member y x)))
-        (also_drops_rel (write x (Environment (env_id z.one))) (assigned (put_member (scope_value z.place) x)) (act_up l m) (λ X o v w s. gives_rel w (dropped_rel (write_field_rel x z (is_field_up o j) s)))))
+        in_scope_rel d k fs a b x n (λ r. also (eval c a e) (write x r)) (λ base. also (with_properties base) (λ y. also (eval d b u) (assigned (put_member d y x)))) h f i
+        (λ W l z j. after_given (scope_value z.place) (λ y. also (eval d b u) (assigned (put_member d y x)))
+        (also_drops_rel (write x (Environment (env_id z.one))) (assigned (put_member d (scope_value z.place) x)) (act_up l m) (λ X o v w s. gives_rel w (dropped_rel (write_field_rel d x z (is_field_up o j) s)))))
 
     -- where it stays one
     pub declare_same_rel : {o : Option ℕ} (e u : tree.Expr) → TargetAt fs x o → o ≡ None → Agrees V (eval c a e) (eval d b u)

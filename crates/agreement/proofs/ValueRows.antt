@@ -89,11 +89,11 @@ abbrev saying : ErrorKind → List ℕ → Act
 saying k t = bind (make (error_saying k t) (saying_fit k t) refl) object_of
 
 silent_rel : {V : World} (k : ErrorKind) → Agrees V (silent k) (silent k)
-silent_rel k = made_rel (on_built_ins (λ U i there. make_rel (silent_error k) (silent_error k) (silent_fit k) (silent_fit k)
+silent_rel k = made_rel (on_built_ins (λ U i there. make_rel (silent_error k) (silent_error k) (silent_fit k) (silent_fit k) refl refl
     (whole_rel (error_prototype k) (error_place k) there fault no_entries) refl refl (λ W l s t g. record { kind = k; is = refl })))
 
 saying_rel : {V : World} (k : ErrorKind) (t : List ℕ) → Agrees V (saying k t) (saying k t)
-saying_rel k t = made_rel (on_built_ins (λ U i there. make_rel (error_saying k t) (error_saying k t) (saying_fit k t) (saying_fit k t)
+saying_rel k t = made_rel (on_built_ins (λ U i there. make_rel (error_saying k t) (error_saying k t) (saying_fit k t) (saying_fit k t) refl refl
     (whole_rel (error_prototype k) (error_place k) there fault (entry (record { value = text; writable = refl; enumerable = refl; configurable = refl }) no_entries)) refl refl
     (λ W l s u g. record { kind = k; is = refl })))
 

@@ -1,5 +1,5 @@
 -- Values that are related: how they are converted, and how an error is thrown.
-use Rattle.std.proofs.Common.{◌≡◌, refl, subst, ℕ, ℤ, ◌<◌, List, Option, Some, None, Result, Ok, Err, arith}
+use Rattle.std.proofs.Common.{◌≡◌, refl, subst, ℕ, ℤ, ◌≤◌, List, Option, Some, None, Result, Ok, Err, arith}
 use Rattle.js_values.specs.Throw.{kind_of, code_of}
 use Rattle.js_values.specs.declared.ids.ObjId.{ObjId}
 use Rattle.js_values.specs.declared.throw.ErrorKind.{ErrorKind}
@@ -38,7 +38,7 @@ code_rel : {V : World} (c : Option ℕ) → Entries (PropRel (named V)) (code_pr
 code_rel None = no_entries
 code_rel (Some n) = entry (hidden_rel num) no_entries
 
-pub error_place : (k : ErrorKind) → (error_prototype k).0 < built_in_count
+pub error_place : (k : ErrorKind) → (error_prototype k).0 ≤ built_in_count
 unfolding built_in_count error_prototype_place type_error_prototype_place range_error_prototype_place reference_error_prototype_place
 error_place kind.Plain = omega arith
 error_place kind.Type = omega arith
@@ -58,7 +58,7 @@ pub object_value_rel : {V : World} (a b : ObjId) → Named V a.0 b.0 → ValueRe
 object_value_rel a b n = object n
 
 pub raise_rel : {V : World} (t : Throw) → Agrees V (raise t) (raise t)
-raise_rel t = on_built_ins (λ U i there. bind_rel (make_rel (error_object t) (error_object t) (error_fit t) (error_fit t) (error_rel t there) refl refl
+raise_rel t = on_built_ins (λ U i there. bind_rel (make_rel (error_object t) (error_object t) (error_fit t) (error_fit t) refl refl (error_rel t there) refl refl
     (λ W l s u g. record { kind = kind_of t; is = refl }))
     (λ W l a b n. ret_rel (λ X j. thrown (object_value_rel a b (named_up j n)))))
 

@@ -156,7 +156,8 @@ visit_list_rel c d built_in.ArrayPrototypeSome a b m calls hs n = visits_rel a b
 visit_list_rel c d built_in.ArrayPrototypeForEach a b m calls hs n = visits_rel a b 0 m (with_this calls hs n) for_each
 visit_list_rel c d built_in.ArrayPrototypeMap a b m calls hs n = map_all_rel a b m (with_this calls hs n)
 visit_list_rel c d built_in.ArrayPrototypeFilter a b m calls hs n = filter_all_rel a b m (with_this calls hs n)
-visit_list_rel c d which a b m calls hs n = reduce_rel c d a b m calls hs n
+visit_list_rel c d built_in.ArrayPrototypeReduce a b m calls hs n = reduce_rel c d a b m calls hs n
+visit_list_rel c d which a b m calls hs n = raise_rel WrongArgument
 
 -- of the same length
 same_length_rel : {V : World} {vs ws : List Value} (c d : Calls) (which : BuiltIn) (a b : ObjId) (i m : ℕ) → i ≡ m → CallsRel V c d → Each (ValueRel (named V)) vs ws → Named V a.0 b.0

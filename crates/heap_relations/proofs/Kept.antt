@@ -77,7 +77,7 @@ read {W = W} {h = h} {g = g} s x i own r kept = by_case kept refl refl ((r.slots
     by_case c d held (naming.held m) = absurd (cc)
     by_case c d held (copied q m) = absurd (cc)
     by_case c d held (captured {v = v} {p = p} scoped m may shown fixed) =
-        record { left = v; right = p.value; one = d; two = get_own g.objects s.place x p held; same = m; plain = ((r.slots.at s i).plain scoped).1 }
+        record { left = v; prop = p; one = d; own = held; two = get_own g.objects s.place x p held; same = m; plain = ((r.slots.at s i).plain scoped).1 }
 
 pub both : {W : World} {h g : Contents} (s : Slot) (x : List ℕ) → In s W.slots → is_reserved W.opens x ≡ false → Agree W h g → s.frame.keeps x ≡ Free → BothRel W h g s x
 both {W = W} {h = h} {g = g} s x i own r keeps = by_case keeps refl refl ((r.slots.at s i).names x own)

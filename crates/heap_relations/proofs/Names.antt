@@ -71,10 +71,10 @@ module _ {W : World} {es fs : List Environment} {ps : List Object} (r : SlotsRel
       → FoundRel W ps (λ y. lookup fs k y) x q o p → FoundRel W ps (λ y. lookup fs s.two y) x q o p
   outwards k s at out below nowhere = nowhere
   outwards k s at out below (is_sealed v) = is_sealed v
-  outwards k s at out below (is_copied t opens look own v) = is_copied t opens (scope_outwards t.frame.number k s at opens out below look) own v
+  outwards k s at out below (is_copied t opens plain look own v) = is_copied t opens plain (scope_outwards t.frame.number k s at opens out below look) own v
   outwards k s at out below is_unused = is_unused
   outwards k s at out below (is_free t i n v) = is_free t i n v
-  outwards k s at out below (is_captured t i n opens look own v) = is_captured t i n opens (scope_outwards t.frame.number k s at opens out below look) own v
+  outwards k s at out below (is_captured t i n opens plain look own v) = is_captured t i n opens plain (scope_outwards t.frame.number k s at opens out below look) own v
 
   up_is : (gs : List Environment) (k : ℕ) (o : Option EnvId) (x : List ℕ) → first_bound k None o (λ q. lookup gs q x) ≡ look_in gs o x
   up_is gs k None x = refl
@@ -164,8 +164,8 @@ module _ {W : World} {es fs : List Environment} {ps : List Object} (r : SlotsRel
           let found : first_bound s.one None (environment_at es s.one).outer (λ q. lookup es q x) ≡ Some (env_id t.one, s.known x) =
           up_is es s.one (environment_at es s.one).outer x ∙ ap (λ z. look_in es z x) o.there ∙ bound
           in
-          rw found (is_copied s (at.plain scoped).0 (scope_here scoped (at.plain scoped).0) f v)
-      near e f (captured scoped v may shown fixed) up = is_captured s i e (at.plain scoped).0 (scope_here scoped (at.plain scoped).0) f v
+          rw found (is_copied s (at.plain scoped).0 (at.plain scoped).1 (scope_here scoped (at.plain scoped).0) f v)
+      near e f (captured scoped v may shown fixed) up = is_captured s i e (at.plain scoped).0 (at.plain scoped).1 (scope_here scoped (at.plain scoped).0) f v
 
   pub found_rel : {frames : List Frame} {e f : Option EnvId} (x : List ℕ) → Round W frames e f → is_reserved W.opens x ≡ false → FoundRel W ps (look_in fs f) x (resolve frames x) (look_in es e x) (look_in fs f x)
   found_rel x outermost own = nowhere

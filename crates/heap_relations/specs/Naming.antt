@@ -252,15 +252,15 @@ pub record Agree (W : World) (h g : Contents) : Type 0 where
   pub right : IsSound g
 
 -- where a name of the page is bound, from environments that are linked: as itself on both sides, or on the right in the
--- scope object of this number. look is what the right finds by a name.
+-- scope object of this number, which is plain. look is what the right finds by a name.
 pub data FoundRel (W : World) (ps : List Object) (look : List ℕ → Option (EnvId × Value)) (x : List ℕ) : Place → Option (EnvId × Value) → Option (EnvId × Value) → Type 0 where
   nowhere : FoundRel W ps look x Itself None None
   is_free : {v w : Value} (s : Slot) → In s W.slots → s.frame.keeps x ≡ Free → ValueRel (named W) v w → FoundRel W ps look x Itself (Some (env_id s.one, v)) (Some (env_id s.two, w))
-  is_captured : {v : Value} {any : Option (EnvId × Value)} (s : Slot) → In s W.slots → s.frame.keeps x ≡ Captured → W.opens ≡ true
+  is_captured : {v : Value} {any : Option (EnvId × Value)} (s : Slot) → In s W.slots → s.frame.keeps x ≡ Captured → W.opens ≡ true → (object_at ps s.place).class ≡ class.Plain
       → look (scope_name s.frame.number) ≡ Some (env_id s.two, value.Object (record { 0 = s.place }))
       → {p : Prop} → own_property (object_at ps s.place).props x ≡ Some p → ValueRel (named W) v p.value
       → FoundRel W ps look x (InScope s.frame.number) (Some (env_id s.one, v)) any
-  is_copied : {e : EnvId} {v : Value} {any : Option (EnvId × Value)} (s : Slot) → W.opens ≡ true
+  is_copied : {e : EnvId} {v : Value} {any : Option (EnvId × Value)} (s : Slot) → W.opens ≡ true → (object_at ps s.place).class ≡ class.Plain
       → look (scope_name s.frame.number) ≡ Some (env_id s.two, value.Object (record { 0 = s.place }))
       → {p : Prop} → own_property (object_at ps s.place).props x ≡ Some p → ValueRel (named W) v p.value
       → FoundRel W ps look x (Copy s.frame.number) (Some (e, v)) any
@@ -278,10 +278,11 @@ pub record BothRel (W : World) (h g : Contents) (s : Slot) (x : List ℕ) : Type
 -- what a captured variable is, on the right as a property of the scope object, which is plain
 pub record CapturedRel (W : World) (h g : Contents) (s : Slot) (x : List ℕ) : Type 0 where
   pub left : Value
-  pub right : Value
+  pub prop : Prop
   pub one : value_of (environment_at h.environments s.one).names x ≡ Some left
-  pub two : get g.objects s.place x ≡ Some right
-  pub same : ValueRel (named W) left right
+  pub own : own_property (object_at g.objects s.place).props x ≡ Some prop
+  pub two : get g.objects s.place x ≡ Some prop.value
+  pub same : ValueRel (named W) left prop.value
   pub plain : (object_at g.objects s.place).class ≡ class.Plain
 
 -- the one heap is as it is, and on the other nothing is thrown
