@@ -10,6 +10,7 @@ pub mod Closures
 pub mod Constants
 pub mod Declared
 pub mod Descriptors
+pub mod Dispatching
 pub mod Dropped
 pub mod Elements
 pub mod Ends
@@ -70,6 +71,7 @@ pub mod StringRows
 pub mod Targets
 pub mod Tasks
 pub mod TextRows
+pub mod TimerRows
 pub mod Undeclared
 pub mod Unopened
 pub mod Unset

@@ -103,7 +103,7 @@ make_node_rel k may = record {
 
 -- ---- events
 
-new_parts_rel : {W : World} → EventRel (named W) new_parts new_parts
+pub new_parts_rel : {W : World} → EventRel (named W) new_parts new_parts
 new_parts_rel = record { kind = refl; bubbles = refl; cancelable = refl; begun = refl; sent = refl; target = none; current = none; phase = refl }
 
 event_object_rel : {W : World} → HasBuiltIns W → ObjectRel (named W) event_object event_object

@@ -77,9 +77,9 @@ insert_before_rel {V = V} {v = v} {w = w} p c q d h k r x = by r
     by : {r u : Value} → ValueRel (named V) r u → Agrees V (insert_before p c r v) (insert_before q d u w)
     by null = insert_rel p c q d None None h k none x
     by undefined = other undefined
-    by truth = other truth
-    by num = other num
-    by text = other text
+    by (truth {b = b}) = other (truth {b = b})
+    by (num {n = n}) = other (num {n = n})
+    by (text {units = u}) = other (text {units = u})
     by (object {a = a} {b = b} n) = other (object {a = a} {b = b} n)
 
 replace_rel : {V : World} {v w : Value} (p c o q d r : NodeId) → Linked V p.0 q.0 → Linked V c.0 d.0 → Linked V o.0 r.0 → ValueRel (named V) v w → Agrees V (replace p c o v) (replace q d r w)
