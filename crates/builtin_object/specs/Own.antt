@@ -1,5 +1,6 @@
 -- What is asked of an object's own properties.
-use Rattle.std.specs.Prelude.{ℕ, ◌&&◌, not, Bool, true, false, List, [], ◌∷◌, ◌++◌, Option, Some, None, if◌then◌else◌}
+use Rattle.std.specs.Prelude.{ℕ, ◌&&◌, not, Bool, true, false, List, [], ◌∷◌, ◌++◌, Option, Some, None, Result, Ok, Err, if◌then◌else◌}
+use Rattle.js_values.specs.declared.throw.Throw.{Throw}
 use Rattle.object_heap.specs.declared.property.Prop.{Prop}
 use Rattle.page_meaning.specs.ObjectRows.{Changes}
 
@@ -17,7 +18,7 @@ abbrev pub enumerable_name : Option (List ℕ × Prop) → List (List ℕ)
 enumerable_name None = []
 enumerable_name (Some e) = if e.1.enumerable then e.0 ∷ [] else []
 
--- changes, where there are some, behind others
-abbrev pub prefixed : Changes → Option Changes → Option Changes
-prefixed cs None = None
-prefixed cs (Some ds) = Some (cs ++ ds)
+-- changes behind others, or why there are none
+abbrev pub prefixed : Changes → Result Changes Throw → Result Changes Throw
+prefixed cs (Err t) = Err t
+prefixed cs (Ok ds) = Ok (cs ++ ds)

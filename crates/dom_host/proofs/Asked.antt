@@ -136,6 +136,7 @@ kind_raises test v g s t e w = by (node_of s v) refl w.none
   where
     rest : Calls → NodeId → Act
     rest c j = asking (λ q. test (kind_at q.host.nodes j.0)) (λ b. choose b (g c j) (raise WrongArgument))
+
     by : (o : Option NodeId) → node_of s v ≡ o → if_kind test s o ≡ None → Raises (λ c. on_kind test v (g c)) s t e
     by None h q = node_raises v (λ c j. asking (λ p. test (kind_at p.host.nodes j.0)) (λ b. choose b (g c j) (raise WrongArgument))) s t e (record { none = h; raised = w.raised })
     by (Some j) h q = under (test (kind_at s.host.nodes j.0)) refl q
@@ -163,6 +164,7 @@ callback_raises v g s t e w = by (is_function (class_of s v)) refl w.none
     go b h d =
         asked_gives (is_callable v) (λ c a. choose a (or_wrong (g c) (object_in v)) (raise WrongArgument)) itself s t (Err e)
         (subst (λ a. Raises (λ c. choose a (or_wrong (g c) (object_in v)) (raise WrongArgument)) s t e) (sym h) d)
+
     by : (b : Bool) → is_function (class_of s v) ≡ b → object_if b v ≡ None → Raises (λ c. with_callback v (g c)) s t e
     by false h q = go false h w.raised
     by true h q = go true h (subst (λ o. Raises (λ c. or_wrong (g c) o) s t e) (sym q) w.raised)

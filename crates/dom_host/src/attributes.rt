@@ -8,7 +8,7 @@ ghost use Rattle.page_meaning.specs.NodeRows.{node_row};
 ghost use Rattle.page_state.specs.Does.{Gives, itself};
 ghost use Rattle.dom_host.specs.Rows.{IsThere};
 
-use crate::tests::{element, text};
+use crate::tests::{found_element, text_argument};
 use js_core::{OutOfMemory, Units};
 use js_values::{NodeId, Value};
 use page_state::{Fault, State};
@@ -18,9 +18,9 @@ pub(crate) fn get(state: &mut State, this: &Value, args: &[Value]) -> Result<Val
     ensures { Gives itself (λ calls. node_row calls
         built_in.NodePrototypeGetAttribute this.now args.now) state.old state.new result }
 {
-    let node = element(state, this)?;
-    let name = text(state, args, 0)?;
-    Ok(attribute(state, node, &name)?)
+    let element = found_element(state, this)?;
+    let name = text_argument(state, args, 0)?;
+    Ok(attribute(state, element, &name)?)
 }
 
 // The text of an attribute, or null.
@@ -40,10 +40,10 @@ pub(crate) fn set(state: &mut State, this: &Value, args: &[Value]) -> Result<Val
     ensures { Gives itself (λ calls. node_row calls
         built_in.NodePrototypeSetAttribute this.now args.now) state.old state.new result }
 {
-    let node = element(state, this)?;
-    let name = text(state, args, 0)?;
-    let value = text(state, args, 1)?;
-    state.set_attribute(node, &name, &value)
+    let element = found_element(state, this)?;
+    let name = text_argument(state, args, 0)?;
+    let value = text_argument(state, args, 1)?;
+    state.set_attribute(element, &name, &value)
 }
 
 /// `removeAttribute`
@@ -51,9 +51,9 @@ pub(crate) fn remove(state: &mut State, this: &Value, args: &[Value]) -> Result<
     ensures { Gives itself (λ calls. node_row calls
         built_in.NodePrototypeRemoveAttribute this.now args.now) state.old state.new result }
 {
-    let node = element(state, this)?;
-    let name = text(state, args, 0)?;
-    state.remove_attribute(node, &name);
+    let element = found_element(state, this)?;
+    let name = text_argument(state, args, 0)?;
+    state.remove_attribute(element, &name);
     Ok(Value::Undefined)
 }
 
@@ -62,14 +62,20 @@ pub(crate) fn has(state: &mut State, this: &Value, args: &[Value]) -> Result<Val
     ensures { Gives itself (λ calls. node_row calls
         built_in.NodePrototypeHasAttribute this.now args.now) state.old state.new result }
 {
-    let node = element(state, this)?;
-    let name = text(state, args, 0)?;
-    Ok(Value::Bool(has_attribute(state, node, &name)))
+    let element = found_element(state, this)?;
+    let name = text_argument(state, args, 0)?;
+    Ok(Value::Bool(has_attribute(state, element, &name)))
 }
 
 fn has_attribute(state: &State, node: NodeId, name: &Units) -> bool
     requires { IsThere state.now node }
     ensures { result ≡ is_some (attribute_at state.now.host.nodes node (folded name.now)) }
 {
-    state.host().dom().content(node).attributes.get(name).is_some()
+    state
+        .host()
+        .dom()
+        .content(node)
+        .attributes
+        .get(name)
+        .is_some()
 }

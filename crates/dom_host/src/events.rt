@@ -10,7 +10,7 @@ ghost use Rattle.page_host.specs.Steps.{forgets, listens};
 ghost use Rattle.page_meaning.specs.NodeRows.{change_listeners, create_event as spec_create, event_words, node_row};
 ghost use Rattle.page_state.specs.Does.{Gives, itself};
 
-use crate::tests::{document, event, node, text};
+use crate::tests::{found_document, found_event, found_node, text_argument};
 use js_core::{OutOfMemory, Units};
 use js_values::{NodeId, Throw, Value};
 use page_host::Listener;
@@ -19,16 +19,12 @@ use std::alloc::Global;
 use whole_ops::is_true;
 
 /// `createEvent`
-pub(crate) fn create_event(
-    state: &mut State,
-    this: &Value,
-    args: &[Value],
-) -> Result<Value, Fault>
+pub(crate) fn create_event(state: &mut State, this: &Value, args: &[Value]) -> Result<Value, Fault>
     ensures { Gives itself (λ calls. node_row calls
         built_in.NodePrototypeCreateEvent this.now args.now) state.old state.new result }
 {
-    let _document = document(state, this)?;
-    let kind = text(state, args, 0)?;
+    let _document = found_document(state, this)?;
+    let kind = text_argument(state, args, 0)?;
     new_event(state, &kind)
 }
 
@@ -73,16 +69,12 @@ fn lower(unit: u16) -> u16
 }
 
 /// `addEventListener`
-pub(crate) fn add_listener(
-    state: &mut State,
-    this: &Value,
-    args: &[Value],
-) -> Result<Value, Fault>
+pub(crate) fn add_listener(state: &mut State, this: &Value, args: &[Value]) -> Result<Value, Fault>
     ensures { Gives itself (λ calls. node_row calls
         built_in.NodePrototypeAddEventListener this.now args.now) state.old state.new result }
 {
-    let node = node(state, this)?;
-    listen(state, node, args)
+    let target = found_node(state, this)?;
+    listen(state, target, args)
 }
 
 // The listener that the arguments name is added at the node.
@@ -90,7 +82,7 @@ fn listen(state: &mut State, node: NodeId, args: &[Value]) -> Result<Value, Faul
     ensures { Gives itself (λ calls. change_listeners listens calls node args.now) state.old
         state.new result }
 {
-    let kind = text(state, args, 0)?;
+    let kind = text_argument(state, args, 0)?;
     let function = argument(args, 1)?;
     let capture = is_true(&argument(args, 2)?);
     let call = state.callback(&function)?;
@@ -112,8 +104,8 @@ pub(crate) fn remove_listener(
     ensures { Gives itself (λ calls. node_row calls
         built_in.NodePrototypeRemoveEventListener this.now args.now) state.old state.new result }
 {
-    let node = node(state, this)?;
-    forget(state, node, args)
+    let target = found_node(state, this)?;
+    forget(state, target, args)
 }
 
 // The listener that the arguments name is removed from the node.
@@ -121,7 +113,7 @@ fn forget(state: &mut State, node: NodeId, args: &[Value]) -> Result<Value, Faul
     ensures { Gives itself (λ calls. change_listeners forgets calls node args.now) state.old
         state.new result }
 {
-    let kind = text(state, args, 0)?;
+    let kind = text_argument(state, args, 0)?;
     let function = argument(args, 1)?;
     let capture = is_true(&argument(args, 2)?);
     let call = state.callback(&function)?;
@@ -140,8 +132,8 @@ pub(crate) fn init_event(state: &mut State, this: &Value, args: &[Value]) -> Res
     ensures { Gives itself (λ calls. node_row calls
         built_in.EventPrototypeInitEvent this.now args.now) state.old state.new result }
 {
-    let at = event(state, this)?;
-    let kind = text(state, args, 0)?;
+    let at = found_event(state, this)?;
+    let kind = text_argument(state, args, 0)?;
     let bubbles = is_true(&argument(args, 1)?);
     let cancelable = is_true(&argument(args, 2)?);
     state.init_event(at, kind, bubbles, cancelable)?;
@@ -153,7 +145,7 @@ pub(crate) fn stop_propagation(state: &mut State, this: &Value) -> Result<Value,
     ensures { (vs : List Value) → Gives itself (λ calls. node_row calls
         built_in.EventPrototypeStopPropagation this.now vs) state.old state.new result }
 {
-    let at = event(state, this)?;
+    let at = found_event(state, this)?;
     state.stop_propagation(at)?;
     Ok(Value::Undefined)
 }
@@ -163,7 +155,7 @@ pub(crate) fn prevent_default(state: &mut State, this: &Value) -> Result<Value, 
     ensures { (vs : List Value) → Gives itself (λ calls. node_row calls
         built_in.EventPrototypePreventDefault this.now vs) state.old state.new result }
 {
-    let at = event(state, this)?;
+    let at = found_event(state, this)?;
     state.prevent_default(at)?;
     Ok(Value::Undefined)
 }

@@ -13,25 +13,21 @@ ghost use Rattle.page_meaning.specs.NodeRows.{node_row};
 ghost use Rattle.page_state.specs.Does.{Gives, itself};
 ghost use Rattle.dom_host.specs.Rows.{IsThere, settle_nodes};
 
-use crate::tests::{document, node, text};
+use crate::tests::{found_document, found_node, text_argument};
 use dom_tree::DomError;
 use js_core::Units;
 use js_values::{NodeId, Throw, Value};
 use page_state::{Fault, State, argument};
 
 /// `insertBefore`: null is the end, and undefined is of the wrong kind.
-pub(crate) fn insert_before(
-    state: &mut State,
-    this: &Value,
-    args: &[Value],
-) -> Result<Value, Fault>
+pub(crate) fn insert_before(state: &mut State, this: &Value, args: &[Value]) -> Result<Value, Fault>
     ensures { Gives itself (λ calls. node_row calls
         built_in.NodePrototypeInsertBefore this.now args.now) state.old state.new result }
 {
     let given = argument(args, 0)?;
     let reference = argument(args, 1)?;
-    let parent = node(state, this)?;
-    let child = node(state, &given)?;
+    let parent = found_node(state, this)?;
+    let child = found_node(state, &given)?;
     insert_at(state, parent, child, &reference, given)
 }
 
@@ -51,7 +47,7 @@ fn insert_at(
     match reference {
         Value::Null => insert(state, parent, child, None, given),
         _ => {
-            let before = node(state, reference)?;
+            let before = found_node(state, reference)?;
             insert(state, parent, child, Some(before), given)
         }
     }
@@ -63,8 +59,8 @@ pub(crate) fn append_child(state: &mut State, this: &Value, args: &[Value]) -> R
         built_in.NodePrototypeAppendChild this.now args.now) state.old state.new result }
 {
     let given = argument(args, 0)?;
-    let parent = node(state, this)?;
-    let child = node(state, &given)?;
+    let parent = found_node(state, this)?;
+    let child = found_node(state, &given)?;
     insert(state, parent, child, None, given)
 }
 
@@ -86,19 +82,15 @@ fn insert(
 }
 
 /// `replaceChild`
-pub(crate) fn replace_child(
-    state: &mut State,
-    this: &Value,
-    args: &[Value],
-) -> Result<Value, Fault>
+pub(crate) fn replace_child(state: &mut State, this: &Value, args: &[Value]) -> Result<Value, Fault>
     ensures { Gives itself (λ calls. node_row calls
         built_in.NodePrototypeReplaceChild this.now args.now) state.old state.new result }
 {
     let first = argument(args, 0)?;
     let given = argument(args, 1)?;
-    let parent = node(state, this)?;
-    let child = node(state, &first)?;
-    let old = node(state, &given)?;
+    let parent = found_node(state, this)?;
+    let child = found_node(state, &first)?;
+    let old = found_node(state, &given)?;
     replace(state, parent, child, old, given)
 }
 
@@ -125,18 +117,13 @@ pub(crate) fn remove_child(state: &mut State, this: &Value, args: &[Value]) -> R
         built_in.NodePrototypeRemoveChild this.now args.now) state.old state.new result }
 {
     let given = argument(args, 0)?;
-    let parent = node(state, this)?;
-    let child = node(state, &given)?;
+    let parent = found_node(state, this)?;
+    let child = found_node(state, &given)?;
     take_out(state, parent, child, given)
 }
 
 // The child is taken out, and given.
-fn take_out(
-    state: &mut State,
-    parent: NodeId,
-    child: NodeId,
-    given: Value,
-) -> Result<Value, Fault>
+fn take_out(state: &mut State, parent: NodeId, child: NodeId, given: Value) -> Result<Value, Fault>
     requires parent { IsThere state.old parent }
     requires child { IsThere state.old child }
     ensures { Gives itself (λ _. spec.remove parent child given) state.old state.new result }
@@ -166,7 +153,7 @@ pub(crate) fn has_child_nodes(state: &mut State, this: &Value) -> Result<Value, 
     ensures { (vs : List Value) → Gives itself (λ calls. node_row calls
         built_in.NodePrototypeHasChildNodes this.now vs) state.old state.new result }
 {
-    let parent = node(state, this)?;
+    let parent = found_node(state, this)?;
     Ok(Value::Bool(has_children(state, parent)))
 }
 
@@ -182,8 +169,8 @@ pub(crate) fn get_by_id(state: &mut State, this: &Value, args: &[Value]) -> Resu
     ensures { Gives itself (λ calls. node_row calls
         built_in.NodePrototypeGetElementById this.now args.now) state.old state.new result }
 {
-    let _document = document(state, this)?;
-    let id = text(state, args, 0)?;
+    let _document = found_document(state, this)?;
+    let id = text_argument(state, args, 0)?;
     Ok(object_with_id(state, &id))
 }
 
@@ -206,8 +193,8 @@ pub(crate) fn create_element(
     ensures { Gives itself (λ calls. node_row calls
         built_in.NodePrototypeCreateElement this.now args.now) state.old state.new result }
 {
-    let _document = document(state, this)?;
-    let name = text(state, args, 0)?;
+    let _document = found_document(state, this)?;
+    let name = text_argument(state, args, 0)?;
     new_element(state, &name)
 }
 
@@ -226,8 +213,8 @@ pub(crate) fn create_text(state: &mut State, this: &Value, args: &[Value]) -> Re
     ensures { Gives itself (λ calls. node_row calls
         built_in.NodePrototypeCreateTextNode this.now args.now) state.old state.new result }
 {
-    let _document = document(state, this)?;
-    let words = text(state, args, 0)?;
+    let _document = found_document(state, this)?;
+    let words = text_argument(state, args, 0)?;
     Ok(Value::Object(state.make_text(&words)?))
 }
 
@@ -240,7 +227,7 @@ pub(crate) fn create_comment(
     ensures { Gives itself (λ calls. node_row calls
         built_in.NodePrototypeCreateComment this.now args.now) state.old state.new result }
 {
-    let _document = document(state, this)?;
-    let words = text(state, args, 0)?;
+    let _document = found_document(state, this)?;
+    let words = text_argument(state, args, 0)?;
     Ok(Value::Object(state.make_comment(&words)?))
 }

@@ -9,12 +9,7 @@ use js_values::{BuiltIn, Throw, Value};
 use page_state::{Fault, State};
 
 /// What a built-in function does when it is called with `this` and the arguments: its value, or what it throws.
-pub fn row(
-    state: &mut State,
-    which: BuiltIn,
-    this: &Value,
-    args: &[Value],
-) -> Result<Value, Fault>
+pub fn row(state: &mut State, which: BuiltIn, this: &Value, args: &[Value]) -> Result<Value, Fault>
     ensures { Gives itself (λ calls. node_row calls which this.now args.now) state.old state.new
         result }
 {

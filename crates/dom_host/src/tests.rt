@@ -15,35 +15,35 @@ use js_values::{NodeId, ObjId, Throw, Value};
 use page_state::{Fault, State, argument};
 
 /// The node that a value is. Anything else is a wrong argument.
-pub(crate) fn node(state: &mut State, value: &Value) -> Result<NodeId, Fault>
+pub(crate) fn found_node(state: &mut State, value: &Value) -> Result<NodeId, Fault>
     ensures found { Finds (node_of state.old value.now) state.old state.new result }
     ensures there { IfOk result (λ node. IsThere state.new node) }
 {
     match state.node_of(value) {
-        Some(node) => Ok(node),
+        Some(found) => Ok(found),
         None => Err(state.raise(Throw::WrongArgument)),
     }
 }
 
 /// The element that a value is.
-pub(crate) fn element(state: &mut State, value: &Value) -> Result<NodeId, Fault>
+pub(crate) fn found_element(state: &mut State, value: &Value) -> Result<NodeId, Fault>
     ensures { Finds (node_of_kind spec_element state.old value.now) state.old state.new result }
 {
-    let node = node(state, value)?;
-    if is_element(&state.host().dom().content(node).kind) {
-        Ok(node)
+    let found = found_node(state, value)?;
+    if is_element(&state.host().dom().content(found).kind) {
+        Ok(found)
     } else {
         Err(state.raise(Throw::WrongArgument))
     }
 }
 
 /// The node of the document, which a value is.
-pub(crate) fn document(state: &mut State, value: &Value) -> Result<NodeId, Fault>
+pub(crate) fn found_document(state: &mut State, value: &Value) -> Result<NodeId, Fault>
     ensures { Finds (node_of_kind spec_document state.old value.now) state.old state.new result }
 {
-    let node = node(state, value)?;
-    if is_document(&state.host().dom().content(node).kind) {
-        Ok(node)
+    let found = found_node(state, value)?;
+    if is_document(&state.host().dom().content(found).kind) {
+        Ok(found)
     } else {
         Err(state.raise(Throw::WrongArgument))
     }
@@ -62,7 +62,7 @@ fn is_document(kind: &Kind) -> bool
 }
 
 /// The event that a value is.
-pub(crate) fn event(state: &mut State, value: &Value) -> Result<ObjId, Fault>
+pub(crate) fn found_event(state: &mut State, value: &Value) -> Result<ObjId, Fault>
     ensures { Finds (event_of state.old value.now) state.old state.new result }
 {
     match event_in(state, value) {
@@ -86,7 +86,7 @@ fn event_in(state: &State, value: &Value) -> Option<ObjId>
 }
 
 /// An argument as a text, which changes nothing.
-pub(crate) fn text(state: &mut State, args: &[Value], index: usize) -> Result<Units, Fault>
+pub(crate) fn text_argument(state: &mut State, args: &[Value], index: usize) -> Result<Units, Fault>
     ensures text { Gives Text (λ calls. to_text calls (spec_argument args.now index)) state.old
         state.new result }
     ensures same { OnOk result (state.new ≡ state.old) }
