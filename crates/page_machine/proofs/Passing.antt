@@ -5,7 +5,7 @@ use Rattle.js_values.specs.declared.value.Value.TheVariants.{Object}
 use Rattle.timer_queue.specs.declared.timer.Live.{Live}
 use Rattle.page_host.specs.Steps.{clock_at, fires, next_timer}
 use Rattle.page_meaning.specs.declared.signal.Signal.{Signal}
-use Rattle.page_meaning.specs.Act.{Act, Calls, Outcome, Ended, Stopped, bind, done, nothing}
+use Rattle.page_meaning.specs.Act.{Act, Calls, Outcome, Ended, Stopped, bind, done, nothing, then_on}
 use Rattle.page_meaning.specs.Calls.{calls_at}
 use Rattle.page_meaning.specs.Lines.{put_uncaught}
 use Rattle.page_meaning.specs.Places.{window}
@@ -44,13 +44,19 @@ called_on : (moment : ℕ) (f : ObjId) (given : Signal) (s u v t : Store) (m mid
     → (next : Unit {0} → Act) (last : Act) → (fired (calls_at m.depth) moment next last (next_timer s.host moment)).run s m.steps ≡ (next tt).run t m'.steps
 called_on moment f given s u v t m mid m' due step depth fire ran put next last =
     let ran' : ((calls_at m.depth).call (Object due.timer.call) (Object window) []).run u mid.steps ≡ Ended given v m'.steps = sym (rw (depth, due.call) at ran) in
-    rw (due.there) (rw step (rw (fire.is (calls_at m.depth) mid.steps) (rw ran' (rw (put.is (calls_at m.depth) m'.steps) refl))))
+    rw (due.there)
+    (rw step
+    (ap (λ o. then_on o (λ _. bind ((calls_at m.depth).call (Object due.timer.call) (Object window) []) (λ g. bind (put_uncaught g) next))) (fire.is (calls_at m.depth) mid.steps)
+    ∙ rw ran' (rw (put.is (calls_at m.depth) m'.steps) refl)))
 
 stopped_in : (moment : ℕ) (f : ObjId) (s u v : Store) (m mid : Meter) → IsDue (next_timer s.host moment) f → m.steps ≡ suc mid.steps → mid.depth ≡ m.depth
     → Does (λ _. changes_host (fires moment)) s tt u → Stopped v ≡ ((calls_at mid.depth).call (Object f) (Object window) []).run u mid.steps → Stops moment s m v
 stopped_in moment f s u v m mid due step depth fire ran next last =
     let ran' : ((calls_at m.depth).call (Object due.timer.call) (Object window) []).run u mid.steps ≡ Stopped v = sym (rw (depth, due.call) at ran) in
-    rw (due.there) (rw step (rw (fire.is (calls_at m.depth) mid.steps) (rw ran' refl)))
+    rw (due.there)
+    (rw step
+    (ap (λ o. then_on o (λ _. bind ((calls_at m.depth).call (Object due.timer.call) (Object window) []) (λ g. bind (put_uncaught g) next))) (fire.is (calls_at m.depth) mid.steps)
+    ∙ rw ran' refl))
 
 -- a timer fires, and what it came to is put out
 pub fires_next : (moment : ℕ) (f : ObjId) (e : End) (on : Bool) (s u v t : Store) (m mid m' : Meter) → Some f ≡ option_map (λ x. x.call) (next_timer s.host moment) → m.steps ≡ suc mid.steps
@@ -111,7 +117,7 @@ none_left moment zero s t n d o x enough same is none clock = absurd (omega (ari
 none_left moment (suc k) s t n d o (Some y) enough same is none clock = cc
 none_left moment (suc k) s t n d o None enough same is none clock =
     let ran : (bind (changes_host (clock_at moment)) (λ _. done)).run s n ≡ o = rw is at same in
-    sym (rw (clock.is (calls_at d) n) refl) ∙ ran
+    sym (ap (λ o. then_on o (λ _. done)) (clock.is (calls_at d) n)) ∙ ran
 
 pub ends : (moment : ℕ) (s t : Store) (m : Meter) (d : ℕ) (o : Outcome Signal) → Passes moment s m d o → false ≡ is_some (next_timer s.host moment) → Does (λ _. changes_host (clock_at moment)) s tt t
     → Ended nothing t m.steps ≡ o

@@ -46,7 +46,7 @@ pub time_comes : (vs : List Value) (i : ℕ) (v : Value) (w : Option ℤ) (k : �
 time_comes vs i v w k s t same d is calls next n = rw (← same) (rw (d.is calls n) (rw is refl))
 
 throws_time : (vs : List Value) (i : ℕ) (s t : Store) (e : Failure Value) → Raises (λ calls. to_number calls (argument vs i)) s t e → Comes ℕ (λ calls. with_time calls vs i) s t (Err e)
-throws_time vs i s t (fault.Cause v) d calls next n = rw (d.is calls n) refl
+throws_time vs i s t (fault.Cause v) d = λ calls next n. rw (d.is calls n) refl
 throws_time vs i s t fault.OutOfMemory d = tt
 
 pub time_fails : (vs : List Value) (i : ℕ) (v : Value) (s t : Store) (e : Failure Value) (r : Result ℕ (Failure Value)) → v ≡ argument vs i → Raises (λ calls. to_number calls v) s t e
@@ -76,7 +76,7 @@ function_comes vs most v at s t same k few calls next n =
 
 throws_more : (vs : List Value) (most : ℕ) (at : ObjId) (s t : Store) (e : Failure Value) → function_of s (argument vs 0) ≡ Some at → most < length vs → Raises (λ _. raise WrongArgument) s t e
     → Comes ObjId (λ _. with_function vs most) s t (Err e)
-throws_more vs most at s t (fault.Cause u) found more r calls next n =
+throws_more vs most at s t (fault.Cause u) found more r = λ calls next n.
     callback_is (argument vs 0) (λ f. choose (nat_le (length vs) most) (next f) (raise WrongArgument)) (Some at) s n found ∙ rw (beyond (length vs) most more) (r.is calls n)
 throws_more vs most at s t fault.OutOfMemory found more r = tt
 
@@ -86,7 +86,7 @@ more_fails vs most v at s t u e same k more r = throws_more vs most at s u e (rw
 
 throws_none : (vs : List Value) (most : ℕ) (s t : Store) (e : Failure Value) → function_of s (argument vs 0) ≡ None → Raises (λ _. raise WrongArgument) s t e
     → Comes ObjId (λ _. with_function vs most) s t (Err e)
-throws_none vs most s t (fault.Cause u) none r calls next n =
+throws_none vs most s t (fault.Cause u) none r = λ calls next n.
     callback_is (argument vs 0) (λ f. choose (nat_le (length vs) most) (next f) (raise WrongArgument)) None s n none ∙ r.is calls n
 throws_none vs most s t fault.OutOfMemory none r = tt
 
