@@ -77,4 +77,4 @@ asked_raises h k s t (fault.Cause v) d = record { is = λ c n. d.is c n }
 asked_raises h k s t fault.OutOfMemory d = tt
 
 pub told_property : (base : Value) (x : List ℕ) (s : Store) (v : Value) → Ok v ≡ property_of s base x → Does (λ _. read_property base x) s (Val v) s
-told_property base x s v e = record { is = λ c n. rw e refl }
+told_property base x s v e = record { is = λ c n. rw (← e) refl }
