@@ -21,7 +21,7 @@ use Rattle.page_meaning.specs.Act.{Act, Calls, Ended, Outcome, also, on_value, t
 use Rattle.page_meaning.specs.Calls.{begin, called, calls_at, constructed, constructs, is_constructor}
 use Rattle.page_meaning.specs.Expressions.{eval, eval_args}
 use Rattle.page_meaning.specs.Places.{at_place, function_at, function_place, window}
-use Rattle.page_meaning.specs.Pristine.{pristine}
+use Rattle.page_meaning.specs.Pristine.{built_ins}
 use Rattle.page_meaning.specs.Properties.{get_member, is_function}
 use Rattle.page_meaning.specs.Rows.{row_of}
 use Rattle.page_meaning.specs.Store.{Store}
@@ -29,7 +29,8 @@ use Rattle.page_meaning.specs.declared.signal.Signal.{Signal}
 use Rattle.page_meaning.specs.declared.signal.Signal.TheVariants.{Value as Val}
 use Rattle.page_writer.specs.Statements.{object_function}
 use Rattle.rebuilding.specs.Scene.{IsRunning, Scene, inside}
-use Rattle.rebuilding.proofs.Paths.{built_in_found, name_read}
+use Rattle.rebuilding.proofs.Ordinary.{built_in_unhosted}
+use Rattle.rebuilding.proofs.Paths.{plain_read, built_in_found, name_read}
 use Rattle.object_shapes.specs.Shapes.{built_in_at}
 use Rattle.page_meaning.specs.Places.{built_in_count}
 
@@ -97,14 +98,15 @@ module _ (c : Scene) (s : Store) (sites : List ℕ) (r : IsRunning c s.heap site
 
   module _ (calls : Calls) (n : ℕ) where
     -- a name that holds a built-in function
-    pub constructor_read : (x : List ℕ) (which : BuiltIn) → held_by pristine.heap.objects window.0 x ≡ Some (function_place which)
+    pub constructor_read : (x : List ℕ) (which : BuiltIn) → held_by built_ins window.0 x ≡ Some (function_place which)
         → (eval calls (inside c) (name x)).run s n ≡ Ended (Val (Reference (function_at which))) s n
     constructor_read x which held = name_read c s sites r calls n x (function_place which) held
 
     member_got : (k : ℕ) (x : List ℕ) (p : Prop) → own_property (built_in_at k).props x ≡ Some p
         → (get_member (Reference (at_place k)) x).run s n ≡ Ended (Val p.value) s n
     member_got k x p there =
-        ap (λ (o : Option Prop). Ended (Val (unwrap_or (option_map (λ q. q.value) o) Undefined)) s n) (built_in_found c s sites r k x p there)
+        plain_read c s sites r calls n (at_place k) x (built_in_unhosted k x p there)
+        ∙ ap (λ (o : Option Prop). Ended (Val (unwrap_or (option_map (λ q. q.value) o) Undefined)) s n) (built_in_found c s sites r k x p there)
 
     object_called : (x : List ℕ) (which : BuiltIn) (es : tree.Exprs)
         → own_property (built_in_at (function_place built_in.Object)).props x ≡ Some (hidden (Reference (function_at which)))
@@ -142,7 +144,7 @@ constructor_of kind.Type = built_in.TypeError
 constructor_of kind.Range = built_in.RangeError
 constructor_of kind.Reference = built_in.ReferenceError
 
-pub constructor_named : (k : ErrorKind) → held_by pristine.heap.objects window.0 (kind_name k) ≡ Some (function_place (constructor_of k))
+pub constructor_named : (k : ErrorKind) → held_by built_ins window.0 (kind_name k) ≡ Some (function_place (constructor_of k))
 constructor_named kind.Plain = refl
 constructor_named kind.Type = refl
 constructor_named kind.Range = refl

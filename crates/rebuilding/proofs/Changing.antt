@@ -15,9 +15,9 @@ use Rattle.object_heap.specs.Object.{Object, is_window}
 use Rattle.object_heap.specs.Property.{own_property}
 use Rattle.object_heap.specs.declared.property.Change.{Change}
 use Rattle.page_meaning.specs.Places.{window}
-use Rattle.page_meaning.specs.Pristine.{pristine}
+use Rattle.page_meaning.specs.Pristine.{built_ins}
 use Rattle.rebuilding.specs.Running.{HasChanged}
-use Rattle.rebuilding.specs.Scene.{IsRunning, Scene}
+use Rattle.rebuilding.specs.Scene.{IsRunning, Scene, frame_count}
 use Rattle.rebuilding.specs.Sites.{site}
 use Rattle.rebuilding.proofs.Staying.{Stands, place_other, place_there, running_changed, site_place, site_thing, stays_changed}
 use Rattle.rebuilding.proofs.WindowStays.{is_built, window_defined}
@@ -31,12 +31,12 @@ all_closed [] h k = refl
 all_closed (o ∷ os) h zero = (and_parts o.closed (list_all (λ x. x.closed) os) h).0
 all_closed (o ∷ os) h (suc k) = all_closed os (and_parts o.closed (list_all (λ x. x.closed) os) h).1 k
 
-others_closed : list_all (λ o. o.closed) (drop 1 pristine.heap.objects) ≡ true
+others_closed : list_all (λ o. o.closed) (drop 1 built_ins) ≡ true
 others_closed = refl
 
 pub built_in_closed : (k : ℕ) → 0 < k → (built_in_at k).closed ≡ true
 built_in_closed zero h = absurd (omega (arith, h))
-built_in_closed (suc k) h = all_closed (drop 1 pristine.heap.objects) others_closed k
+built_in_closed (suc k) h = all_closed (drop 1 built_ins) others_closed k
 
 thrown_none : {A : Type 0} (b : Bool) (x : A) (t : Throw) (y : Attempt A) → (if b then throws x t else y).thrown ≡ None → b ≡ false
 thrown_none true x t y h = cc h
@@ -44,11 +44,11 @@ thrown_none false x t y h = refl
 
 -- the object is a thing, or the global one
 may_change : (c : Scene) (h : Contents) (sites : List ℕ) (k : ℕ) → IsRunning c h sites → (k < built_in_count) ⊎ Stands c h k
-    → (object_at h.objects k).closed ≡ false → (built_in_count ≤ k) ⊎ (k ≡ window.0)
+    → (object_at h.objects k).closed ≡ false → (frame_count ≤ k) ⊎ (k ≡ window.0)
 may_change c h sites k r (inr s) open_place = inl s.young
 may_change c h sites k r (inl low) open_place = by (cases_eq k 0)
   where
-    by : (k ≡ 0) ⊎ (k ≡ 0 → ⊥) → (built_in_count ≤ k) ⊎ (k ≡ window.0)
+    by : (k ≡ 0) ⊎ (k ≡ 0 → ⊥) → (frame_count ≤ k) ⊎ (k ≡ window.0)
     by (inl e) = inr e
     by (inr far) =
         let positive : 0 < k = omega (arith, far) in
@@ -71,7 +71,7 @@ pub record IsChanged (c : Scene) (h : Contents) (sites : List ℕ) (k : ℕ) (at
 module _ (c : Scene) (h : Contents) (sites : List ℕ) (r : IsRunning c h sites) (at : ℕ)
     (stands : nat_lt at (built_in_count + length sites) ≡ true) where
   changed_so : (o : Object) → IsSound (with_object h (site sites at) o)
-      → (built_in_count ≤ site sites at) ⊎ ((site sites at ≡ window.0) × IsWindow o)
+      → (frame_count ≤ site sites at) ⊎ ((site sites at ≡ window.0) × IsWindow o)
       → IsChanged c h sites (site sites at) (record { after = with_object h (site sites at) o; thrown = None }) o
   changed_so o sound who =
       let k = site sites at in
@@ -93,8 +93,8 @@ module _ (c : Scene) (h : Contents) (sites : List ℕ) (r : IsRunning c h sites)
 
   module _ (name : List ℕ) (change : Change) (own : nat_eq at window.0 && is_built name ≡ false)
       (done : (object.define_own (object_at h.objects (site sites at)) name change).thrown ≡ None) where
-    defined_who : (built_in_count ≤ site sites at) ⊎ (site sites at ≡ window.0)
-        → (built_in_count ≤ site sites at) ⊎ ((site sites at ≡ window.0) × IsWindow
+    defined_who : (frame_count ≤ site sites at) ⊎ (site sites at ≡ window.0)
+        → (frame_count ≤ site sites at) ⊎ ((site sites at ≡ window.0) × IsWindow
         (object.define_own (object_at h.objects (site sites at)) name change).after)
     defined_who (inl young) = inl young
     defined_who (inr first) =
@@ -118,8 +118,8 @@ module _ (c : Scene) (h : Contents) (sites : List ℕ) (r : IsRunning c h sites)
         record { thrown = done; running = result.running; changed = result.changed }
 
   module _ (done : (prevented (object_at h.objects (site sites at))).thrown ≡ None) where
-    prevented_who : is_window (object_at h.objects (site sites at)).class ≡ false → (built_in_count ≤ site sites at) ⊎ (site sites at ≡ window.0)
-        → (built_in_count ≤ site sites at) ⊎ ((site sites at ≡ window.0) × IsWindow (prevented (object_at h.objects (site sites at))).after)
+    prevented_who : is_window (object_at h.objects (site sites at)).class ≡ false → (frame_count ≤ site sites at) ⊎ (site sites at ≡ window.0)
+        → (frame_count ≤ site sites at) ⊎ ((site sites at ≡ window.0) × IsWindow (prevented (object_at h.objects (site sites at))).after)
     prevented_who ordinary (inl young) = inl young
     prevented_who ordinary (inr first) =
         let global : is_window (object_at h.objects (site sites at)).class ≡ true = ap (λ k. is_window (object_at h.objects k).class) first

@@ -18,6 +18,7 @@ use Rattle.rebuild_plan.specs.Compact.{Thing, moved_props}
 use Rattle.rebuild_plan.specs.Plan.{defines, fill, thing_place}
 use Rattle.rebuild_plan.specs.declared.statement.Rebuild.{Rebuild}
 use Rattle.rebuilding.specs.Rebuilt.{ClassIsRebuilt, Succeeds, bound, fault, list, nth, page, plain}
+use Rattle.heap_walker.specs.Bare.{is_ordinary}
 use Rattle.rebuilding.specs.Scene.{Scene}
 use Rattle.rebuilding.specs.Sites.{site}
 use Rattle.rebuilding.proofs.Fills.{Later, bound_succeeds, fill_as, list_succeeds, page_succeeds, rest_succeeds}
@@ -46,6 +47,14 @@ class_window list = refl
 class_window fault = refl
 class_window (page round) = refl
 class_window bound = refl
+
+pub class_ordinary : {c : Scene} {es : List Environment} {s : Store} {things sites : List ℕ} {k : ℕ} {C D : Class} → ClassIsRebuilt c es s things sites k C D
+    → is_ordinary D ≡ true
+class_ordinary plain = refl
+class_ordinary list = refl
+class_ordinary fault = refl
+class_ordinary (page round) = refl
+class_ordinary bound = refl
 
 -- ---- one thing
 
@@ -105,7 +114,7 @@ fill_step c End s things sites g sound fresh made n h rs inside running is allow
     let o : Object = object_at g.objects (nth sites n) in
     let young = fresh n inside in
     by_class c End s things sites h (thing_place n) thing o h rs
-    (going_begins c h sites (site sites (thing_place n).0) o running (ap (object_at h.objects) (site_thing sites n) ∙ is))
+    (going_begins c h sites (site sites (thing_place n).0) o running (class_ordinary young.class) (ap (object_at h.objects) (site_thing sites n) ∙ is))
     young.closed young.extensible (class_window young.class) (sound.names (nth things n)) (at_thing n)
     (λ i now more. later i (subst (λ k. Going c h i sites k (filled g s things sites n)) (site_thing sites n) now) more)
     thing.class (class_list young.class) young.props (made n inside) (sound.arrays (nth things n)) allowed

@@ -22,14 +22,13 @@ use Rattle.object_heap.specs.declared.object.Class.{Class}
 use Rattle.object_heap.specs.declared.object.Class.TheVariants as class
 use Rattle.page_meaning.specs.Elements.{length_of}
 use Rattle.page_meaning.specs.Places.{array_prototype, at_place, error_prototype, error_prototype_place, function_at, function_prototype, range_error_prototype_place, reference_error_prototype_place, type_error_prototype_place}
-use Rattle.page_meaning.specs.Pristine.{pristine}
 use Rattle.page_meaning.specs.Properties.{class_at, is_function}
-use Rattle.page_meaning.specs.Store.{Store, with_heap}
+use Rattle.page_meaning.specs.Store.{Store}
 use Rattle.rebuild_plan.specs.Compact.{kind_of, maker_as, moved, moved_needs, moved_proto, moved_values}
 use Rattle.rebuild_plan.specs.Stands.{maker_names}
 use Rattle.rebuilding.specs.Rebuilt.{ClassIsRebuilt, bound, fault, list, page, plain}
 use Rattle.rebuilding.specs.Running.{CanMake, IsMade}
-use Rattle.rebuilding.specs.Scene.{IsRoundOf, Scene}
+use Rattle.rebuilding.specs.Scene.{IsRoundOf, Scene, page_with}
 use Rattle.rebuilding.specs.Sites.{site, sited, sited_proto, sited_values}
 use Rattle.rebuilding.proofs.Placed.{array_low, error_low, function_low, needs_stay, proto_stays}
 use Rattle.rebuilding.proofs.Stages.{IsFresh, MadeProps}
@@ -44,7 +43,7 @@ use Rattle.object_shapes.specs.Links.{all_below}
 pub record IsKept (s : Store) (things : List ℕ) (h : Contents) (sites : List ℕ) (target : ObjId) : Type 0 where
   pub class : is_function (Some (object_at h.objects (site sites (moved things target).0)).class) ≡ true
   pub bind : get h.objects (site sites (moved things target).0) (codes "bind") ≡ Some (Reference (function_at FunctionPrototypeBind))
-  pub length : length_of (sited sites (moved things target)) (with_heap pristine h) ≡ length_of target s
+  pub length : length_of (sited sites (moved things target)) (page_with h) ≡ length_of target s
 
 -- so do all functions that this class refers to
 abbrev pub AreKept : Store → List ℕ → Contents → List ℕ → Class → Type 0
@@ -147,7 +146,7 @@ module _ (c : Scene) (s : Store) (things : List ℕ) (h i : Contents) (sites : L
   begun_bound : (o made : Object) (target : ObjId) (this : Value) (args : List Value) → o.proto ≡ Some function_prototype
       → all_below (built_in_count + length sites) (maker_names (maker_as s things o.proto (class.Bound target this args))) ≡ true
       → HasBoundLength (length_of target s) (length args) o.props
-      → length_of (sited sites (moved things target)) (with_heap pristine h) ≡ length_of target s
+      → length_of (sited sites (moved things target)) (page_with h) ≡ length_of target s
       → IsMade c h i sites place (maker_as s things o.proto (class.Bound target this args)) made → Begun (class.Bound target this args) o made
   begun_bound o made target this args proto stands had same is = subst (λ m. Begun (class.Bound target this args) o m) (sym is) (record {
     class = subst (λ d. ClassIsRebuilt c i.environments s things after place (class.Bound target this args) d)

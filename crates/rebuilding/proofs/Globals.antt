@@ -17,6 +17,7 @@ use Rattle.rebuild_plan.specs.Compact.{moved_props}
 use Rattle.rebuild_plan.specs.Plan.{defines}
 use Rattle.rebuild_plan.specs.declared.statement.Rebuild.{Rebuild}
 use Rattle.rebuilding.specs.Rebuilt.{Succeeds}
+use Rattle.heap_walker.specs.Bare.{is_ordinary}
 use Rattle.rebuilding.specs.Scene.{IsRunning, Scene}
 use Rattle.rebuilding.specs.Sites.{site}
 use Rattle.rebuilding.proofs.Defining.{and_props, defines_succeed}
@@ -81,7 +82,7 @@ globals_succeed c End s things sites h rs still running now allowed later =
     let left : globals_of s ≡ w.others = globals_are (object_at s.heap.objects window.0) w in
     let ordinary : is_list o.class ≡ false = ap is_list running.window.class in
     defines_succeed c End sites h (moved_props things (globals_of s)) h window o rs
-    (going_begins c h sites (site sites window.0) o running (ap (object_at h.objects) (at_window sites)))
+    (going_begins c h sites (site sites window.0) o running (ap is_ordinary running.window.class) (ap (object_at h.objects) (at_window sites)))
     running.window.closed running.window.extensible ordinary
     (globals_new (built_in_at window.0).props w.others (object_at s.heap.objects window.0).props o.props (globals_of s) things left w.props
     (still.sound.names window.0) now)

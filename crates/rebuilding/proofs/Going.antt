@@ -20,7 +20,9 @@ use Rattle.rebuild_plan.specs.declared.statement.Rebuild.{Rebuild}
 use Rattle.rebuild_plan.specs.declared.statement.Rebuild.TheVariants.{Define, DefineLength, DefinePrototype, Prevent}
 use Rattle.rebuilding.specs.Rebuilt.{Succeeds}
 use Rattle.rebuilding.specs.Running.{HasChanged, Stays, short_change, whole_change}
+use Rattle.heap_walker.specs.Bare.{is_ordinary}
 use Rattle.rebuilding.specs.Scene.{IsRunning, Scene}
+use Rattle.rebuilding.proofs.Ordinary.{free_defined, free_prevented}
 use Rattle.rebuilding.specs.Sites.{site}
 use Rattle.rebuilding.proofs.WindowStays.{is_built}
 use Rattle.page_meaning.specs.Places.{built_in_count}
@@ -59,18 +61,21 @@ stays_on f g h but a b = record {
 -- since the page was g, the object at the place became o, and all else stayed
 pub record Going (c : Scene) (g h : Contents) (sites : List ℕ) (k : ℕ) (o : Object) : Type 0 where
   pub running : IsRunning c h sites
+  -- it is neither a node nor an event
+  pub free : is_ordinary o.class ≡ true
   pub stays : Stays g h (k ∷ [])
   pub object : object_at h.objects k ≡ o
 
-pub going_begins : (c : Scene) (h : Contents) (sites : List ℕ) (k : ℕ) (o : Object) → IsRunning c h sites → object_at h.objects k ≡ o
-    → Going c h h sites k o
-going_begins c h sites k o running is = record { running = running; stays = stays_same h (k ∷ []); object = is }
+pub going_begins : (c : Scene) (h : Contents) (sites : List ℕ) (k : ℕ) (o : Object) → IsRunning c h sites → is_ordinary o.class ≡ true
+    → object_at h.objects k ≡ o → Going c h h sites k o
+going_begins c h sites k o running free is = record { running = running; free = free; stays = stays_same h (k ∷ []); object = is }
 
 changed_next : (c : Scene) (g h i : Contents) (sites after : List ℕ) (k : ℕ) (o p next : Object) → Going c g h sites k o → IsRunning c i after
     → HasChanged h i sites after k p → p ≡ next
-    → Going c g i sites k next
-changed_next c g h i sites after k o p next going running ran is = record {
+    → is_ordinary next.class ≡ true → Going c g i sites k next
+changed_next c g h i sites after k o p next going running ran is free = record {
   running = subst (IsRunning c i) ran.same running;
+  free = free;
   stays = stays_on g h i (k ∷ []) going.stays ran.stays;
   object = ran.object ∙ is;
 }
@@ -89,12 +94,14 @@ module _ (c : Scene) (End : Contents → List ℕ → Type 0) (sites : List ℕ)
       stands = (and_parts (all_below (built_in_count + length sites) (at.0 ∷ value_links p.value)) (standing (length sites) rs) allowed.stands).0;
       in_range = All-head IsLiteral p.value [] (All-tail IsLiteral (Text x) (p.value ∷ []) (range_first (Define at x p) rs allowed.in_range));
       other = ap (λ (q : Object). is_list q.class && bytes_eq x length_name) going.object ∙ other;
+      free = ap (λ (q : Object). is_ordinary q.class) going.object ∙ going.free;
       own = own;
       defined = ap (λ (q : Object). (define_own q x (whole_change sites p)).thrown) going.object ∙ ap (λ (a : Attempt Object). a.thrown) does;
     },
     λ i after running ran. subst (λ l. Succeeds c End i l rs) (sym ran.same) (later i
         (changed_next c g h i sites after (site sites at.0) o _ next going running ran
-        (ap (λ (q : Object). (define_own q x (whole_change sites p)).after) going.object ∙ ap (λ (a : Attempt Object). a.after) does))
+        (ap (λ (q : Object). (define_own q x (whole_change sites p)).after) going.object ∙ ap (λ (a : Attempt Object). a.after) does)
+        (sym (ap (λ (a : Attempt Object). is_ordinary a.after.class) does) ∙ free_defined o x (whole_change sites p) going.free))
         (record { stands = (and_parts _ (standing (length sites) rs) allowed.stands).1; in_range = range_rest (Define at x p) rs allowed.in_range })),
   )
 
@@ -111,6 +118,7 @@ module _ (c : Scene) (End : Contents → List ℕ → Type 0) (sites : List ℕ)
       in_range = All-head IsLiteral v [] (range_first (DefinePrototype at v writable) rs allowed.in_range);
       other = ap (λ (q : Object). is_list q.class && bytes_eq prototype_name length_name) going.object
           ∙ ap (λ b. b && bytes_eq prototype_name length_name) ordinary;
+      free = ap (λ (q : Object). is_ordinary q.class) going.object ∙ going.free;
       own = ap (λ b. b && is_built prototype_name) off;
       defined = ap (λ (q : Object). (define_own q prototype_name (short_change sites v writable)).thrown) going.object
           ∙ ap (λ (a : Attempt Object). a.thrown) does;
@@ -118,7 +126,8 @@ module _ (c : Scene) (End : Contents → List ℕ → Type 0) (sites : List ℕ)
     λ i after running ran. subst (λ l. Succeeds c End i l rs) (sym ran.same) (later i
         (changed_next c g h i sites after (site sites at.0) o _ next going running ran
         (ap (λ (q : Object). (define_own q prototype_name (short_change sites v writable)).after) going.object
-        ∙ ap (λ (a : Attempt Object). a.after) does))
+        ∙ ap (λ (a : Attempt Object). a.after) does)
+        (sym (ap (λ (a : Attempt Object). is_ordinary a.after.class) does) ∙ free_defined o prototype_name (short_change sites v writable) going.free))
         (record {
           stands = (and_parts _ (standing (length sites) rs) allowed.stands).1;
           in_range = range_rest (DefinePrototype at v writable) rs allowed.in_range;
@@ -137,13 +146,15 @@ module _ (c : Scene) (End : Contents → List ℕ → Type 0) (sites : List ℕ)
       count = n;
       is = refl;
       in_range = All-head IsLiteral (number n) [] (range_first (DefineLength at (number n) writable) rs allowed.in_range);
+      free = ap (λ (q : Object). is_ordinary q.class) going.object ∙ going.free;
       defined = ap (λ (q : Object). (define_own q length_name (short_change sites (number n) writable)).thrown) going.object
           ∙ ap (λ (a : Attempt Object). a.thrown) does;
     },
     λ i after running ran. subst (λ l. Succeeds c End i l rs) (sym ran.same) (later i
         (changed_next c g h i sites after (site sites at.0) o _ next going running ran
         (ap (λ (q : Object). (define_own q length_name (short_change sites (number n) writable)).after) going.object
-        ∙ ap (λ (a : Attempt Object). a.after) does))
+        ∙ ap (λ (a : Attempt Object). a.after) does)
+        (sym (ap (λ (a : Attempt Object). is_ordinary a.after.class) does) ∙ free_defined o length_name (short_change sites (number n) writable) going.free))
         (record {
           stands = (and_parts _ (standing (length sites) rs) allowed.stands).1;
           in_range = range_rest (DefineLength at (number n) writable) rs allowed.in_range;
@@ -161,6 +172,7 @@ module _ (c : Scene) (End : Contents → List ℕ → Type 0) (sites : List ℕ)
     },
     λ i after running ran. subst (λ l. Succeeds c End i l rs) (sym ran.same) (later i
         (changed_next c g h i sites after (site sites at.0) o _ next going running ran
-        (ap (λ (q : Object). (prevented q).after) going.object ∙ ap (λ (a : Attempt Object). a.after) does))
+        (ap (λ (q : Object). (prevented q).after) going.object ∙ ap (λ (a : Attempt Object). a.after) does)
+        (sym (ap (λ (a : Attempt Object). is_ordinary a.after.class) does) ∙ free_prevented o going.free))
         (record { stands = (and_parts _ (standing (length sites) rs) allowed.stands).1; in_range = range_rest (Prevent at) rs allowed.in_range })),
   )

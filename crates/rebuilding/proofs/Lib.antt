@@ -29,6 +29,7 @@ pub mod MakePhase
 pub mod Making
 pub mod Naming
 pub mod Needs
+pub mod Ordinary
 pub mod Paths
 pub mod Phase
 pub mod Pieces

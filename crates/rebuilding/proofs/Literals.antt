@@ -1,5 +1,5 @@
 -- A descriptor as an object literal: a fresh object, and what it asks for.
-use Rattle.std.proofs.Common.{◌≡◌, refl, ap, ◌∙◌, ℕ, ◌+◌, ◌<◌, Bool, true, List, [], ◌∷◌, ◌++◌, Option, Some, None, length, codes, arith}
+use Rattle.std.proofs.Common.{◌≡◌, refl, ap, ◌∙◌, ℕ, ◌+◌, ◌<◌, Bool, true, List, [], ◌∷◌, ◌++◌, Option, Some, None, Ok, option_map, length, codes, arith}
 use Rattle.std.proofs.Math.Seq.{set-append_seam}
 use Rattle.std.specs.Option.{option_map}
 use Rattle.built_in_paths.specs.Laws.{EachHasPath, PathsLead}
@@ -25,7 +25,12 @@ use Rattle.page_meaning.specs.Expressions.{eval, eval_fields, new_plain}
 use Rattle.page_meaning.specs.Places.{object_prototype}
 use Rattle.page_meaning.specs.Primitives.{next_place}
 use Rattle.page_meaning.specs.Properties.{define_member}
+use Rattle.page_host.specs.declared.host_name.HostName.TheVariants.{Value as HasValue}
+use Rattle.page_meaning.specs.HostNames.{Seen, held, see}
+use Rattle.page_meaning.specs.Reading.{seen_at}
 use Rattle.page_meaning.specs.Store.{Store, with_heap}
+use Rattle.heap_walker.specs.Bare.{is_ordinary}
+use Rattle.rebuilding.proofs.Ordinary.{define_free}
 use Rattle.page_meaning.specs.declared.signal.Signal.TheVariants.{Value as Val}
 use Rattle.page_writer.specs.Literals.{IsLiteral}
 use Rattle.page_writer.specs.Statements.{short_descriptor, value_and_writable, value_expr, whole_descriptor}
@@ -82,7 +87,10 @@ member_defined : (s : Store) (h : Contents) (n : ℕ) (props : Props) (x : List 
     → (define_member (next_place h) x v).run (with_heap s (with_literal h props)) n
     ≡ Ended (Val v) (with_heap s (with_literal h (props ++ (x, open_property v) ∷ []))) n
 member_defined s h n props x v fresh =
-    ap (λ (a : Attempt Contents). (on_refusal (give v) a.thrown).run (with_heap s a.after) n) (field_defined h props x v fresh)
+    let t : Store = with_heap s (with_literal h props) in
+    ap (λ (a : Attempt Contents). (on_refusal (give v) a.thrown).run (with_heap s a.after) n)
+    (define_free t (next_place h) x (whole_property v) (ap (λ (o : Object). is_ordinary o.class) (object_last h.objects (literal_object props)))
+    ∙ field_defined h props x v fresh)
 
 module _ (c : Scene) (s : Store) (h : Contents) (calls : Calls) (n : ℕ) where
   field_run : (x : List ℕ) (e : tree.Expr) (fs : tree.Fields) (v : Value) (props : Props) → own_property props x ≡ None
@@ -100,7 +108,7 @@ module _ (c : Scene) (s : Store) (sites : List ℕ) (r : IsRunning c s.heap site
       ≡ (eval_fields calls (inside c) fs (next_place s.heap)).run (with_heap s (with_literal s.heap [])) n
   fresh_run fs =
       ap (λ (o : Outcome ObjId). then_on o (λ p. eval_fields calls (inside c) fs p))
-      (make_run (new_object class.Plain (Some object_prototype)) (new_fit class.Plain (Some object_prototype)) s n
+      (make_run (new_object class.Plain (Some object_prototype)) (new_fit class.Plain (Some object_prototype)) refl s n
       (some_below object_prototype (length s.heap.objects) (low_there c s.heap sites r object_prototype.0 prototype_low.1))
       (none_below (length s.heap.objects)))
 
@@ -146,17 +154,17 @@ whole_names p =
 
 -- ---- what they ask for
 
-asked : (s : Store) (at : ObjId) (v w e f : Option Prop) → get_property s.heap.objects at.0 (codes "value") ≡ v
+asked : (s : Store) (at : ObjId) (v : Prop) (w e f : Option Prop) → seen_at s at (codes "value") HasValue ≡ Some (held v)
     → get_property s.heap.objects at.0 (codes "writable") ≡ w
     → get_property s.heap.objects at.0 (codes "enumerable") ≡ e → get_property s.heap.objects at.0 (codes "configurable") ≡ f
     → get_property s.heap.objects at.0 (codes "get") ≡ None → get_property s.heap.objects at.0 (codes "set") ≡ None
-    → change_in s (Reference at) ≡ Some (record {
-      value = option_map (λ p. p.value) v;
+    → change_in s (Reference at) ≡ Ok (record {
+      value = Some v.value;
       writable = option_map is_true (option_map (λ p. p.value) w);
       enumerable = option_map is_true (option_map (λ p. p.value) e);
       configurable = option_map is_true (option_map (λ p. p.value) f);
     })
-asked s at v w e f hv hw he hf hg hs = rw (hg, hs, hv, hw, he, hf) refl
+asked s at v w e f hv hw he hf hg hs = rw (hv, hg, hs, hw, he, hf) refl
 
 module _ (c : Scene) (h : Contents) (sites : List ℕ) (r : IsRunning c h sites) (props : Props) (names : HasDistinctNames props) where
   literal_has : (x : List ℕ) → get_property (with_literal h props).objects (length h.objects) x
@@ -178,26 +186,37 @@ module _ (c : Scene) (h : Contents) (sites : List ℕ) (r : IsRunning c h sites)
       ∙ ap (λ (o : Option Prop). first_found o None up) none
 
 module _ (c : Scene) (s : Store) (sites : List ℕ) (r : IsRunning c s.heap sites) where
+  -- the field `value` is seen as a property, since the literal is no node
+  value_seen : (props : Props) (names : HasDistinctNames props) (v : Prop) → own_property props (codes "value") ≡ Some v
+      → seen_at (with_heap s (with_literal s.heap props)) (next_place s.heap) (codes "value") HasValue ≡ Some (held v)
+  value_seen props names v own =
+      let g : Contents = with_literal s.heap props in
+      let look : Object → Option Seen = see s.host.nodes (codes "value") HasValue in
+      let up : ℕ → Option Seen = λ q. found look g.objects q in
+      found_on look g.objects (length s.heap.objects) (literal_running c s.heap sites r props names).sound.prototypes
+      ∙ ap (λ (o : Object). first_found (look o) o.proto up) (object_last s.heap.objects (literal_object props))
+      ∙ ap (λ (o : Option Prop). first_found (option_map held o) (Some object_prototype) up) own
+
   pub short_asks : (v : Value) (writable : Bool) → let props = short_fields (sited_value sites v) writable in
-      change_in (with_heap s (with_literal s.heap props)) (Reference (next_place s.heap)) ≡ Some (short_change sites v writable)
+      change_in (with_heap s (with_literal s.heap props)) (Reference (next_place s.heap)) ≡ Ok (short_change sites v writable)
   short_asks v writable =
       let props = short_fields (sited_value sites v) writable in
       let has = literal_has c s.heap sites r props (short_names (sited_value sites v) writable) in
       let lacks = literal_lacks c s.heap sites r props (short_names (sited_value sites v) writable) in
-      asked (with_heap s (with_literal s.heap props)) (next_place s.heap) (Some (open_property (sited_value sites v)))
+      asked (with_heap s (with_literal s.heap props)) (next_place s.heap) (open_property (sited_value sites v))
       (Some (open_property (value.Bool writable))) None None
-      (has (codes "value")) (has (codes "writable")) (lacks (codes "enumerable") refl refl) (lacks (codes "configurable") refl refl)
+      (value_seen c s sites r props (short_names (sited_value sites v) writable) (open_property (sited_value sites v)) refl) (has (codes "writable")) (lacks (codes "enumerable") refl refl) (lacks (codes "configurable") refl refl)
       (lacks (codes "get") refl refl) (lacks (codes "set") refl refl)
 
   pub whole_asks : (p : Prop)
       → change_in (with_heap s (with_literal s.heap (descriptor_props (sited_prop sites p)))) (Reference (next_place s.heap))
-      ≡ Some (whole_change sites p)
+      ≡ Ok (whole_change sites p)
   whole_asks p =
       let props = descriptor_props (sited_prop sites p) in
       let has = literal_has c s.heap sites r props (whole_names (sited_prop sites p)) in
       let lacks = literal_lacks c s.heap sites r props (whole_names (sited_prop sites p)) in
-      asked (with_heap s (with_literal s.heap props)) (next_place s.heap) (Some (open_property (sited_value sites p.value)))
+      asked (with_heap s (with_literal s.heap props)) (next_place s.heap) (open_property (sited_value sites p.value))
       (Some (open_property (value.Bool p.writable)))
       (Some (open_property (value.Bool p.enumerable))) (Some (open_property (value.Bool p.configurable)))
-      (has (codes "value")) (has (codes "writable")) (has (codes "enumerable")) (has (codes "configurable"))
+      (value_seen c s sites r props (whole_names (sited_prop sites p)) (open_property (sited_value sites p.value)) refl) (has (codes "writable")) (has (codes "enumerable")) (has (codes "configurable"))
       (lacks (codes "get") refl refl) (lacks (codes "set") refl refl)

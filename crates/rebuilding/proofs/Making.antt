@@ -37,7 +37,12 @@ use Rattle.page_meaning.specs.Places.{array_prototype, at_place, error_prototype
 use Rattle.page_meaning.specs.Primitives.{make, next_place}
 use Rattle.page_meaning.specs.Properties.{get_member, is_length_of, put_in, stored}
 use Rattle.page_meaning.specs.Rows.{row_of}
+use Rattle.page_host.specs.HostNames.{host_name}
+use Rattle.page_meaning.specs.Classes.{is_made}
 use Rattle.page_meaning.specs.Store.{Store, with_heap}
+use Rattle.heap_walker.specs.Bare.{is_ordinary}
+use Rattle.rebuilding.proofs.Ordinary.{put_free}
+use Rattle.rebuilding.proofs.Paths.{plain_read}
 use Rattle.page_meaning.specs.ValueRows.{silent_error, silent_fit}
 use Rattle.page_meaning.specs.declared.signal.Signal.{Signal}
 use Rattle.page_meaning.specs.declared.signal.Signal.TheVariants.{Value as Val}
@@ -73,6 +78,7 @@ pub record Makes (c : Scene) (s : Store) (sites : List ℕ) (m : Maker) (n : ℕ
 -- the prototype and what is bound, if there are some, are there
 pub record IsReady (h : Contents) (o : Object) : Type 0 where
   pub fit : IsFit o
+  pub made : is_made o.class ≡ true
   pub proto : ForSome o.proto (λ p. p.0 < length h.objects)
   pub target : ForSome (target_of o.class) (λ t. t.0 < length h.objects)
 
@@ -96,8 +102,8 @@ makes_one c s sites m n left out o r ready steps ends made = record {
 }
 
 pub ready_run : (o : Object) (s : Store) (n : ℕ) (ready : IsReady s.heap o)
-    → (make o ready.fit).run s n ≡ Ended (next_place s.heap) (with_heap s (with_new_object s.heap o)) n
-ready_run o s n ready = make_run o ready.fit s n ready.proto ready.target
+    → (make o ready.fit ready.made).run s n ≡ Ended (next_place s.heap) (with_heap s (with_new_object s.heap o)) n
+ready_run o s n ready = make_run o ready.fit ready.made s n ready.proto ready.target
 
 -- ---- an array
 
@@ -121,7 +127,10 @@ length_put s h n = by (is_length_of (with_heap s (with_new_object h new_array)) 
   where
     stored_so : (stored (next_place h) length_name (number 0)).run (with_heap s (with_new_object h new_array)) n
         ≡ Ended (Val (number 0)) (with_heap s (with_new_object h new_array)) n
-    stored_so = ap (λ (a : Attempt Contents). (on_refusal (give (number 0)) a.thrown).run (with_heap s a.after) n) (array_put h)
+    stored_so =
+        ap (λ (a : Attempt Contents). (on_refusal (give (number 0)) a.thrown).run (with_heap s a.after) n)
+        (put_free (with_heap s (with_new_object h new_array)) (next_place h) length_name (number 0)
+        (ap (λ (o : Object). is_ordinary o.class) (object_last h.objects new_array)) ∙ array_put h)
 
     by : (b : Bool)
         → (choose b (also (settle (number_of (number 0))) (stored (next_place h) length_name)) (stored (next_place h) length_name (number 0))).run
@@ -132,6 +141,10 @@ length_put s h n = by (is_length_of (with_heap s (with_new_object h new_array)) 
 
 -- ---- makers, but for functions
 
+bind_unhosted : host_name (codes "bind") ≡ None
+unfolding host_name
+bind_unhosted = refl
+
 module _ (c : Scene) (s : Store) (sites : List ℕ) (r : IsRunning c s.heap sites) where
   proto_there : (p : ObjId) → p.0 < built_in_count → ForSome (Some p) (λ q. q.0 < length s.heap.objects)
   proto_there p low = some_below p (length s.heap.objects) (low_there c s.heap sites r p.0 low)
@@ -139,6 +152,7 @@ module _ (c : Scene) (s : Store) (sites : List ℕ) (r : IsRunning c s.heap site
   array_ready : IsReady s.heap new_array
   array_ready = record {
     fit = new_fit class.List (Some array_prototype);
+    made = refl;
     proto = proto_there array_prototype array_low;
     target = none_below (length s.heap.objects);
   }
@@ -150,10 +164,10 @@ module _ (c : Scene) (s : Store) (sites : List ℕ) (r : IsRunning c s.heap site
       ∙ also_on (λ _. give (Reference (next_place s.heap))) (length_put s s.heap n)) refl
 
   plain_ready : (proto : Option ObjId) → ForSome proto (λ p. p.0 < length s.heap.objects) → IsReady s.heap (new_object class.Plain proto)
-  plain_ready proto there = record { fit = new_fit class.Plain proto; proto = there; target = none_below (length s.heap.objects) }
+  plain_ready proto there = record { fit = new_fit class.Plain proto; made = refl; proto = there; target = none_below (length s.heap.objects) }
 
   error_ready : (k : ErrorKind) → IsReady s.heap (silent_error k)
-  error_ready k = record { fit = silent_fit k; proto = proto_there (error_prototype k) (error_low k); target = none_below (length s.heap.objects) }
+  error_ready k = record { fit = silent_fit k; made = refl; proto = proto_there (error_prototype k) (error_low k); target = none_below (length s.heap.objects) }
 
   error_row : (d n : ℕ) (k : ErrorKind) → (row_of (calls_at d) true (constructor_of k) Undefined []).run s n
       ≡ Ended (Val (Reference (next_place s.heap))) (with_heap s (with_new_object s.heap (silent_error k))) n
@@ -235,6 +249,7 @@ module _ (c : Scene) (s : Store) (sites : List ℕ) (r : IsRunning c s.heap site
         (all_below (built_in_count + length sites) (value_links this ++ values_links args)) stands in
         let ready : IsReady s.heap o = record {
           fit = bound_fit at (sited_value sites this) (sited_values sites args) (length_of at s);
+          made = refl;
           proto = proto_there function_prototype function_low;
           target = some_below at (length s.heap.objects) (site_there c s.heap sites r target.0 parts.0);
         } in
@@ -242,7 +257,7 @@ module _ (c : Scene) (s : Store) (sites : List ℕ) (r : IsRunning c s.heap site
         (also_on (λ b. also (get_member b (codes "bind")) (λ g. eval_args calls (inside c) (value_exprs (this ∷ args)) [] (calls.call g b)))
         (reference_read c s sites r calls (suc n) lead each target (and_from (nat_lt target.0 (built_in_count + length sites)) true parts.0 refl))
         ∙ also_on (λ g. eval_args calls (inside c) (value_exprs (this ∷ args)) [] (calls.call g base))
-        (ap (λ (v : Option Value). Ended (Val (unwrap_or v Undefined)) s (suc n)) able.1)
+        (plain_read c s sites r calls (suc n) at (codes "bind") bind_unhosted ∙ ap (λ (v : Option Value). Ended (Val (unwrap_or v Undefined)) s (suc n)) able.1)
         ∙ arguments_read c s sites r calls (suc n) lead each (this ∷ args) [] (calls.call f base) range parts.1
         ∙ native_called d built_in.FunctionPrototypeBind (function_place built_in.FunctionPrototypeBind) base vs s n (is_bind c s sites r)
         ∙ ap (λ b. (choose b (bind_to at (sited_value sites this) (sited_values sites args)) (raise WrongArgument)).run s n) able.0

@@ -10,6 +10,7 @@ use Rattle.built_in_paths.specs.Paths.{dot, held_by, led_from, names_of, path_of
 use Rattle.js_core.specs.Tree as tree
 use Rattle.js_core.specs.Tree.{member, name}
 use Rattle.js_values.specs.declared.ids.EnvId.{EnvId}
+use Rattle.js_values.specs.declared.ids.ObjId.{ObjId}
 use Rattle.js_values.specs.declared.value.Value.{Value}
 use Rattle.js_values.specs.declared.value.Value.TheVariants as value
 use Rattle.js_values.specs.declared.value.Value.TheVariants.{Object as Reference, Undefined}
@@ -24,21 +25,26 @@ use Rattle.page_meaning.specs.Act.{Calls, Ended, Outcome, on_value, then_on}
 use Rattle.page_meaning.specs.Expressions.{eval}
 use Rattle.page_meaning.specs.Names.{found_or_raise, global_or_not, held, read, read_name, resolved}
 use Rattle.page_meaning.specs.Places.{at_place, window}
-use Rattle.page_meaning.specs.Pristine.{pristine}
+use Rattle.page_meaning.specs.Pristine.{built_ins}
+use Rattle.page_host.specs.HostNames.{host_name}
+use Rattle.page_host.specs.declared.host_name.HostName.{HostName}
+use Rattle.page_meaning.specs.Errors.{settle}
 use Rattle.page_meaning.specs.Properties.{get_member}
+use Rattle.page_meaning.specs.Reading.{get_at, named_at, read_property}
 use Rattle.page_meaning.specs.Store.{Store}
 use Rattle.page_meaning.specs.declared.signal.Signal.{Signal}
 use Rattle.page_meaning.specs.declared.signal.Signal.TheVariants.{Value as Val}
 use Rattle.page_writer.specs.Statements.{path_expr, path_from}
 use Rattle.rebuilding.specs.Scene.{IsRunning, Scene, env_at, inside}
 use Rattle.object_shapes.specs.Shapes.{built_in_at}
+use Rattle.rebuilding.proofs.Ordinary.{built_in_unhosted}
 use Rattle.page_meaning.specs.Places.{built_in_count}
 
 -- ---- what is held in a page before its scripts
 
-pub pristine_count : length pristine.heap.objects ≡ built_in_count
+pub built_ins_count : length built_ins ≡ built_in_count
 unfolding built_in_count
-pristine_count = refl
+built_ins_count = refl
 
 -- a property that holds an object
 pub record Holds (o : Option Prop) (j : ℕ) : Type 0 where
@@ -55,17 +61,17 @@ holds_at None j h = absurd (none-some j h)
 holds_at (Some p) j h = record { prop = p; there = refl; holds = value_at p.value j h }
 
 -- no global has the name of the list
-no_list_name : held_by pristine.heap.objects window.0 (codes "$$") ≡ None
+no_list_name : held_by built_ins window.0 (codes "$$") ≡ None
 no_list_name = refl
 
-other_name : (x : List ℕ) (j : ℕ) → held_by pristine.heap.objects window.0 x ≡ Some j → bytes_eq x (codes "$$") ≡ false
+other_name : (x : List ℕ) (j : ℕ) → held_by built_ins window.0 x ≡ Some j → bytes_eq x (codes "$$") ≡ false
 other_name x j h = by (bytes_eq x (codes "$$")) refl
   where
     by : (b : Bool) → bytes_eq x (codes "$$") ≡ b → bytes_eq x (codes "$$") ≡ false
     by false e = e
     by true e =
         let same : x ≡ codes "$$" = (bytes_eq-Decides x (codes "$$")).0 e in
-        absurd (none-some j (sym no_list_name ∙ ap (held_by pristine.heap.objects window.0) (sym same) ∙ h))
+        absurd (none-some j (sym no_list_name ∙ ap (held_by built_ins window.0) (sym same) ∙ h))
 
 found_before : (test : List ℕ → Bool) (ps qs : Props) (p : Prop) → find test ps ≡ Some p → find test (ps ++ qs) ≡ Some p
 found_before test [] qs p h = absurd (none-some p h)
@@ -123,7 +129,7 @@ module _ (c : Scene) (s : Store) (sites : List ℕ) (r : IsRunning c s.heap site
       by : (suc k < built_in_count) ⊎ (built_in_count ≤ suc k) → own_property (object_at s.heap.objects (suc k)).props x ≡ Some p
       by (inl low) = ap (λ (o : Object). own_property o.props x) (r.built_ins (suc k) (omega arith) low) ∙ h
       by (inr high) =
-          let none = object_absent pristine.heap.objects (suc k) (omega (arith, high, pristine_count)) in
+          let none = object_absent built_ins (suc k) (omega (arith, high, built_ins_count)) in
           absurd (none-some p (sym (ap (λ (o : Object). own_property o.props x) none) ∙ h))
 
   pub built_in_found : (k : ℕ) (x : List ℕ) (p : Prop) → own_property (built_in_at k).props x ≡ Some p → get_property s.heap.objects k x ≡ Some p
@@ -132,8 +138,13 @@ module _ (c : Scene) (s : Store) (sites : List ℕ) (r : IsRunning c s.heap site
       ∙ ap (λ (o : Option Prop). first_found o (object_at s.heap.objects k).proto (λ q. get_property s.heap.objects q x)) (built_in_own k x p h)
 
   module _ (calls : Calls) (n : ℕ) where
+    -- a property whose name is none of the host's
+    pub plain_read : (at : ObjId) (x : List ℕ) → host_name x ≡ None
+        → (read_property (Reference at) x).run s n ≡ Ended (Val (get_at s at x)) s n
+    plain_read at x none = ap (λ (o : Option HostName). (settle (named_at s at x o)).run s n) none
+
     -- a name that holds an object in the global object
-    pub name_read : (x : List ℕ) (j : ℕ) → held_by pristine.heap.objects window.0 x ≡ Some j
+    pub name_read : (x : List ℕ) (j : ℕ) → held_by built_ins window.0 x ≡ Some j
         → (eval calls (inside c) (name x)).run s n ≡ Ended (Val (Reference (at_place j))) s n
     name_read x j h =
         let g = holds_at (own_property (built_in_at window.0).props x) j h in
@@ -141,34 +152,35 @@ module _ (c : Scene) (s : Store) (sites : List ℕ) (r : IsRunning c s.heap site
 
     -- a name behind a dot
     pub member_read : (e : tree.Expr) (k : ℕ) (x : List ℕ) (j : ℕ) → (eval calls (inside c) e).run s n ≡ Ended (Val (Reference (at_place k))) s n
-        → held_by pristine.heap.objects k x ≡ Some j → (eval calls (inside c) (member e x)).run s n ≡ Ended (Val (Reference (at_place j))) s n
+        → held_by built_ins k x ≡ Some j → (eval calls (inside c) (member e x)).run s n ≡ Ended (Val (Reference (at_place j))) s n
     member_read e k x j base h =
         let g = holds_at (own_property (built_in_at k).props x) j h in
         ap (λ (o : Outcome Signal). then_on o (on_value (λ v. get_member v x))) base
+        ∙ plain_read (at_place k) x (built_in_unhosted k x g.prop g.there)
         ∙ ap (λ (o : Option Prop). Ended (Val (unwrap_or (option_map (λ q. q.value) o) Undefined)) s n) (built_in_found k x g.prop g.there)
         ∙ ap (λ v. Ended (Val v) s n) g.holds
 
     names_read : (e : tree.Expr) (k j : ℕ) (xs : List (List ℕ)) → (eval calls (inside c) e).run s n ≡ Ended (Val (Reference (at_place k))) s n
-        → led_from pristine.heap.objects k xs ≡ Some j → (eval calls (inside c) (path_from e xs)).run s n ≡ Ended (Val (Reference (at_place j))) s n
+        → led_from built_ins k xs ≡ Some j → (eval calls (inside c) (path_from e xs)).run s n ≡ Ended (Val (Reference (at_place j))) s n
     names_read e k j [] base led = base ∙ ap (λ i. Ended (Val (Reference (at_place i))) s n) (same_Some k j led)
     names_read e k j (x ∷ xs) base led =
-        by (held_by pristine.heap.objects k x) refl led (λ i g. names_read (member e x) i j xs g)
+        by (held_by built_ins k x) refl led (λ i g. names_read (member e x) i j xs g)
       where
-        by : (o : Option ℕ) → held_by pristine.heap.objects k x ≡ o → option_and_then (λ next. led_from pristine.heap.objects next xs) o ≡ Some j
+        by : (o : Option ℕ) → held_by built_ins k x ≡ o → option_and_then (λ next. led_from built_ins next xs) o ≡ Some j
             → ((i : ℕ) → (eval calls (inside c) (member e x)).run s n ≡ Ended (Val (Reference (at_place i))) s n
-            → led_from pristine.heap.objects i xs ≡ Some j
+            → led_from built_ins i xs ≡ Some j
             → (eval calls (inside c) (path_from (member e x) xs)).run s n ≡ Ended (Val (Reference (at_place j))) s n)
             → (eval calls (inside c) (path_from (member e x) xs)).run s n ≡ Ended (Val (Reference (at_place j))) s n
         by None h on more = absurd (none-some j on)
         by (Some i) h on more = more i (member_read e k x i base h) on
 
-    whole_read : (xs : List (List ℕ)) (j : ℕ) → (xs ≡ [] → ⊥) → led_from pristine.heap.objects window.0 xs ≡ Some j
+    whole_read : (xs : List (List ℕ)) (j : ℕ) → (xs ≡ [] → ⊥) → led_from built_ins window.0 xs ≡ Some j
         → (eval calls (inside c) (path_expr xs)).run s n ≡ Ended (Val (Reference (at_place j))) s n
     whole_read [] j some led = absurd (some refl)
-    whole_read (x ∷ xs) j some led = by (held_by pristine.heap.objects window.0 x) refl led
+    whole_read (x ∷ xs) j some led = by (held_by built_ins window.0 x) refl led
       where
-        by : (o : Option ℕ) → held_by pristine.heap.objects window.0 x ≡ o
-            → option_and_then (λ next. led_from pristine.heap.objects next xs) o ≡ Some j
+        by : (o : Option ℕ) → held_by built_ins window.0 x ≡ o
+            → option_and_then (λ next. led_from built_ins next xs) o ≡ Some j
             → (eval calls (inside c) (path_from (name x) xs)).run s n ≡ Ended (Val (Reference (at_place j))) s n
         by None h on = absurd (none-some j on)
         by (Some i) h on = names_read (name x) i j xs (name_read x i h) on

@@ -10,7 +10,7 @@ use Rattle.object_heap.specs.Object.{Object}
 use Rattle.object_heap.specs.Property.{Props}
 use Rattle.page_meaning.specs.Places.{window}
 use Rattle.rebuilding.specs.Rebuilt.{nth}
-use Rattle.rebuilding.specs.Scene.{IsRunning, Scene, is_site}
+use Rattle.rebuilding.specs.Scene.{IsRunning, Scene, frame_count, is_site}
 use Rattle.rebuilding.proofs.Going.{Going}
 use Rattle.rebuilding.proofs.Basics.{all_at, not_in}
 use Rattle.rebuilding.proofs.Placed.{some_built_in}
@@ -19,13 +19,13 @@ use Rattle.page_meaning.specs.Places.{built_in_count}
 -- ---- sites
 
 pub site_there : (c : Scene) (h : Contents) (sites : List ℕ) (n : ℕ) → IsRunning c h sites → n < length sites
-    → (built_in_count ≤ nth sites n) × (nth sites n < length h.objects)
+    → (frame_count ≤ nth sites n) × (nth sites n < length h.objects)
 site_there c h sites n running inside =
     let k : ℕ = nth sites n in
     let is : is_site c h k ≡ true = all_at (is_site c h) sites n running.stand inside in
     let others : (nat_lt k (length h.objects) && not (nat_eq k c.list))
-    ≡ true = (and_parts (nat_le built_in_count k) (nat_lt k (length h.objects) && not (nat_eq k c.list)) is).1 in (
-      leb-true built_in_count k (and_parts (nat_le built_in_count k) (nat_lt k (length h.objects) && not (nat_eq k c.list)) is).0,
+    ≡ true = (and_parts (nat_le frame_count k) (nat_lt k (length h.objects) && not (nat_eq k c.list)) is).1 in (
+      leb-true frame_count k (and_parts (nat_le frame_count k) (nat_lt k (length h.objects) && not (nat_eq k c.list)) is).0,
       ltb-true k (length h.objects) (and_parts (nat_lt k (length h.objects)) (not (nat_eq k c.list)) others).0,
     )
 

@@ -16,7 +16,7 @@ use Rattle.rebuild_plan.specs.declared.statement.Rebuild.{Rebuild}
 use Rattle.rebuild_plan.specs.declared.statement.Rebuild.TheVariants.{Prevent}
 use Rattle.rebuilding.specs.Rebuilt.{ClassIsRebuilt, IsRebuiltAs, Succeeds, bound, fault, list, nth, page, plain}
 use Rattle.rebuilding.specs.Scene.{Scene}
-use Rattle.rebuilding.proofs.FillSteps.{class_window, filled}
+use Rattle.rebuilding.proofs.FillSteps.{class_ordinary, class_window, filled}
 use Rattle.rebuilding.proofs.Going.{Allowed, Going, going_begins, prevent_next}
 use Rattle.rebuilding.proofs.Lasting.{round_stays}
 use Rattle.rebuilding.proofs.Stages.{IsFresh}
@@ -53,7 +53,7 @@ pub prevent_step : (c : Scene) (End : Contents → List ℕ → Type 0) (s : Sto
 prevent_step c End s things sites g fresh n h rs inside running is allowed later =
     let young = fresh n inside in
     let o : Object = filled g s things sites n in
-    one_prevented c End sites h n o rs young.closed (class_window young.class) young.extensible (going_begins c h sites (nth sites n) o running is)
+    one_prevented c End sites h n o rs young.closed (class_window young.class) young.extensible (going_begins c h sites (nth sites n) o running (class_ordinary young.class) is)
     (object_at s.heap.objects (nth things n)).extensible allowed later
 
 -- ---- where environments stay, classes are rebuilt still

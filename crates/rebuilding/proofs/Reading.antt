@@ -19,7 +19,7 @@ use Rattle.object_heap.specs.Attempt.{Attempt}
 use Rattle.object_heap.specs.Define.{length_name}
 use Rattle.object_heap.specs.Heap.{Contents}
 use Rattle.object_heap.specs.Index.{index_end}
-use Rattle.object_heap.specs.Object.{is_list}
+use Rattle.object_heap.specs.Object.{Object, is_list}
 use Rattle.object_heap.specs.Property.{fixed, own_property}
 use Rattle.object_heap.specs.declared.property.Prop.{Prop}
 use Rattle.page_meaning.specs.Act.{Act, Calls, Ended, Outcome, also, choose, give, on_value, then_on}
@@ -28,7 +28,8 @@ use Rattle.page_meaning.specs.Errors.{on_refusal, settle}
 use Rattle.page_meaning.specs.Expressions.{assigned, eval, eval_args}
 use Rattle.page_meaning.specs.Places.{at_place, window}
 use Rattle.page_meaning.specs.Properties.{class_at, get_index, key_of, stored}
-use Rattle.page_meaning.specs.HostPuts.{put_member}
+use Rattle.page_host.specs.declared.host_name.HostName.{HostName}
+use Rattle.page_meaning.specs.HostPuts.{put_member, put_named}
 use Rattle.page_meaning.specs.Store.{Store, with_heap}
 use Rattle.page_meaning.specs.declared.signal.Signal.{Signal}
 use Rattle.page_meaning.specs.declared.signal.Signal.TheVariants.{Value as Val}
@@ -40,7 +41,9 @@ use Rattle.rebuilding.specs.Scene.{IsRunning, Scene, inside}
 use Rattle.rebuilding.specs.Sites.{site, sited, sited_value, sited_values}
 use Rattle.rebuilding.proofs.Indices.{decimal_not_length}
 use Rattle.rebuilding.proofs.List.{element_found, thing_put_in, with_thing}
-use Rattle.rebuilding.proofs.Paths.{built_in_found, global_read, list_read, path_read, pristine_count}
+use Rattle.heap_walker.specs.Bare.{is_ordinary}
+use Rattle.rebuilding.proofs.Ordinary.{index_unhosted, put_free}
+use Rattle.rebuilding.proofs.Paths.{plain_read, built_in_found, global_read, list_read, path_read, built_ins_count}
 use Rattle.object_shapes.specs.Shapes.{built_in_at}
 use Rattle.page_meaning.specs.Places.{built_in_count}
 use Rattle.object_shapes.specs.Links.{value_links, values_links, all_below}
@@ -79,32 +82,36 @@ module _ (c : Scene) (s : Store) (sites : List ℕ) (r : IsRunning c s.heap site
   thing_read calls n i there =
       ap (λ (o : Outcome Signal). then_on o (on_value (λ base. also (eval calls (inside c) (number_expr i)) (get_index calls base))))
       (list_read c s sites r n)
+      ∙ plain_read c s sites r calls n (at_place c.list) (decimal i) (index_unhosted i (omega (arith, there, r.few)))
       ∙ ap (λ (o : Option Prop). Ended (Val (unwrap_or (option_map (λ p. p.value) o) Undefined)) s n) (element_found c s.heap sites r i there)
 
   -- an assignment to a number of the list first evaluates its value
   pub thing_assigned : (calls : Calls) (n i : ℕ) (e : tree.Expr)
       → (eval calls (inside c) (assign None (thing_expr i) e)).run s n
-      ≡ (also (eval calls (inside c) e) (assigned (put_member (Reference (at_place c.list)) (decimal i)))).run s n
+      ≡ (also (eval calls (inside c) e) (assigned (put_member calls (Reference (at_place c.list)) (decimal i)))).run s n
   thing_assigned calls n i e =
       ap (λ (o : Outcome Signal). then_on o (on_value (λ base. also (eval calls (inside c) (number_expr i)) (λ key. also (key_of calls base key) (λ k.
-      also (eval calls (inside c) e) (λ v. assigned (put_member base (text_in k)) v)))))) (list_read c s sites r n)
+      also (eval calls (inside c) e) (λ v. assigned (put_member calls base (text_in k)) v)))))) (list_read c s sites r n)
 
   -- the next thing is put at the end of the list
-  pub thing_put : (m n k : ℕ) → n ≡ length sites → n < index_end
-      → (put_member (Reference (at_place c.list)) (decimal n) (Reference (at_place k))).run s m
+  pub thing_put : (calls : Calls) (m n k : ℕ) → n ≡ length sites → n < index_end
+      → (put_member calls (Reference (at_place c.list)) (decimal n) (Reference (at_place k))).run s m
       ≡ Ended (Val (Reference (at_place k))) (with_heap s (with_thing c s.heap sites k)) m
-  thing_put m n k is small =
+  thing_put calls m n k is small =
       let at = at_place c.list in
       let v = Reference (at_place k) in
-      ap (λ b. (choose b (also (settle (number_of v)) (stored at (decimal n))) (stored at (decimal n) v)).run s m)
+      let free : is_ordinary (class_at s at) ≡ true = ap (λ (o : Object). is_ordinary o.class) r.list in
+      ap (λ (o : Option HostName). (put_named calls at (decimal n) v o).run s m) (index_unhosted n small)
+      ∙ ap (λ b. (choose b (also (settle (number_of v)) (stored at (decimal n))) (stored at (decimal n) v)).run s m)
       (and_right (is_list (class_at s at)) (bytes_eq (decimal n) length_name) (decimal_not_length n small))
-      ∙ ap (λ (a : Attempt Contents). (on_refusal (give v) a.thrown).run (with_heap s a.after) m) (thing_put_in c s.heap sites r n k is small)
+      ∙ ap (λ (a : Attempt Contents). (on_refusal (give v) a.thrown).run (with_heap s a.after) m)
+      (put_free s at (decimal n) v free ∙ thing_put_in c s.heap sites r n k is small)
 
-  pub thing_put_and_given : (m n k : ℕ) → n ≡ length sites → n < index_end
-      → (assigned (put_member (Reference (at_place c.list)) (decimal n)) (Reference (at_place k))).run s m
+  pub thing_put_and_given : (calls : Calls) (m n k : ℕ) → n ≡ length sites → n < index_end
+      → (assigned (put_member calls (Reference (at_place c.list)) (decimal n)) (Reference (at_place k))).run s m
       ≡ Ended (Val (Reference (at_place k))) (with_heap s (with_thing c s.heap sites k)) m
-  thing_put_and_given m n k is small =
-      ap (λ (o : Outcome Signal). then_on o (on_value (λ _. give (Reference (at_place k))))) (thing_put m n k is small)
+  thing_put_and_given calls m n k is small =
+      ap (λ (o : Outcome Signal). then_on o (on_value (λ _. give (Reference (at_place k))))) (thing_put calls m n k is small)
 
   -- ---- references
 
@@ -112,13 +119,13 @@ module _ (c : Scene) (s : Store) (sites : List ℕ) (r : IsRunning c s.heap site
     reference_by : (k : ℕ) (path : Option (List ℕ)) → path_of k ≡ path → k < built_in_count + length sites
         → (eval calls (inside c) (reference_over k path)).run s n ≡ Ended (Val (Reference (at_place (site sites k)))) s n
     reference_by k (Some path) is there =
-        let low : k < built_in_count = omega (arith, (each k).0 (ap is_some is), pristine_count) in
+        let low : k < built_in_count = omega (arith, (each k).0 (ap is_some is), built_ins_count) in
         path_read c s sites r calls n lead k path is ∙ ap (λ j. Ended (Val (Reference (at_place j))) s n) (sym (built_in_sited sites k low))
     reference_by k None is there = by (cases_lt k built_in_count)
       where
         by : (k < built_in_count) ⊎ (built_in_count ≤ k)
             → (eval calls (inside c) (thing_expr (k - built_in_count))).run s n ≡ Ended (Val (Reference (at_place (site sites k)))) s n
-        by (inl low) = cc (sym (ap is_some is) ∙ (each k).1 (omega (arith, low, pristine_count)))
+        by (inl low) = cc (sym (ap is_some is) ∙ (each k).1 (omega (arith, low, built_ins_count)))
         by (inr high) =
             thing_read calls n (k - built_in_count) (omega (arith, high, there))
             ∙ ap (λ j. Ended (Val (Reference (at_place j))) s n) (sym (thing_sited sites k high))

@@ -1,5 +1,5 @@
 -- Each statement that can run does, and leaves the page that is wanted.
-use Rattle.std.proofs.Common.{◌≡◌, refl, sym, ap, subst, ◌∙◌, ℕ, suc, ◌+◌, ◌<◌, ◌≤◌, Bool, true, false, ◌&&◌, nat_eq, nat_lt, List, [], ◌∷◌, ◌++◌, Some, None, length, add-one, length-set, lt_of_lt_of_le, bytes_eq, arith}
+use Rattle.std.proofs.Common.{◌≡◌, refl, sym, ap, subst, ◌∙◌, ℕ, suc, ◌+◌, ◌<◌, ◌≤◌, Bool, true, false, ◌&&◌, nat_eq, nat_lt, List, [], ◌∷◌, ◌++◌, Some, None, Ok, length, add-one, length-set, lt_of_lt_of_le, bytes_eq, arith}
 use Rattle.std.proofs.lemmas.Bool.{and_from, and_parts, and_right, lt-ltb}
 use Rattle.std.specs.Fmt.{decimal}
 use Rattle.std.specs.List.{All}
@@ -26,7 +26,7 @@ use Rattle.page_meaning.specs.Descriptors.{change_in, define_in, descriptor_prop
 use Rattle.page_meaning.specs.Expressions.{assigned, eval}
 use Rattle.page_meaning.specs.Places.{at_place, window}
 use Rattle.page_meaning.specs.Primitives.{next_place}
-use Rattle.page_meaning.specs.Properties.{is_length_of}
+use Rattle.page_meaning.specs.Properties.{class_at, is_length_of}
 use Rattle.page_meaning.specs.HostPuts.{put_member}
 use Rattle.page_meaning.specs.Statements.{exec}
 use Rattle.page_meaning.specs.Store.{Store, with_heap}
@@ -40,7 +40,8 @@ use Rattle.rebuild_plan.specs.declared.statement.Maker.TheVariants.{Plain, List 
 use Rattle.rebuild_plan.specs.declared.statement.Rebuild.{Rebuild}
 use Rattle.rebuild_plan.specs.declared.statement.Rebuild.TheVariants.{Make, Define, DefinePrototype, DefineLength, Prevent}
 use Rattle.rebuilding.specs.Running.{CanBeMade, CanDefine, CanMake, CanPrevent, CanRun, HasChanged, IsMade, Runs, StatementsRun, short_change, whole_change}
-use Rattle.rebuilding.specs.Scene.{IsRoundOf, IsRunning, Scene, inside, is_site, list_of}
+use Rattle.rebuilding.specs.Scene.{IsRoundOf, IsRunning, Scene, frame_count, inside, is_site, list_of}
+use Rattle.heap_walker.specs.Bare.{is_ordinary}
 use Rattle.rebuilding.specs.Sites.{site, sited, sited_needs, sited_prop, sited_value}
 use Rattle.rebuilding.proofs.Calling.{also_on}
 use Rattle.rebuilding.proofs.Changing.{IsChanged, defined_at, prevented_at}
@@ -101,7 +102,7 @@ module _ (c : Scene) (s : Store) (sites : List ℕ) (r : IsRunning c s.heap site
       let i = with_thing c makes.after sites k in
       let t = with_heap s makes.after in
       let other : k ≡ c.list → ⊥ = λ e. omega (arith, e, makes.young, r.list_there) in
-      let young : built_in_count ≤ k = omega (arith, makes.young, r.list_there, r.list_young) in
+      let young : frame_count ≤ k = omega (arith, makes.young, r.list_there, r.list_young) in
       let below : all_below k sites ≡ true = all_through (is_site c s.heap) (λ j. nat_lt j k) sites
       (λ j e. lt-ltb j k (lt_of_lt_of_le (site_stands c s.heap j e).there makes.young)) r.stand
       in
@@ -111,8 +112,8 @@ module _ (c : Scene) (s : Store) (sites : List ℕ) (r : IsRunning c s.heap site
         left = makes.left;
         steps = makes.steps;
         ends = also_on (λ _. done) (thing_assigned c s sites r calls (suc n) number (maker_expr m)
-            ∙ also_on (assigned (put_member (Reference (at_place c.list)) (decimal number))) makes.ends
-            ∙ thing_put_and_given c t sites makes.running makes.left number k can.next can.index);
+            ∙ also_on (assigned (put_member calls (Reference (at_place c.list)) (decimal number))) makes.ends
+            ∙ thing_put_and_given c t sites makes.running calls makes.left number k can.next can.index);
         has_run = record {
           place = k;
           joins = refl;
@@ -152,7 +153,7 @@ module _ (c : Scene) (s : Store) (sites : List ℕ) (r : IsRunning c s.heap site
 
     define_runs : (eval (calls_at (suc d)) (inside c) e).run s (suc n)
         ≡ Ended (Val (Reference (next_place s.heap))) (with_heap s (with_literal s.heap props)) (suc n)
-        → change_in (with_heap s (with_literal s.heap props)) (Reference (next_place s.heap)) ≡ Some change
+        → change_in (with_heap s (with_literal s.heap props)) (Reference (next_place s.heap)) ≡ Ok change
         → ((define_own (with_literal s.heap props) (site sites at.0) x change).thrown ≡ None
         → (define_in (sited sites at) x change).run (with_heap s (with_literal s.heap props)) n
         ≡ Ended nothing (with_heap s (define_own (with_literal s.heap props) (site sites at.0) x change).after) n)
@@ -176,6 +177,14 @@ module _ (c : Scene) (s : Store) (sites : List ℕ) (r : IsRunning c s.heap site
           running = done.running;
         }
 
+  -- beside the literal the object is what it was
+  free_still : (at : ObjId) (props : Props) → nat_lt at.0 (built_in_count + length sites) ≡ true
+      → is_ordinary (object_at s.heap.objects (site sites at.0)).class ≡ true
+      → is_ordinary (class_at (with_heap s (with_literal s.heap props)) (sited sites at)) ≡ true
+  free_still at props below free =
+      ap (λ (o : Object). is_ordinary o.class)
+      (object_before s.heap.objects (literal_object props) (site sites at.0) (site_there c s.heap sites r at.0 below)) ∙ free
+
   no_length : (at : ObjId) (x : List ℕ) (props : Props) → (nat_lt at.0 (built_in_count + length sites) ≡ true)
       → is_list (object_at s.heap.objects (site sites at.0)).class && bytes_eq x length_name ≡ false
       → is_length_of (with_heap s (with_literal s.heap props)) (sited sites at) x ≡ false
@@ -195,7 +204,7 @@ module _ (c : Scene) (s : Store) (sites : List ℕ) (r : IsRunning c s.heap site
       let one = and_from (nat_lt at.0 (built_in_count + length sites)) true parts.0 refl in
       define_runs at x (whole_descriptor p) props change (whole_names (sited_prop sites p)) one can.own can.defined
       (whole_read c s sites r (calls_at (suc d)) (suc n) lead each p can.in_range parts.1) (whole_asks c s sites r p)
-      (λ fine. other_defined (sited sites at) x change (with_heap s (with_literal s.heap props)) n (no_length at x props parts.0 can.other) fine)
+      (λ fine. other_defined (sited sites at) x change (with_heap s (with_literal s.heap props)) n (free_still at props parts.0 can.free) (no_length at x props parts.0 can.other) fine)
 
   defines_short : (at : ObjId) (x : List ℕ) (v : Value) (writable : Bool) → CanDefine s.heap sites at x v (short_change sites v writable)
       → Changes c s sites n (site sites at.0) (object.define_own (object_at s.heap.objects (site sites at.0)) x
@@ -209,25 +218,26 @@ module _ (c : Scene) (s : Store) (sites : List ℕ) (r : IsRunning c s.heap site
       let one = and_from (nat_lt at.0 (built_in_count + length sites)) true parts.0 refl in
       define_runs at x (short_descriptor v writable) props change (short_names (sited_value sites v) writable) one can.own can.defined
       (short_read c s sites r (calls_at (suc d)) (suc n) lead each v writable can.in_range parts.1) (short_asks c s sites r v writable)
-      (λ fine. other_defined (sited sites at) x change (with_heap s (with_literal s.heap props)) n (no_length at x props parts.0 can.other) fine)
+      (λ fine. other_defined (sited sites at) x change (with_heap s (with_literal s.heap props)) n (free_still at props parts.0 can.free) (no_length at x props parts.0 can.other) fine)
 
   -- the name of a length is none of the built-in ones
   length_own : (at : ObjId) → nat_eq at.0 window.0 && is_built length_name ≡ false
   length_own at = and_right (nat_eq at.0 window.0) (is_built length_name) length_not_built
 
   defines_length : (at : ObjId) (count : ℕ) (writable : Bool) → all_below (built_in_count + length sites) (at.0 ∷ []) ≡ true
-      → IsLiteral (number count)
+      → IsLiteral (number count) → is_ordinary (object_at s.heap.objects (site sites at.0)).class ≡ true
       → (object.define_own (object_at s.heap.objects (site sites at.0)) length_name (short_change sites (number count) writable)).thrown ≡ None
       → Changes c s sites n (site sites at.0) (object.define_own (object_at s.heap.objects (site sites at.0)) length_name
       (short_change sites (number count) writable)).after
       ((exec (calls_at (suc d)) (inside c) (expr (define_expr at length_name (short_descriptor (number count) writable)))).run s (suc n))
-  defines_length at count writable stands range defined =
+  defines_length at count writable stands range free defined =
       let props = short_fields (number count) writable in
       define_runs at length_name (short_descriptor (number count) writable) props (short_change sites (number count) writable)
       (short_names (number count) writable) stands (length_own at) defined
       (short_read c s sites r (calls_at (suc d)) (suc n) lead each (number count) writable range refl)
       (short_asks c s sites r (number count) writable)
-      (λ fine. length_defined (sited sites at) count writable sites (with_heap s (with_literal s.heap props)) n fine)
+      (λ fine. length_defined (sited sites at) count writable sites (with_heap s (with_literal s.heap props)) n
+      (free_still at props (and_parts (nat_lt at.0 (built_in_count + length sites)) true stands).0 free) fine)
 
   prevents : (at : ObjId) → CanPrevent s.heap sites at
       → Changes c s sites n (site sites at.0) (prevented (object_at s.heap.objects (site sites at.0))).after
@@ -255,7 +265,7 @@ module _ (c : Scene) (s : Store) (sites : List ℕ) (r : IsRunning c s.heap site
   runs (DefineLength at v writable) can =
       subst (λ w. Runs c s sites (DefineLength at w writable) (suc n)
       ((exec (calls_at (suc d)) (inside c) (statement (DefineLength at w writable))).run s (suc n))) (sym can.is)
-      (let f = defines_length at can.count writable can.stands (subst IsLiteral can.is can.in_range)
+      (let f = defines_length at can.count writable can.stands (subst IsLiteral can.is can.in_range) can.free
       (subst (λ w. (object.define_own (object_at s.heap.objects (site sites at.0)) length_name (short_change sites w writable)).thrown
       ≡ None) can.is can.defined) in
       record { after = f.after; new_sites = sites; left = n; steps = omega arith; ends = f.ends; has_run = f.changed; running = f.running })

@@ -11,11 +11,12 @@ use Rattle.object_heap.specs.Chain.{object_at}
 use Rattle.object_heap.specs.Heap.{Contents, IsFit, IsSound, with_new_object, with_object}
 use Rattle.object_heap.specs.Object.{Object, target_of}
 use Rattle.page_meaning.specs.Act.{Ended}
+use Rattle.page_meaning.specs.Classes.{is_made}
 use Rattle.page_meaning.specs.Places.{window}
 use Rattle.page_meaning.specs.Primitives.{make, next_place}
 use Rattle.page_meaning.specs.Store.{Store, with_heap}
 use Rattle.rebuilding.specs.Running.{Stays}
-use Rattle.rebuilding.specs.Scene.{IsRunning, Scene, is_site}
+use Rattle.rebuilding.specs.Scene.{IsRunning, Scene, frame_count, is_site}
 use Rattle.rebuilding.specs.Sites.{site}
 use Rattle.object_shapes.specs.Shapes.{IsWindow}
 use Rattle.rebuilding.proofs.Basics.{not_in}
@@ -25,16 +26,16 @@ use Rattle.page_meaning.specs.Places.{built_in_count}
 
 -- a thing may stand at the place
 pub record Stands (c : Scene) (h : Contents) (k : ℕ) : Type 0 where
-  pub young : built_in_count ≤ k
+  pub young : frame_count ≤ k
   pub there : k < length h.objects
   pub other : k ≡ c.list → ⊥
 
 pub site_stands : (c : Scene) (h : Contents) (k : ℕ) → is_site c h k ≡ true → Stands c h k
 site_stands c h k e =
-    let one = and_parts (nat_le built_in_count k) (nat_lt k (length h.objects) && not (nat_eq k c.list)) e in
+    let one = and_parts (nat_le frame_count k) (nat_lt k (length h.objects) && not (nat_eq k c.list)) e in
     let two = and_parts (nat_lt k (length h.objects)) (not (nat_eq k c.list)) one.1 in
     record {
-      young = leb-true built_in_count k one.0;
+      young = leb-true frame_count k one.0;
       there = ltb-true k (length h.objects) two.0;
       other = eqb-false k c.list (not-true (nat_eq k c.list) two.1);
     }
@@ -42,7 +43,7 @@ site_stands c h k e =
 pub stands_site : (c : Scene) (h : Contents) (k : ℕ) → Stands c h k → is_site c h k ≡ true
 stands_site c h k s =
     let last : not (nat_eq k c.list) ≡ true = ap not (ne_eqb k c.list s.other) in
-    and_from (nat_le built_in_count k) (nat_lt k (length h.objects) && not (nat_eq k c.list)) (le-leb built_in_count k s.young)
+    and_from (nat_le frame_count k) (nat_lt k (length h.objects) && not (nat_eq k c.list)) (le-leb frame_count k s.young)
     (and_from (nat_lt k (length h.objects)) (not (nat_eq k c.list)) (lt-ltb k (length h.objects) s.there) last)
 
 site_stays : (c : Scene) (h i : Contents) → length h.objects ≤ length i.objects → (k : ℕ) → is_site c h k ≡ true → is_site c i k ≡ true
@@ -122,12 +123,17 @@ stays_changed h k o = record {
 
 -- ---- the page
 
+positive : 0 < built_in_count
+unfolding built_in_count
+positive = omega arith
+
 pub running_on : (c : Scene) (h i : Contents) (sites but : List ℕ) → IsRunning c h sites → IsSound i → Stays h i but
     → IsWindow (object_at i.objects window.0)
-    → ((k : ℕ) → 0 < k → k < built_in_count → is_in k but ≡ false) → is_in c.list but ≡ false → IsRunning c i sites
+    → ((k : ℕ) → 0 < k → k < frame_count → is_in k but ≡ false) → is_in c.list but ≡ false → IsRunning c i sites
 running_on c h i sites but r sound stays rest low other = record {
   sound = sound;
-  built_ins = λ k positive below. stays.objects k (low_there c h sites r k below) (low k positive below) ∙ r.built_ins k positive below;
+  built_ins = λ k some below. stays.objects k (low_there c h sites r k below) (low k some (omega (arith, below))) ∙ r.built_ins k some below;
+  nodes = λ k below. stays.objects (built_in_count + k) (omega (arith, below, r.list_young, r.list_there)) (low (built_in_count + k) (omega (arith, positive)) (omega (arith, below))) ∙ r.nodes k below;
   window = rest;
   list = stays.objects c.list r.list_there other ∙ r.list;
   list_young = r.list_young;
@@ -136,6 +142,7 @@ running_on c h i sites but r sound stays rest low other = record {
   scope_there = lt_of_lt_of_le r.scope_there stays.more_environments;
   stand = all_through (is_site c h) (is_site c i) sites (site_stays c h i stays.more) r.stand;
   rising = r.rising;
+  few = r.few;
 }
 
 -- where no old object changes
@@ -162,22 +169,18 @@ pub made_there : (h : Contents) (o : Object) → length h.objects < length (with
 made_there h o = omega (arith, length-append h.objects (o ∷ []))
 
 -- the act that makes it
-pub make_run : (o : Object) (fit : IsFit o) (s : Store) (n : ℕ) → ForSome o.proto (λ p. p.0 < length s.heap.objects)
+pub make_run : (o : Object) (fit : IsFit o) (made : is_made o.class ≡ true) (s : Store) (n : ℕ) → ForSome o.proto (λ p. p.0 < length s.heap.objects)
     → ForSome (target_of o.class) (λ t. t.0 < length s.heap.objects)
-    → (make o fit).run s n ≡ Ended (next_place s.heap) (with_heap s (with_new_object s.heap o)) n
-make_run o fit s n proto target =
+    → (make o fit made).run s n ≡ Ended (next_place s.heap) (with_heap s (with_new_object s.heap o)) n
+make_run o fit made s n proto target =
     ap (λ x. Ended (next_place s.heap) (with_heap s (with_new_object s.heap x)) n) (settled_same (length s.heap.objects) o proto target)
 
 -- ---- an object that changes
 
-positive : 0 < built_in_count
-unfolding built_in_count
-positive = omega arith
-
 -- an old object may change that is a thing, or the global object, which stays at rest
 pub running_changed : (c : Scene) (h : Contents) (sites : List ℕ) (k : ℕ) (o : Object) → IsRunning c h sites → IsSound (with_object h k o)
     → k < length h.objects
-    → (k ≡ c.list → ⊥) → (built_in_count ≤ k) ⊎ ((k ≡ window.0) × IsWindow o) → IsRunning c (with_object h k o) sites
+    → (k ≡ c.list → ⊥) → (frame_count ≤ k) ⊎ ((k ≡ window.0) × IsWindow o) → IsRunning c (with_object h k o) sites
 running_changed c h sites k o r sound there other (inl young) =
     let apart : window.0 ≡ k → ⊥ = λ e. omega (arith, e, young, positive) in
     running_on c h (with_object h k o) sites (k ∷ []) r sound (stays_changed h k o)

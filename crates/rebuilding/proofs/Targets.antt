@@ -21,12 +21,12 @@ use Rattle.object_heap.specs.declared.object.Class.TheVariants as class
 use Rattle.object_heap.specs.declared.property.Prop.{Prop}
 use Rattle.page_meaning.specs.Elements.{length_of}
 use Rattle.page_meaning.specs.Places.{function_prototype}
-use Rattle.page_meaning.specs.Pristine.{built_ins, pristine}
+use Rattle.page_meaning.specs.Pristine.{built_ins}
 use Rattle.page_meaning.specs.Properties.{class_at, is_function}
-use Rattle.page_meaning.specs.Store.{Store, with_heap}
+use Rattle.page_meaning.specs.Store.{Store}
 use Rattle.rebuild_plan.specs.Compact.{moved, place_of}
 use Rattle.rebuilding.specs.Rebuilt.{ClassIsRebuilt, bound, fault, list, nth, page, plain}
-use Rattle.rebuilding.specs.Scene.{IsRunning, Scene}
+use Rattle.rebuilding.specs.Scene.{IsRunning, Scene, page_with}
 use Rattle.rebuilding.specs.Sites.{site, sited}
 use Rattle.rebuilding.proofs.Binds.{bind_name, bind_value, built_in_bind, inherited, own_none}
 use Rattle.rebuilding.proofs.Fresh.{IsKept}
@@ -124,7 +124,7 @@ module _ (c : Scene) (s : Store) (things : List ℕ) (h : Contents) (sites : Lis
         class = subst (λ (o : Object). is_function (Some o.class) ≡ true) (sym there) here;
         bind = subst (λ k. get h.objects k bind_name ≡ Some bind_value) (sym at)
             (built_in_bind h.objects running.sound.prototypes prototype_same target.0 now here);
-        length = same_length (with_heap pristine h) s
+        length = same_length (page_with h) s
             (sited sites (moved things target)) target own.0 running.sound.prototypes still.sound.prototypes (ap own_length there ∙ own.1)
             (ap own_length was ∙ own.1);
       }
@@ -154,7 +154,7 @@ module _ (c : Scene) (s : Store) (things : List ℕ) (h : Contents) (sites : Lis
             class = subst (λ (m : Object). is_function (Some m.class) ≡ true) (sym there) (function_again f.class is);
             bind = subst (λ k. get h.objects k bind_name ≡ Some bind_value) (sym at)
                 (inherited h.objects running.sound.prototypes prototype_same (nth sites i) no_bind.0 proto);
-            length = same_length (with_heap pristine h) s
+            length = same_length (page_with h) s
                 (sited sites (moved things target)) target own.0 running.sound.prototypes still.sound.prototypes (ap own_length there ∙ own.2) own.1;
           }
 

@@ -1,6 +1,7 @@
 -- What running a statement of a saved page does, where it can run. Objects and environments that are made beside do not matter.
-use Rattle.std.specs.Prelude.{◌≡◌, ℕ, ◌+◌, ◌<◌, ◌≤◌, Bool, false, ◌&&◌, bytes_eq, nat_eq, List, [], ◌∷◌, ◌++◌, Option, Some, None, is_some, codes, length, IsTrue, ⊤}
+use Rattle.std.specs.Prelude.{◌≡◌, ℕ, ◌+◌, ◌<◌, ◌≤◌, Bool, true, false, ◌&&◌, bytes_eq, nat_eq, List, [], ◌∷◌, ◌++◌, Option, Some, None, is_some, codes, length, IsTrue, ⊤}
 use Rattle.std.specs.List.{All}
+use Rattle.heap_walker.specs.Bare.{is_ordinary}
 use Rattle.heap_walker.specs.Things.{is_in}
 use Rattle.code_table.specs.Declarations.{name_of}
 use Rattle.js_core.specs.Tree.{Code}
@@ -25,7 +26,6 @@ use Rattle.page_meaning.specs.Elements.{length_of}
 use Rattle.page_meaning.specs.FunctionRows.{bound_object}
 use Rattle.page_meaning.specs.Functions.{function_object}
 use Rattle.page_meaning.specs.Places.{array_prototype, error_prototype, function_at, window}
-use Rattle.page_meaning.specs.Pristine.{pristine}
 use Rattle.page_meaning.specs.Properties.{is_function}
 use Rattle.page_meaning.specs.Statements.{exec}
 use Rattle.page_meaning.specs.Store.{Store, with_heap}
@@ -37,7 +37,7 @@ use Rattle.rebuild_plan.specs.declared.statement.Maker.{Maker}
 use Rattle.rebuild_plan.specs.declared.statement.Maker.TheVariants.{Plain, List as Array, Fault, Func, Bind}
 use Rattle.rebuild_plan.specs.declared.statement.Rebuild.{Rebuild}
 use Rattle.rebuild_plan.specs.declared.statement.Rebuild.TheVariants.{Make, Define, DefinePrototype, DefineLength, Prevent}
-use Rattle.rebuilding.specs.Scene.{IsRoundOf, IsRunning, Scene, inside}
+use Rattle.rebuilding.specs.Scene.{IsRoundOf, IsRunning, Scene, inside, page_with}
 use Rattle.rebuilding.specs.Sites.{site, sited, sited_needs, sited_proto, sited_value, sited_values}
 use Rattle.object_shapes.specs.Shapes.{built_in_at}
 use Rattle.page_meaning.specs.Places.{built_in_count}
@@ -69,6 +69,8 @@ pub record CanDefine (h : Contents) (sites : List ℕ) (at : ObjId) (name : List
   pub stands : Stand sites (at.0 ∷ value_links v)
   pub in_range : IsLiteral v
   pub other : is_list (object_at h.objects (site sites at.0)).class && bytes_eq name length_name ≡ false
+  -- nodes and events keep some names
+  pub free : is_ordinary (object_at h.objects (site sites at.0)).class ≡ true
   pub own : nat_eq at.0 window.0 && is_some (own_property (built_in_at window.0).props name) ≡ false
   pub defined : (define_own (object_at h.objects (site sites at.0)) name change).thrown ≡ None
 
@@ -78,6 +80,7 @@ pub record CanDefineLength (h : Contents) (sites : List ℕ) (at : ObjId) (v : V
   pub count : ℕ
   pub is : v ≡ number count
   pub in_range : IsLiteral v
+  pub free : is_ordinary (object_at h.objects (site sites at.0)).class ≡ true
   pub defined : (define_own (object_at h.objects (site sites at.0)) length_name change).thrown ≡ None
 
 pub record CanBeMade (h : Contents) (sites : List ℕ) (n : ℕ) (m : Maker) : Type 0 where
@@ -121,7 +124,7 @@ IsMade c h i sites k Array o = o ≡ new_object class.List (Some array_prototype
 IsMade c h i sites k (Fault kind) o = o ≡ whole_object class.Fault (Some (error_prototype kind)) []
 IsMade c h i sites k (Func body needs) o = IsFunction c i k body (sited_needs sites needs) o
 IsMade c h i sites k (Bind target this args) o =
-    o ≡ bound_object (sited sites target) (sited_value sites this) (sited_values sites args) (length_of (sited sites target) (with_heap pristine h))
+    o ≡ bound_object (sited sites target) (sited_value sites this) (sited_values sites args) (length_of (sited sites target) (page_with h))
 
 pub record HasMade (c : Scene) (h i : Contents) (sites after : List ℕ) (m : Maker) : Type 0 where
   pub place : ℕ

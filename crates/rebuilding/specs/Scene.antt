@@ -1,5 +1,5 @@
 -- A page while the statements of a saved page run: a catch clause binds `$$` to a list, which holds the things that stand.
-use Rattle.std.specs.Prelude.{◌≡◌, ℕ, suc, ◌<◌, ◌≤◌, Bool, true, false, not, ◌&&◌, nat_eq, nat_le, nat_lt, List, [], ◌∷◌, Option, Some, None, length, codes, IsTrue}
+use Rattle.std.specs.Prelude.{◌≡◌, ℕ, suc, ◌+◌, ◌<◌, ◌≤◌, Bool, true, false, not, ◌&&◌, nat_eq, nat_le, nat_lt, List, [], ◌∷◌, Option, Some, None, length, codes, IsTrue}
 use Rattle.std.specs.Fmt.{decimal}
 use Rattle.std.specs.List.{list_all}
 use Rattle.std.specs.List.Sorted.{IsStrictlyIncreasing}
@@ -8,14 +8,16 @@ use Rattle.js_values.specs.declared.value.Value.TheVariants.{Object as Reference
 use Rattle.object_heap.specs.Chain.{object_at}
 use Rattle.object_heap.specs.Define.{length_name, number}
 use Rattle.object_heap.specs.Environment.{Bound, Environment, environment_at, new_environment}
-use Rattle.object_heap.specs.Heap.{Contents, IsSound}
+use Rattle.object_heap.specs.Heap.{Contents, IsSound, new_object}
 use Rattle.object_heap.specs.Object.{Object, whole_object}
 use Rattle.object_heap.specs.Property.{Props}
 use Rattle.object_heap.specs.declared.object.Class.TheVariants as class
 use Rattle.object_heap.specs.declared.property.Prop.{Prop}
 use Rattle.page_meaning.specs.Descriptors.{open_property}
 use Rattle.page_meaning.specs.Names.{Here}
-use Rattle.page_meaning.specs.Places.{array_prototype, at_place, window}
+use Rattle.page_meaning.specs.Places.{array_prototype, at_place, node_prototype, window}
+use Rattle.page_meaning.specs.Store.{Store, silent}
+use Rattle.heap_walker.specs.Bare.{frame_host, nth_node}
 use Rattle.object_shapes.specs.Shapes.{IsWindow, built_in_at}
 use Rattle.page_meaning.specs.Places.{built_in_count}
 
@@ -59,19 +61,30 @@ pub data IsRoundOf (c : Scene) (es : List Environment) (k : ℕ) (needs : Bound)
 
 -- ---- the page
 
--- a thing stands at the place: it is younger than what is built in, and not the list
+-- what a page begins with: the built-in objects, and those of the document, `html`, `body` and `script`
+abbrev pub frame_count : ℕ
+frame_count = built_in_count + 4
+
+-- a page with these objects and environments, which has done nothing else
+abbrev pub page_with : Contents → Store
+page_with h = silent h frame_host
+
+-- a thing stands at the place: it is younger than what a page begins with, and not the list
 abbrev pub is_site : Scene → Contents → ℕ → Bool
-is_site c h k = nat_le built_in_count k && (nat_lt k (length h.objects) && not (nat_eq k c.list))
+is_site c h k = nat_le frame_count k && (nat_lt k (length h.objects) && not (nat_eq k c.list))
 
 -- the things stand at these sites
 pub record IsRunning (c : Scene) (h : Contents) (sites : List ℕ) : Type 0 where
   pub sound : IsSound h
   pub built_ins : (k : ℕ) → 0 < k → k < built_in_count → object_at h.objects k ≡ built_in_at k
+  pub nodes : (k : ℕ) → k < 4 → object_at h.objects (built_in_count + k) ≡ new_object (class.Node (nth_node k)) (Some node_prototype)
   pub window : IsWindow (object_at h.objects window.0)
   pub list : object_at h.objects c.list ≡ list_of sites
-  pub list_young : built_in_count ≤ c.list
+  pub list_young : frame_count ≤ c.list
   pub list_there : c.list < length h.objects
   pub scope : environment_at h.environments c.env ≡ new_environment None ((codes "$$", Reference (at_place c.list)) ∷ [])
   pub scope_there : c.env < length h.environments
   pub stand : IsTrue (list_all (is_site c h) sites)
   pub rising : IsStrictlyIncreasing sites
+  -- no more than an array has elements
+  pub few : length sites ≤ 4294967295
