@@ -8,7 +8,9 @@ use Rattle.agreement.specs.Opened.{HasTrees, equal, function_stands, opened_code
 use Rattle.std.proofs.lemmas.Bool.{and_from, and_parts}
 use Rattle.js_core.specs.Tree as tree
 use Rattle.page_meaning.specs.Laws.{LoadsSound}
-use Rattle.page_meaning.specs.Pages.{after_scripts, load_of, run_of}
+use Rattle.dom_tree.specs.Node.{Nodes}
+use Rattle.object_heap.specs.Heap as heaps
+use Rattle.page_meaning.specs.Pages.{Page, after_scripts, load_of, run_of}
 use Rattle.page_meaning.specs.Store.{Store}
 use Rattle.page_meaning.specs.Tasks.{Script, after_task}
 use Rattle.heap_relations.specs.Naming.{World}
@@ -53,26 +55,34 @@ scripts_use n (body ∷ bodies) h =
     let both = and_parts (stmts_fit [] body) (scripts_fit bodies) h in
     and_from (stmts_stand equal n [] body) (scripts_stand equal (n + stmts_scopes body) bodies) (sym (stmts_use n [] body) ∙ both.0) (scripts_use (n + stmts_scopes body) bodies both.1)
 
+-- a page's heap is sound before its scripts
+begun_sound : LoadsSound → (t : Nodes) → heaps.IsSound (pristine t).heap
+begun_sound sound t = sound (record { nodes = t; scripts = [] })
+
 pub pages_agree : LoadsSound → PagesAgree
-pages_agree sound scripts es =
-    let begun = pristine_stores false (λ n fs c. c) (λ n. code_fits) (sound []) in
-    let opened = after_scripts_rel 1 scripts (equal_trees pristine_trees) (scripts_use 1 scripts (all_scripts_fit scripts)) begun in
-    let loaded : LaterRel pristine_world (load_of scripts) (load_of scripts) = subst (λ bodies. LaterRel pristine_world (load_of scripts) (after_scripts bodies pristine)) (scripts_same 1 scripts) opened in
-    let trees = equal_up loaded.larger pristine_trees in
-    let after = run_all_rel {V = loaded.world} {s = load_of scripts} {t = load_of scripts} es (equal_trees trees) loaded.stores in
+pages_agree sound page es good =
+    let t = page.nodes in
+    let scripts = page.scripts in
+    let begun = pristine_stores t good false (λ n fs c. c) (λ n. code_fits) (begun_sound sound t) in
+    let opened = after_scripts_rel 1 scripts (equal_trees (pristine_trees t)) (scripts_use 1 scripts (all_scripts_fit scripts)) begun in
+    let loaded : LaterRel (pristine_world t) (load_of page) (load_of page) = subst (λ bodies. LaterRel (pristine_world t) (load_of page) (after_scripts bodies (pristine t))) (scripts_same 1 scripts) opened in
+    let trees = equal_up loaded.larger (pristine_trees t) in
+    let after = run_all_rel {V = loaded.world} {s = load_of page} {t = load_of page} es (equal_trees trees) loaded.stores in
     record { world = after.world; trees = equal_up after.larger trees; stores = after.stores }
 
 -- ---- trees of which more is asked
 
 pub standing_pages_agree : LoadsSound → StandingPagesAgree
-standing_pages_agree sound d scripts es closed stand =
-    let world = asking_world d in
-    let trees = asking_trees d closed in
-    let begun = pristine_stores false (λ n fs c. c) (function_stands d) (sound []) in
+standing_pages_agree sound d page es good closed stand =
+    let t = page.nodes in
+    let scripts = page.scripts in
+    let world = asking_world t d in
+    let trees = asking_trees t d closed in
+    let begun = pristine_stores t good false (λ n fs c. c) (function_stands d) (begun_sound sound t) in
     let same : scripts_opened d.opens 1 scripts ≡ scripts = ap (λ o. scripts_opened o 1 scripts) closed ∙ scripts_same 1 scripts in
-    let loaded : LaterRel world (load_of scripts) (load_of scripts) = subst (λ bodies. LaterRel world (load_of scripts) (after_scripts bodies pristine)) same (after_scripts_rel 1 scripts trees stand begun) in
+    let loaded : LaterRel world (load_of page) (load_of page) = subst (λ bodies. LaterRel world (load_of page) (after_scripts bodies (pristine t))) same (after_scripts_rel 1 scripts trees stand begun) in
     let then_trees = trees_up loaded.larger trees in
-    let after = run_all_rel {V = loaded.world} {s = load_of scripts} {t = load_of scripts} es then_trees loaded.stores in
+    let after = run_all_rel {V = loaded.world} {s = load_of page} {t = load_of page} es then_trees loaded.stores in
     record {
       world = after.world;
       trees = trees_up after.larger then_trees;
@@ -88,9 +98,12 @@ scripts_are n [] = refl
 scripts_are n (body ∷ bodies) = ap (λ rest. open_script n body ∷ rest) (scripts_are (n + stmts_scopes body) bodies)
 
 pub opened_pages_agree : LoadsSound → OpenedPagesAgree
-opened_pages_agree sound scripts es stand =
-    let trees = opened_trees in
-    let loaded = after_scripts_rel 1 scripts trees stand (pristine_stores true (opened_code true) (function_stands opening) (sound [])) in
-    let after = run_all_rel {V = loaded.world} {s = load_of scripts} {t = load_of (scripts_opened true 1 scripts)} es (trees_up loaded.larger trees) loaded.stores in
-    let lines = subst (λ b. AddedRel b (run_of scripts es).lines (run_of (scripts_opened true 1 scripts) es).lines) (sym (loaded.larger.before ∙ after.larger.before)) after.stores.lines in
-    lines.one ∙ sym lines.two ∙ ap (λ bodies. (run_of bodies es).lines) (scripts_are 1 scripts)
+opened_pages_agree sound page es good stand =
+    let t = page.nodes in
+    let scripts = page.scripts in
+    let other : Page = record { nodes = t; scripts = scripts_opened true 1 scripts } in
+    let trees = opened_trees t in
+    let loaded = after_scripts_rel 1 scripts trees stand (pristine_stores t good true (opened_code true) (function_stands opening) (begun_sound sound t)) in
+    let after = run_all_rel {V = loaded.world} {s = load_of page} {t = load_of other} es (trees_up loaded.larger trees) loaded.stores in
+    let lines = subst (λ b. AddedRel b (run_of page es).lines (run_of other es).lines) (sym (loaded.larger.before ∙ after.larger.before)) after.stores.lines in
+    lines.one ∙ sym lines.two ∙ ap (λ bodies. (run_of (record { nodes = t; scripts = bodies }) es).lines) (scripts_are 1 scripts)

@@ -26,5 +26,5 @@ plain_scripts_all_stand n (body ∷ bodies) all few =
     (plain_scripts_all_stand (n + stmts_scopes body) bodies (All-tail IsPlainScript body bodies all) more)
 
 pub plain_pages_agree : LoadsSound → PlainPagesAgree
-plain_pages_agree sound scripts es all few =
-    sym (opened_pages_agree sound scripts es (plain_scripts_all_stand 1 scripts all few))
+plain_pages_agree sound page es good all few =
+    sym (opened_pages_agree sound page es good (plain_scripts_all_stand 1 page.scripts all few))
