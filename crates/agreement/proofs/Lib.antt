@@ -36,6 +36,7 @@ pub mod Hoisted
 pub mod HostPuts
 pub mod HostReads
 pub mod HostSteps
+pub mod HostsUp
 pub mod Lines
 pub mod Linked
 pub mod ListRow
@@ -54,6 +55,7 @@ pub mod Operands
 pub mod Operators
 pub mod Pages
 pub mod PlainPages
+pub mod PlainPuts
 pub mod Properties
 pub mod Reading
 pub mod Rows
