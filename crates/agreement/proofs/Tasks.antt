@@ -1,5 +1,5 @@
 -- Tasks and host events of both pages (sections 10.4.1, 13.2.1 and 14).
-use Rattle.std.proofs.Common.{◌≡◌, refl, sym, ap, subst, ◌∙◌, ◌<◌, true, List, [], ◌∷◌, ◌++◌, length, drop, arith, ℕ, ◌+◌, Bool, false}
+use Rattle.std.proofs.Common.{◌≡◌, refl, sym, ap, subst, ◌∙◌, ◌≤◌, true, List, [], ◌∷◌, ◌++◌, length, drop, arith, ℕ, ◌+◌, Bool, false, Option, codes}
 use Rattle.page_meaning.specs.Names.{Here}
 use Rattle.page_meaning.specs.Statements.{exec_all}
 use Rattle.std.proofs.lemmas.Bool.{and_parts}
@@ -15,36 +15,52 @@ use Rattle.code_table.specs.Declarations.{variables_of}
 use Rattle.js_core.specs.Tree as tree
 use Rattle.js_values.specs.declared.event.Event.{Event}
 use Rattle.js_values.specs.declared.event.Event.TheVariants as event
+use Rattle.js_values.specs.declared.ids.NodeId.{NodeId}
 use Rattle.js_values.specs.declared.line.Line.{Line}
+use Rattle.js_values.specs.declared.line.LineKind.TheVariants.{Dom, NoElement}
+use Rattle.dom_tree.specs.Steps.{sets_value}
+use Rattle.page_host.specs.Steps.{in_nodes}
 use Rattle.page_meaning.specs.Act.{Calls}
 use Rattle.page_meaning.specs.Calls.{calls_at}
+use Rattle.page_meaning.specs.Events.{initialises}
 use Rattle.page_meaning.specs.Functions.{global_variables}
-use Rattle.page_meaning.specs.Pages.{do_event, run_all}
+use Rattle.page_meaning.specs.Pages.{at_element, do_event, document_node, run_all, with_input}
 use Rattle.page_meaning.specs.Places.{window}
 use Rattle.page_meaning.specs.Store.{Store}
-use Rattle.page_meaning.specs.Tasks.{Name, Script, after_task, depth_limit, run_script, step_limit, task_of, top}
+use Rattle.page_meaning.specs.Tasks.{Fires, Name, Passes, Script, after_task, depth_limit, run_script, step_limit, task_of, top}
 use Rattle.heap_relations.proofs.Callers.{larger_more, larger_same}
 use Rattle.heap_relations.specs.Naming.{Larger, World, outermost, Itself}
-use Rattle.heap_relations.specs.Related.{no_more, undefined}
+use Rattle.heap_relations.specs.Related.{no_more, none, some, undefined}
+use Rattle.host_relations.proofs.Callers as host
+use Rattle.host_relations.proofs.Callers.{linked_up}
+use Rattle.host_relations.specs.Hosts.{nodes_rel}
+use Rattle.host_relations.specs.Linked.{Linked}
+use Rattle.host_relations.specs.NodeSteps.{sets_value_rel}
 use Rattle.page_meaning.specs.Places.{built_in_count}
 use Rattle.agreement.specs.Acts as acts
-use Rattle.agreement.specs.Acts.{AddedRel, Agrees, HasBuiltIns, StoreRel}
+use Rattle.agreement.specs.Acts.{AddedRel, Agrees, Equal, HasBuiltIns, StoreRel}
 use Rattle.agreement.specs.Laws.{EventsAgree}
 use Rattle.agreement.specs.Opened.{HasTrees, HereRel, opened_at, stmt_stands, stmts_stand, PageCallsRel}
 use Rattle.agreement.proofs.Acts.{also_rel, bind_rel, on_built_ins, ret_rel}
 use Rattle.agreement.proofs.SparedCalls.{page_calls_up}
 use Rattle.agreement.proofs.Calling.{calls_at_rel}
 use Rattle.agreement.proofs.EqualTrees.{trees_up}
-use Rattle.agreement.proofs.Ends.{LaterRel, finished_rel}
+use Rattle.agreement.proofs.Dispatching.{deliver_rel}
+use Rattle.agreement.proofs.Ends.{LaterRel, finished_rel, with_line_rel}
+use Rattle.agreement.proofs.EventSteps.{changes_event_rel, initialises_rel}
 use Rattle.agreement.proofs.Functions.{declare_globals_rel, global_variables_rel, call_end_rel}
+use Rattle.agreement.proofs.Heap.{named_up}
+use Rattle.agreement.proofs.HostSteps.{host_changed}
 use Rattle.agreement.proofs.Names.{here_up, read_global_rel}
+use Rattle.agreement.proofs.NewNodes.{make_event_rel}
+use Rattle.agreement.proofs.OnNodes.{FoundNode}
 use Rattle.agreement.proofs.Statements.{exec_rel}
+use Rattle.agreement.proofs.TimerRows.{pass_rel}
 use Rattle.agreement.proofs.Values.{object_value_rel, done_rel}
 
 -- ---- a task
 
-pub window_place : window.0 < built_in_count
-unfolding built_in_count
+pub window_place : window.0 ≤ built_in_count
 window_place = omega arith
 
 -- what stands round the top of a script
@@ -87,6 +103,19 @@ run_script_rel c d n body calls trees f =
 pub name_task_rel : {V : World} (c d : Calls) (x : List ℕ) → PageCallsRel V c d → Agrees V (task_of c (Name x)) (task_of d (Name x))
 name_task_rel c d x calls = also_rel (read_global_rel top top x refl refl) (λ W l f g r. calls.calls.call W l r undefined no_more)
 
+-- an event of the host at a node
+pub fires_task_rel : {V : World} (c d : Calls) (x : List ℕ) (bubbles cancelable : Bool) (k l : NodeId) → PageCallsRel V c d → Linked V k.0 l.0
+    → Agrees V (task_of c (Fires x bubbles cancelable k)) (task_of d (Fires x bubbles cancelable l))
+fires_task_rel c d x bubbles cancelable k l calls i =
+    bind_rel make_event_rel (λ W m e f n.
+    bind_rel {R = Equal} (changes_event_rel e f {x = initialises x bubbles cancelable} {y = initialises x bubbles cancelable} n (λ X j. initialises_rel)) (λ X j u v q.
+    let up = larger_more m j in
+    deliver_rel c d e f k l (page_calls_up up calls).calls (named_up j n) (linked_up up i)))
+
+-- time that passes
+pub passes_task_rel : {V : World} (c d : Calls) (n : ℕ) → PageCallsRel V c d → Agrees V (task_of c (Passes n)) (task_of d (Passes n))
+passes_task_rel c d n calls = pass_rel c d n calls.calls
+
 pub after_script_rel : {V : World} {s t : Store} (n : ℕ) (body : tree.Stmts) → (trees : HasTrees V) → stmts_stand trees.demand n [] body ≡ true → StoreRel V s t
     → LaterRel V (after_task (Script body) s) (after_task (Script (open_tops (top_around trees.demand.opens) n body)) t)
 after_script_rel {s = s} {t = t} n body trees f g =
@@ -98,14 +127,36 @@ after_name_rel {s = s} {t = t} x trees g =
     let calls = calls_at depth_limit in
     finished_rel ((name_task_rel calls calls x (calls_at_rel depth_limit trees)).run _ larger_same s t step_limit g)
 
+pub after_fires_rel : {V : World} {s t : Store} (x : List ℕ) (bubbles cancelable : Bool) (k l : NodeId) → HasTrees V → Linked V k.0 l.0 → StoreRel V s t
+    → LaterRel V (after_task (Fires x bubbles cancelable k) s) (after_task (Fires x bubbles cancelable l) t)
+after_fires_rel {s = s} {t = t} x bubbles cancelable k l trees i g =
+    let calls = calls_at depth_limit in
+    finished_rel ((fires_task_rel calls calls x bubbles cancelable k l (calls_at_rel depth_limit trees) i).run _ larger_same s t step_limit g)
+
+pub after_passes_rel : {V : World} {s t : Store} (n : ℕ) → HasTrees V → StoreRel V s t → LaterRel V (after_task (Passes n) s) (after_task (Passes n) t)
+after_passes_rel {s = s} {t = t} n trees g =
+    let calls = calls_at depth_limit in
+    finished_rel ((passes_task_rel calls calls n (calls_at_rel depth_limit trees)).run _ larger_same s t step_limit g)
+
 -- ---- events
 
 pub at_once : {V : World} {s t : Store} → StoreRel V s t → LaterRel V s t
 at_once {V = V} g = record { world = V; larger = larger_same; stores = g }
 
+-- the same line, where there is no such element
+at_element_rel : {V : World} {s t : Store} {o p : Option NodeId} (f h : NodeId → Store → Store) → FoundNode V o p → StoreRel V s t
+    → ((k l : NodeId) → Linked V k.0 l.0 → LaterRel V (f k s) (h l t)) → LaterRel V (at_element o f s) (at_element p h t)
+at_element_rel f h none g r = at_once (with_line_rel NoElement g refl)
+at_element_rel f h (some {a = k} {b = l} i) g r = r k l i.linked
+
 pub do_event_rel : {V : World} {s t : Store} (e : Event) → HasTrees V → StoreRel V s t → LaterRel V (do_event e s) (do_event e t)
 do_event_rel (event.Call f) trees g = after_name_rel f trees g
-do_event_rel e trees g = at_once g
+do_event_rel (event.Fire x id bubbles cancelable) trees g = at_element_rel _ _ (host.ids_found g.host id) g (λ k l i. after_fires_rel x bubbles cancelable k l trees i g)
+do_event_rel {s = s} {t = t} (event.Input x id) trees g =
+    at_element_rel _ _ (host.ids_found g.host id) g (λ k l i.
+    after_fires_rel {s = with_input x k s} {t = with_input x l t} (codes "input") true false k l trees i (host_changed g {x = in_nodes (sets_value k x)} {y = in_nodes (sets_value l x)} (nodes_rel (sets_value_rel i))))
+do_event_rel (event.Tick n) trees g = after_passes_rel n trees g
+do_event_rel event.Dom trees g = at_once (with_line_rel Dom g (host.node_read g.host {k = document_node} {l = document_node} g.host.nodes.document).text)
 
 pub later_up : {V W : World} {s t : Store} → Larger V W → LaterRel W s t → LaterRel V s t
 later_up l h = record { world = h.world; larger = larger_more l h.larger; stores = h.stores }
