@@ -20,7 +20,7 @@ use Rattle.rebuilding.specs.Again.{SavedAgain}
 use Rattle.rebuilding.specs.Rebuilt as rebuilt
 use Rattle.rebuilding.specs.Rebuilt.{ClassIsRebuilt, IsRebuilt, IsRebuiltAs, PlansRebuild, nth}
 use Rattle.rebuilding.specs.Running.{StatementsRun}
-use Rattle.rebuilding.specs.Scene.{Scene}
+use Rattle.rebuilding.specs.Scene.{Scene, page_with}
 use Rattle.rebuilding.specs.Sites.{sited_proto}
 use Rattle.rebuilding.proofs.Carried.{bound_back, in_left, in_right, needs_back, proto_back, props_back}
 use Rattle.rebuilding.proofs.Counterparts.{IsKnown}
@@ -44,7 +44,7 @@ things_same s t things sites (k ∷ ks) (j ∷ js) count each =
 module _ (c : Scene) (s : Store) (things : List ℕ) (h : Contents) (sites : List ℕ) (still : Still s) (walk : IsWalk s things)
     (is : IsRebuilt c s things h sites) where
   abbrev t : Store
-  t = record { heap = h; lines = [] }
+  t = page_with h
 
   -- an error keeps its kind, since its prototype is built in
   kind_same : (p q : Option ObjId) → (o : Object) → HasShape s o class.Fault → p ≡ o.proto
@@ -105,8 +105,8 @@ module _ (c : Scene) (s : Store) (things : List ℕ) (h : Contents) (sites : Lis
       let extensible = made_as.extensible in
       (λ i. record { maker = maker i; props = props i; extensible = extensible i })
 
-  pub compact_same : (again : List ℕ) → IsWalk (record { heap = h; lines = [] }) again
-      → compact (record { heap = h; lines = [] }) again ≡ compact s things
+  pub compact_same : (again : List ℕ) → IsWalk (page_with h) again
+      → compact (page_with h) again ≡ compact s things
   compact_same again walked =
       let rebuilt_walk : IsWalk t sites = walked_again c s things h sites still walk is in
       let globals =

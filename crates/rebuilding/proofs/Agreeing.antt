@@ -1,12 +1,12 @@
 -- The page that was saved and the one that was rebuilt agree.
-use Rattle.std.proofs.Common.{◌≡◌, refl, sym, subst, ◌∙◌, ℕ, zero, suc, ◌<◌, ◌≤◌, true, not, ◌&&◌, nat_eq, nat_le, nat_lt, List, [], ◌∷◌, Option, length, arith}
-use Rattle.std.proofs.lemmas.Bool.{and_parts, leb-true, ltb-true, ne_eqb}
+use Rattle.std.proofs.Common.{◌≡◌, ◌⊎◌, inl, inr, refl, sym, subst, ◌∙◌, ℕ, zero, suc, ◌+◌, ◌-◌, ◌<◌, ◌≤◌, true, not, ◌&&◌, nat_eq, nat_le, nat_lt, List, [], ◌∷◌, Option, Some, length, arith}
+use Rattle.std.proofs.lemmas.Bool.{and_parts, cases_lt, leb-true, ltb-true, ne_eqb}
 use Rattle.code_table.specs.Declarations.{name_of}
 use Rattle.js_core.specs.Tree.{Code}
 use Rattle.js_values.specs.declared.ids.EnvId.{EnvId}
 use Rattle.object_heap.specs.Chain.{object_at}
 use Rattle.object_heap.specs.Environment.{Bound}
-use Rattle.object_heap.specs.Heap.{Contents}
+use Rattle.object_heap.specs.Heap.{Contents, new_object}
 use Rattle.object_heap.specs.declared.object.Class.{Class}
 use Rattle.object_heap.specs.declared.object.Class.TheVariants as class
 use Rattle.page_meaning.specs.Kept.{none_more}
@@ -24,9 +24,12 @@ use Rattle.rebuilding.specs.Frames.{round_frame}
 use Rattle.rebuilding.specs.Laws.{Agrees}
 use Rattle.rebuilding.specs.Rebuilt as rebuilt
 use Rattle.rebuilding.specs.Rebuilt.{ClassIsRebuilt, IsRebuilt, nth}
-use Rattle.rebuilding.specs.Scene.{IsRoundOf, is_site, Scene}
+use Rattle.rebuilding.specs.Scene.{IsRoundOf, Scene, frame_count, is_site, page_with}
+use Rattle.heap_walker.specs.Bare.{nth_node}
+use Rattle.page_meaning.specs.Places.{node_prototype}
+use Rattle.rebuilding.proofs.Hosts.{hosts_rel, node_is, node_rel, node_there, past_nodes}
 use Rattle.rebuilding.specs.Sites.{sited_needs}
-use Rattle.rebuilding.proofs.Counterparts.{need_known, rest_at, there_at, thing_rel, value_rel, young_at}
+use Rattle.rebuilding.proofs.Counterparts.{need_known, rest_at, there_at, thing_rel, value_rel}
 use Rattle.rebuilding.proofs.Frames.{fits_at_rest}
 use Rattle.rebuilding.proofs.WindowsAgree.{window_rel}
 use Rattle.rebuilding.proofs.Naming.{base_at, built_in, built_in_paired, IsPair, pair_is, rebuilt_trees, rebuilt_world, rising_places, thing, thing_paired}
@@ -80,18 +83,18 @@ module _ (c : Scene) (s : Store) (things : List ℕ) (h : Contents) (sites : Lis
   site_below : (n : ℕ) → n < length things → n < length sites
   site_below n below = subst (λ m. n < m) (sym is.count) below
 
-  pub site_parts : (n : ℕ) → n < length things → (built_in_count ≤ nth sites n) × (nth sites n < length h.objects)
+  pub site_parts : (n : ℕ) → n < length things → (frame_count ≤ nth sites n) × (nth sites n < length h.objects)
   site_parts n below =
       let k : ℕ = nth sites n in
       let all : is_site c h k ≡ true = all_at (is_site c h) sites n is.running.stand (site_below n below) in
-      let one = and_parts (nat_le built_in_count k) (nat_lt k (length h.objects) && not (nat_eq k c.list)) all in
+      let one = and_parts (nat_le frame_count k) (nat_lt k (length h.objects) && not (nat_eq k c.list)) all in
       let two = and_parts (nat_lt k (length h.objects)) (not (nat_eq k c.list)) one.1 in
-      (leb-true built_in_count k one.0, ltb-true k (length h.objects) two.0)
+      (leb-true frame_count k one.0, ltb-true k (length h.objects) two.0)
 
   -- ---- what is built in
 
   built_ins_named : HasBuiltIns (rebuilt_world s h things sites)
-  built_ins_named k low = record { named = built_in_paired things sites k low }
+  built_ins_named k low = record { named = built_in_paired things sites k (omega (arith, low)) }
 
   built_in_rel : (k : ℕ) → k < built_in_count → ObjectRel (named W) (object_at s.heap.objects k) (object_at h.objects k)
   built_in_rel zero low = window_rel c s things h sites still walk is built_ins_named
@@ -100,11 +103,29 @@ module _ (c : Scene) (s : Store) (things : List ℕ) (h : Contents) (sites : Lis
       (subst (λ p. ObjectRel (named W) (built_in_at (suc k)) p) (sym (is.running.built_ins (suc k) (omega arith) low))
       (built_in_itself built_ins_named (suc k)))
 
+  -- and so are the objects of the nodes
+  begun_rel : (k : ℕ) → k < frame_count → ObjectRel (named W) (object_at s.heap.objects k) (object_at h.objects k)
+  begun_rel k low = by (cases_lt k built_in_count)
+    where
+      by : (k < built_in_count) ⊎ (built_in_count ≤ k) → ObjectRel (named W) (object_at s.heap.objects k) (object_at h.objects k)
+      by (inl first) = built_in_rel k first
+      by (inr past) =
+          let m : ℕ = k - built_in_count in
+          let small : m < 4 = omega (arith, low, past) in
+          let there : built_in_count + m ≡ k = omega (arith, past) in
+          subst (λ j. ObjectRel (named W) (object_at s.heap.objects j) (object_at h.objects j)) there
+          (subst (λ o. ObjectRel (named W) o (object_at h.objects (built_in_count + m))) (sym (node_is s still m small))
+          (subst (λ o. ObjectRel (named W) (new_object (class.Node (nth_node m)) (Some node_prototype)) o) (sym (is.running.nodes m small))
+          (node_rel s h things sites m small)))
+
   -- ---- all objects
+
+  begun_there : (k : ℕ) → k < frame_count → k < length s.heap.objects
+  begun_there k low = let last = node_there s still 3 (omega arith) in omega (arith, low, last)
 
   inside : (a b : ℕ) → IsPair things sites a b → (a < length s.heap.objects) × (b < length h.objects)
   inside a b (built_in same low) =
-      (omega (arith, low, still.shaped.all_there), omega (arith, low, same, is.running.list_young, is.running.list_there))
+      (begun_there a low, omega (arith, low, same, is.running.list_young, is.running.list_there))
   inside a b (thing p) =
       (omega (arith, p.one, there_at s things walk p.place p.below), omega (arith, p.two, (site_parts p.place p.below).1))
 
@@ -114,10 +135,10 @@ module _ (c : Scene) (s : Store) (things : List ℕ) (h : Contents) (sites : Lis
   same_places : (a b i j : ℕ) → IsPair things sites a b → IsPair things sites i j → nat_eq a i ≡ nat_eq b j
   same_places a b i j (built_in one low) (built_in two small) = rw (one, two)
   same_places a b i j (built_in one low) (thing p) =
-      differ a i b j (λ e. absurd (omega (arith, e, low, p.one, young_at s things walk p.place p.below)))
+      differ a i b j (λ e. absurd (omega (arith, e, low, p.one, past_nodes s still things walk p.place p.below)))
       (λ e. absurd (omega (arith, e, low, one, p.two, (site_parts p.place p.below).0)))
   same_places a b i j (thing p) (built_in two small) =
-      differ a i b j (λ e. absurd (omega (arith, e, small, p.one, young_at s things walk p.place p.below)))
+      differ a i b j (λ e. absurd (omega (arith, e, small, p.one, past_nodes s still things walk p.place p.below)))
       (λ e. absurd (omega (arith, e, small, two, p.two, (site_parts p.place p.below).0)))
   same_places a b i j (thing p) (thing q) =
       let left : nat_eq (nth things p.place) (nth things q.place) ≡ nat_eq p.place q.place =
@@ -135,7 +156,7 @@ module _ (c : Scene) (s : Store) (things : List ℕ) (h : Contents) (sites : Lis
 
   object_rel : (a b : ℕ) → IsPair things sites a b → ObjectRel (named W) (object_at s.heap.objects a) (object_at h.objects b)
   object_rel a b (built_in same low) =
-      subst (λ k. ObjectRel (named W) (object_at s.heap.objects a) (object_at h.objects k)) same (built_in_rel a low)
+      subst (λ k. ObjectRel (named W) (object_at s.heap.objects a) (object_at h.objects k)) same (begun_rel a low)
   object_rel a b (thing p) =
       subst (λ k. ObjectRel (named W) (object_at s.heap.objects k) (object_at h.objects b)) (sym p.one)
       (subst (λ k. ObjectRel (named W) (object_at s.heap.objects (nth things p.place)) (object_at h.objects k)) (sym p.two)
@@ -178,10 +199,11 @@ module _ (c : Scene) (s : Store) (things : List ℕ) (h : Contents) (sites : Lis
     bases = λ b i. based_rel b i;
   }
 
-  stores_rel : StoreRel W s (record { heap = h; lines = [] })
+  stores_rel : StoreRel W s (page_with h)
   stores_rel = record {
     heap = record { objects = objects_rel; slots = slots_rel; left = still.sound; right = is.running.sound };
     lines = record { more = []; one = none_more s.lines; two = refl };
+    host = hosts_rel s h things sites still;
     built_ins = built_ins_named;
     shaped = still.shaped;
     kept = record {
@@ -194,7 +216,7 @@ module _ (c : Scene) (s : Store) (things : List ℕ) (h : Contents) (sites : Lis
 -- ---- the two pages
 
 pub rebuilt_agrees : (c : Scene) (s : Store) (things : List ℕ) (h : Contents) (sites : List ℕ) → Still s → IsWalk s things
-    → IsRebuilt c s things h sites → Agrees s (record { heap = h; lines = [] })
+    → IsRebuilt c s things h sites → Agrees s (page_with h)
 rebuilt_agrees c s things h sites still walk is = record {
   world = rebuilt_world s h things sites;
   trees = rebuilt_trees s h things sites;

@@ -44,13 +44,16 @@ IsKnown things k = (k < built_in_count) ⊎ (is_in k things ≡ true)
 module _ (s : Store) (things : List ℕ) (walk : IsWalk s things) (n : ℕ) (below : n < length things) where
   pub young_at : built_in_count ≤ nth things n
   young_at =
-      leb-true built_in_count (nth things n)
-      (and_parts (nat_le built_in_count (nth things n)) (nat_lt (nth things n) (length s.heap.objects)) (is_thing_at s things n walk below)).0
+      let over : built_in_count < nth things n =
+      ltb-true built_in_count (nth things n)
+      (and_parts (nat_lt built_in_count (nth things n)) (nat_lt (nth things n) (length s.heap.objects)) (is_thing_at s things n walk below)).0
+      in
+      omega (arith, over)
 
   pub there_at : nth things n < length s.heap.objects
   there_at =
       ltb-true (nth things n) (length s.heap.objects)
-      (and_parts (nat_le built_in_count (nth things n)) (nat_lt (nth things n) (length s.heap.objects)) (is_thing_at s things n walk below)).1
+      (and_parts (nat_lt built_in_count (nth things n)) (nat_lt (nth things n) (length s.heap.objects)) (is_thing_at s things n walk below)).1
 
 -- a function among them is at rest
 pub rest_at : (s : Store) (things : List ℕ) → Still s → IsWalk s things → (n : ℕ) → n < length things → (source : Code) (env : Option EnvId)
@@ -100,7 +103,7 @@ module _ (s : Store) (h : Contents) (things sites : List ℕ) (walk : IsWalk s t
   pub named_site : (k : ℕ) → IsKnown things k → Named (rebuilt_world s h things sites) k (site sites (place_of things k))
   named_site k (inl low) =
       let same : site sites (place_of things k) ≡ k = site_of_built_in things sites k low (λ n below. young_at s things walk n below) in
-      subst (λ j. Named W k j) (sym same) (record { named = built_in_paired things sites k low })
+      subst (λ j. Named W k j) (sym same) (record { named = built_in_paired things sites k (omega (arith, low)) })
   named_site k (inr found) =
       let t = thing_at things sites k found in
       let pair : Named W (nth things t.place) (nth sites t.place) = record { named = thing_paired things sites count t.place t.below } in

@@ -3,7 +3,7 @@ use Rattle.std.proofs.Common.{◌≡◌, sym, ap, ◌∙◌, List, [], ◌∷◌
 use Rattle.js_values.specs.declared.line.Line.{Line}
 use Rattle.page_meaning.specs.Pages.{load_of, run_all}
 use Rattle.page_meaning.specs.Store.{Store}
-use Rattle.page_writer.specs.Script.{saved_script}
+use Rattle.page_writer.specs.Script.{saved_in_frame}
 use Rattle.rebuild_plan.specs.Compact.{compact}
 use Rattle.rebuild_plan.specs.Plan.{plan}
 use Rattle.agreement.specs.Laws.{EventsAgree}
@@ -11,7 +11,7 @@ use Rattle.rebuilding.specs.Laws.{RebuiltPagesGoOn, ScriptsRebuild}
 
 pub rebuilt_pages_go_on : EventsAgree → ScriptsRebuild → RebuiltPagesGoOn
 rebuilt_pages_go_on events scripts s things later can =
-    let t : Store = load_of (saved_script (plan (compact s things)) ∷ []) in
+    let t : Store = load_of (saved_in_frame (plan (compact s things))) in
     let loaded = scripts s things can in
     let same : drop (length s.lines) (run_all s later).lines ≡ drop (length t.lines) (run_all t later).lines =
     events loaded.1.world s t later loaded.1.trees loaded.1.stores

@@ -19,6 +19,7 @@ pub mod Globals
 pub mod Going
 pub mod GoingOn
 pub mod Held
+pub mod Hosts
 pub mod InOrder
 pub mod Indices
 pub mod Lasting
@@ -42,6 +43,7 @@ pub mod Rebuilds
 pub mod Rounds
 pub mod Rows
 pub mod Scripts
+pub mod Settling
 pub mod Stages
 pub mod Statements
 pub mod Staying

@@ -1,25 +1,27 @@
 -- The script of a saved page loads without a line, as a page that agrees with the one that was saved.
 use Rattle.std.proofs.Common.{◌≡◌, refl, sym, ap, subst, ◌∙◌, ℕ, suc, ◌+◌, ◌-◌, ◌<◌, ◌≤◌, false, List, [], ◌∷◌, ◌++◌, length, arith}
-use Rattle.object_heap.specs.Heap.{Contents}
+use Rattle.object_heap.specs.Heap.{Contents, IsSound}
 use Rattle.page_meaning.specs.Act.{Act, Ended, nothing}
 use Rattle.page_meaning.specs.Calls.{calls_at}
 use Rattle.page_meaning.specs.Laws.{LoadsSound}
 use Rattle.page_meaning.specs.Pages.{load_of}
 use Rattle.page_meaning.specs.Places.{window}
+use Rattle.heap_walker.specs.Bare.{frame_nodes}
 use Rattle.page_meaning.specs.Pristine.{pristine}
 use Rattle.page_meaning.specs.Statements.{exec_all}
-use Rattle.page_meaning.specs.Store.{Store, with_heap}
+use Rattle.page_meaning.specs.Store.{Store}
 use Rattle.page_meaning.specs.Tasks.{depth_limit, finished, Script, step_limit, task_of}
-use Rattle.page_writer.specs.Script.{saved_script, statements}
+use Rattle.page_writer.specs.Script.{saved_in_frame, saved_script, statements}
 use Rattle.rebuild_plan.specs.Compact.{compact, Thing, things_at}
 use Rattle.rebuild_plan.specs.Plan.{defines, fills, makes, plan, prevents}
 use Rattle.rebuild_plan.specs.declared.statement.Rebuild.{Rebuild}
 use Rattle.rebuilding.specs.Laws.{Agrees, CanBeRebuilt, LoadsWithin, ScriptsRebuild, ScriptsTakeFewSteps}
 use Rattle.rebuilding.specs.Rebuilt.{IsRebuilt, PlansRebuild, Succeeds}
 use Rattle.rebuilding.specs.Running.{StatementsRun}
-use Rattle.rebuilding.specs.Scene.{inside, IsRunning}
+use Rattle.rebuilding.specs.Scene.{inside, IsRunning, page_with}
 use Rattle.rebuilding.proofs.Agreeing.{rebuilt_agrees}
 use Rattle.rebuilding.proofs.InOrder.{all_run, Finishes}
+use Rattle.rebuilding.proofs.Settling.{settled_heap, settled_is, settled_quiet, still_rebuilt}
 use Rattle.rebuilding.proofs.Scripts.{begun, begun_running, begun_window, scene, script_run}
 
 -- ---- limits
@@ -52,39 +54,44 @@ pub record IsScriptOf (s : Store) (things : List ℕ) (t : Store) : Type 0 where
   pub after : Contents
   pub sites : List ℕ
   pub within : LoadsWithin (saved_script (plan (compact s things))) (length (plan (compact s things)))
-  pub loaded : t ≡ with_heap pristine after
+  pub loaded : t ≡ page_with after
   pub rebuilt : IsRebuilt scene s things after sites
 
 pub script_rebuilt : LoadsSound → StatementsRun → PlansRebuild → (s : Store) (things : List ℕ) → CanBeRebuilt s things
-    → IsScriptOf s things (load_of (saved_script (plan (compact s things)) ∷ []))
+    → IsScriptOf s things (load_of (saved_in_frame (plan (compact s things))))
 script_rebuilt sound run plans s things can =
     let rs : List Rebuild = plan (compact s things) in
     let depth : ℕ = depth_limit - 1 in
-    let running : IsRunning scene begun [] = begun_running (sound []) in
+    let running : IsRunning scene begun [] = begun_running (sound (record { nodes = frame_nodes; scripts = [] })) in
     let able : Succeeds scene (IsRebuilt scene s things) begun [] rs =
     plans scene s things begun can.still can.walk can.in_range
     (omega (arith, plan_long s things, can.few, few_steps)) running begun_window
     in
     let all : Act = exec_all (calls_at (depth + 1)) (inside scene) (statements rs) in
-    let out : Finishes (IsRebuilt scene s things) (with_heap pristine begun) (step_limit - length rs) (all.run (with_heap pristine begun) step_limit) =
-    all_run run scene (IsRebuilt scene s things) depth rs (with_heap pristine begun) [] step_limit (omega (arith, can.few)) running able
+    let out : Finishes (IsRebuilt scene s things) (page_with begun) (step_limit - length rs) (all.run (page_with begun) step_limit) =
+    all_run run scene (IsRebuilt scene s things) depth rs (page_with begun) [] step_limit (omega (arith, can.few)) running able
     in
-    let ends : (task_of (calls_at depth_limit) (Script (saved_script rs))).run pristine step_limit ≡ Ended nothing (with_heap pristine out.after) out.left =
-    ap (λ m. (task_of (calls_at m) (Script (saved_script rs))).run pristine step_limit) depth_left
+    let ends : (task_of (calls_at depth_limit) (Script (saved_script rs))).run (pristine frame_nodes) step_limit ≡ Ended nothing (page_with out.after) out.left =
+    ap (λ m. (task_of (calls_at m) (Script (saved_script rs))).run (pristine frame_nodes) step_limit) depth_left
     ∙ script_run (calls_at (depth + 1)) rs step_limit out.after out.left out.ends
     in
+    let last : Contents = settled_heap (length out.after.objects) out.after in
+    let loaded : load_of (saved_in_frame rs) ≡ page_with last =
+    ap finished ends ∙ settled_is (length out.after.objects) (page_with out.after)
+    in
     record {
-      after = out.after;
+      after = last;
       sites = out.sites;
-      within = record { signal = nothing; after = with_heap pristine out.after; left = out.left; ends = ends; few = omega (arith, out.few) };
-      loaded = ap finished ends;
-      rebuilt = out.end;
+      within = record { signal = nothing; after = page_with out.after; left = out.left; ends = ends; few = omega (arith, out.few) };
+      loaded = loaded;
+      rebuilt = still_rebuilt scene s things out.after last out.sites out.end (settled_quiet (length out.after.objects) out.after (omega arith))
+          (subst (λ (t : Store). IsSound t.heap) loaded (sound (saved_in_frame rs)));
     }
 
 pub scripts_rebuild : LoadsSound → StatementsRun → PlansRebuild → ScriptsRebuild
 scripts_rebuild sound run plans s things can =
     let out = script_rebuilt sound run plans s things can in
-    let agrees : Agrees s (with_heap pristine out.after) =
+    let agrees : Agrees s (page_with out.after) =
     rebuilt_agrees scene s things out.after out.sites can.still can.walk out.rebuilt
     in
     subst (λ t. (t.lines ≡ []) × Agrees s t) (sym out.loaded) (refl, agrees)

@@ -1,4 +1,4 @@
--- The naming of a page that was saved and the one that was rebuilt: what is built in names itself, and each thing the object at its site.
+-- The naming of a page that was saved and the one that was rebuilt: what a page begins with names itself, and each thing the object at its site.
 use Rattle.std.proofs.Common.{◌≡◌, ◌⊎◌, inl, inr, refl, sym, ap, subst, ◌∙◌, ℕ, zero, suc, ◌<◌, ◌≤◌, Bool, true, false, nat_eq, List, [], ◌∷◌, ◌++◌, Option, Some, None, length, arith}
 use Rattle.std.proofs.lemmas.Bool.{cases_eq, cases_lt, eq-eqb, eqb-true, lt-ltb, ne_eqb}
 use Rattle.std.proofs.lemmas.Bool.Decides.{nat_tests}
@@ -20,6 +20,7 @@ use Rattle.heap_walker.specs.Things.{is_in}
 use Rattle.rebuild_plan.specs.Compact.{place_of, placed}
 use Rattle.rebuilding.specs.Frames.{round_frame}
 use Rattle.rebuilding.specs.Rebuilt.{nth}
+use Rattle.rebuilding.specs.Scene.{frame_count}
 use Rattle.rebuilding.specs.Sites.{site}
 use Rattle.rebuilding.proofs.Basics.{found_below}
 use Rattle.rebuilding.proofs.Placed.{site_thing}
@@ -56,9 +57,9 @@ rebuilt_world s h things sites = record {
   opens = false;
   opened = λ n fs c. c;
   fits = λ n. code_fits;
-  before = record { one = s.lines; two = [] };
-  objects = same_below built_in_count ++ pairs things sites;
-  nodes = [];
+  before = record { one = s.lines; two = []; one_clock = s.host.clock; two_clock = 0 };
+  objects = same_below frame_count ++ pairs things sites;
+  nodes = same_below 4;
   slots = [];
   done = [];
   bases = bases_of s.heap.objects h.objects things sites;
@@ -93,12 +94,12 @@ pub record IsSame (n a b : ℕ) : Type 0 where
   pub same : a ≡ b
   pub below : a < n
 
-is_same : (n a b : ℕ) → In (pair a b) (same_below n) → IsSame n a b
+pub is_same : (n a b : ℕ) → In (pair a b) (same_below n) → IsSame n a b
 is_same zero a b i = elim i [ ]
 is_same (suc n) a b here = record { same = refl; below = omega arith }
 is_same (suc n) a b (there i) = let h = is_same n a b i in record { same = h.same; below = omega (arith, h.below) }
 
-below_named : (n k : ℕ) → k < n → In (pair k k) (same_below n)
+pub below_named : (n k : ℕ) → k < n → In (pair k k) (same_below n)
 below_named zero k h = absurd (omega arith)
 below_named (suc n) k h = by_case (nat_eq k n) refl (λ below. below_named n k below)
   where
@@ -227,21 +228,21 @@ site_of_built_in things sites k low young = by (position (nat_eq k) things) refl
 -- ---- what the world names
 
 pub data IsPair (things sites : List ℕ) (a b : ℕ) : Type 0 where
-  built_in : a ≡ b → a < built_in_count → IsPair things sites a b
+  built_in : a ≡ b → a < frame_count → IsPair things sites a b
   thing : ArePlaced things sites a b → IsPair things sites a b
 
 module _ (things sites : List ℕ) where
-  pub pair_is : (a b : ℕ) → In (pair a b) (same_below built_in_count ++ pairs things sites) → IsPair things sites a b
-  pair_is a b i = by (in_either (pair a b) (same_below built_in_count) (pairs things sites) i)
+  pub pair_is : (a b : ℕ) → In (pair a b) (same_below frame_count ++ pairs things sites) → IsPair things sites a b
+  pair_is a b i = by (in_either (pair a b) (same_below frame_count) (pairs things sites) i)
     where
-      by : In (pair a b) (same_below built_in_count) ⊎ In (pair a b) (pairs things sites) → IsPair things sites a b
-      by (inl j) = let h = is_same built_in_count a b j in built_in h.same h.below
+      by : In (pair a b) (same_below frame_count) ⊎ In (pair a b) (pairs things sites) → IsPair things sites a b
+      by (inl j) = let h = is_same frame_count a b j in built_in h.same h.below
       by (inr j) = thing (pair_at things sites a b j)
 
-  pub built_in_paired : (k : ℕ) → k < built_in_count → In (pair k k) (same_below built_in_count ++ pairs things sites)
-  built_in_paired k low = in_left (pair k k) (same_below built_in_count) (pairs things sites) (below_named built_in_count k low)
+  pub built_in_paired : (k : ℕ) → k < frame_count → In (pair k k) (same_below frame_count ++ pairs things sites)
+  built_in_paired k low = in_left (pair k k) (same_below frame_count) (pairs things sites) (below_named frame_count k low)
 
   pub thing_paired : length sites ≡ length things → (n : ℕ) → n < length things
-      → In (pair (nth things n) (nth sites n)) (same_below built_in_count ++ pairs things sites)
+      → In (pair (nth things n) (nth sites n)) (same_below frame_count ++ pairs things sites)
   thing_paired same n below =
-      in_right (pair (nth things n) (nth sites n)) (same_below built_in_count) (pairs things sites) (paired things sites n below same)
+      in_right (pair (nth things n) (nth sites n)) (same_below frame_count) (pairs things sites) (paired things sites n below same)

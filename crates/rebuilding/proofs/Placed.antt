@@ -73,7 +73,7 @@ place_built_in s things k walk low = by (position (nat_eq k) things) refl
     by (Some i) is =
         let found = position-Some (nat_eq k) things i 0 is in
         let same : k ≡ nth things i = eqb-true k (nth things i) found.1 in
-        let high : built_in_count ≤ nth things i = leb-true built_in_count (nth things i) (and_parts _ _ (is_thing_at s things i walk found.0)).0 in
+        let high : built_in_count < nth things i = ltb-true built_in_count (nth things i) (and_parts _ _ (is_thing_at s things i walk found.0)).0 in
         absurd (omega (arith, low, same, high))
 
 -- the place of a thing, which has this number

@@ -23,7 +23,7 @@ use Rattle.heap_walker.specs.Still.{has_name, IsFunctionAtRest, other_names, Own
 use Rattle.heap_walker.specs.Things.{bound_value, needs_of}
 use Rattle.rebuild_plan.specs.Compact.{moved_needs, moved_value}
 use Rattle.rebuilding.specs.Frames.{is_own, keeps_round, round_frame}
-use Rattle.rebuilding.specs.Scene.{bare, env_at, IsRoundOf, IsRunning, named as with_name, Scene}
+use Rattle.rebuilding.specs.Scene.{bare, env_at, IsRoundOf, IsRunning, named as with_name, Scene, page_with}
 use Rattle.rebuilding.specs.Sites.{sited_needs, sited_value}
 use Rattle.rebuilding.proofs.Basics.{nothing}
 use Rattle.rebuilding.proofs.Closures.{binding_there}
@@ -73,7 +73,7 @@ module _ (c : Scene) (s : Store) (h : Contents) (things sites others : List ℕ)
   W = rebuilt_world s h things sites
 
   abbrev t : Store
-  t = record { heap = h; lines = [] }
+  t = page_with h
 
   own_sealed : (name : Option (List ℕ)) (needs : Bound) (from to : Option EnvId) → OwnName s k from name → IsRoundOf c h.environments j needs name to
       → (x : List ℕ) → is_own name x ≡ true → SealedRel (named W) Sealed (look_in s.heap.environments from x) (look_in h.environments to x)

@@ -1,7 +1,7 @@
 -- The sites are what can be reached in the page that was rebuilt.
-use Rattle.std.proofs.Common.{◌≡◌, inl, inr, refl, sym, ap, subst, ◌∙◌, ℕ, ◌<◌, ◌≤◌, true, nat_le, nat_lt, drop, map, List, [], ◌∷◌, ◌++◌, length, arith}
+use Rattle.std.proofs.Common.{◌≡◌, inl, inr, refl, sym, ap, subst, ◌∙◌, ℕ, ◌<◌, ◌≤◌, true, nat_lt, drop, map, List, [], ◌∷◌, ◌++◌, length, arith}
 use Rattle.std.proofs.Math.Seq.{drop-append_seam}
-use Rattle.std.proofs.lemmas.Bool.{and_from, and_parts, le-leb, leb-true, lt-ltb}
+use Rattle.std.proofs.lemmas.Bool.{and_from, and_parts, lt-ltb, ltb-true}
 use Rattle.std.proofs.lemmas.List.{map-append}
 use Rattle.object_heap.specs.Chain.{object_at}
 use Rattle.object_heap.specs.Environment.{AreInside}
@@ -21,7 +21,7 @@ use Rattle.heap_walker.proofs.Callers.{links_in_walk, roots_in_walk}
 use Rattle.rebuild_plan.specs.Compact.{moved_props}
 use Rattle.rebuilding.specs.Rebuilt as rebuilt
 use Rattle.rebuilding.specs.Rebuilt.{ClassIsRebuilt, IsRebuilt, IsRebuiltAs, nth}
-use Rattle.rebuilding.specs.Scene.{Scene}
+use Rattle.rebuilding.specs.Scene.{Scene, page_with}
 use Rattle.rebuilding.specs.Sites.{site, sited_props}
 use Rattle.rebuilding.proofs.Agreeing.{site_parts}
 use Rattle.rebuilding.proofs.Carried.{AreYoung, IsMadeOf, carried, carried_at, from_mapped, in_mapped, needs_carried, props_carried, proto_carried, value_carried, values_carried}
@@ -47,7 +47,7 @@ class_carried c s t things sites ages k a b (rebuilt.bound {target = target} {th
 module _ (c : Scene) (s : Store) (things : List ℕ) (h : Contents) (sites : List ℕ) (still : Still s) (walk : IsWalk s things)
     (is : IsRebuilt c s things h sites) where
   abbrev t : Store
-  t = record { heap = h; lines = [] }
+  t = page_with h
 
   abbrev to : ℕ → ℕ
   to = carried things sites
@@ -58,11 +58,12 @@ module _ (c : Scene) (s : Store) (things : List ℕ) (h : Contents) (sites : Lis
   pub young_sites : AreYoung sites
   young_sites n below =
       let inside : n < length things = omega (arith, below, is.count) in
-      (site_parts c s things h sites still walk is n inside).0
+      let past = (site_parts c s things h sites still walk is n inside).0 in
+      omega (arith, past)
 
   -- ---- what is referred to
 
-  pub globals_same : globals_of (record { heap = h; lines = [] }) ≡ sited_props sites (moved_props things (globals_of s))
+  pub globals_same : globals_of (page_with h) ≡ sited_props sites (moved_props things (globals_of s))
   globals_same =
       let own : Props = sited_props sites (moved_props things (globals_of s)) in
       ap (drop built_in_globals) is.globals ∙ ap (λ n. drop n ((built_in_at window.0).props ++ own)) (sym counted)
@@ -97,7 +98,7 @@ module _ (c : Scene) (s : Store) (things : List ℕ) (h : Contents) (sites : Lis
       let m = at_site k found in
       let parts = site_parts c s things h sites still walk is m.0 m.1 in
       subst (λ j. is_thing t j ≡ true) (sym m.3)
-      (and_from _ _ (le-leb built_in_count (nth sites m.0) parts.0) (lt-ltb (nth sites m.0) (length h.objects) parts.1))
+      (and_from _ _ (lt-ltb built_in_count (nth sites m.0) (omega (arith, parts.0))) (lt-ltb (nth sites m.0) (length h.objects) parts.1))
 
   reached_again : (k : ℕ) → Reach s k → Reach t (to k)
   reached_again k (root thing found) =
@@ -116,7 +117,7 @@ module _ (c : Scene) (s : Store) (things : List ℕ) (h : Contents) (sites : Lis
   -- a thing that stands for something known is at a site
   thing_known : (j k : ℕ) → is_thing t j ≡ true → j ≡ to k → IsKnown things k → is_in j sites ≡ true
   thing_known j k thing is_to (inl low) =
-      let high : built_in_count ≤ j = leb-true built_in_count j (and_parts (nat_le built_in_count j) (nat_lt j (length h.objects)) thing).0 in
+      let high : built_in_count < j = ltb-true built_in_count j (and_parts (nat_lt built_in_count j) (nat_lt j (length h.objects)) thing).0 in
       absurd (omega (arith, high, low, is_to, site_of_built_in things sites k low old_things))
   thing_known j k thing is_to (inr found) =
       let m = at_site k found in
@@ -143,5 +144,5 @@ module _ (c : Scene) (s : Store) (things : List ℕ) (h : Contents) (sites : Lis
       let from : Reach t (to (nth things n.0)) = reached_again (nth things n.0) (walk.sound (nth things n.0) (place_in things n.0 inside)) in
       subst (λ j. Reach t j) (carried_at things sites n.0 walk.rising inside ∙ n.3) from
 
-  pub walked_again : IsWalk (record { heap = h; lines = [] }) sites
+  pub walked_again : IsWalk (page_with h) sites
   walked_again = record { rising = is.running.rising; sound = site_reached; complete = only_sites }
