@@ -19,7 +19,7 @@ use Rattle.page_meaning.specs.Dispatch as row
 use Rattle.page_meaning.specs.Errors.{raise}
 use Rattle.page_meaning.specs.Events.{begins, is_prevented, may_begin, rests}
 use Rattle.page_meaning.specs.Lines.{put_uncaught}
-use Rattle.page_meaning.specs.NodeRows.{object_in, on_event, on_node, or_wrong, parts_in}
+use Rattle.page_meaning.specs.NodeRows.{object_in, on_node, or_wrong, parts_in}
 use Rattle.page_meaning.specs.Primitives.{changes_event}
 use Rattle.page_meaning.specs.Store.{Store}
 use Rattle.page_frames.specs.declared.frame.Begin.TheVariants as begin

@@ -1,5 +1,5 @@
 -- Parts of a dispatch, one after another.
-use Rattle.std.proofs.Common.{◌≡◌, refl, sym, ap, ◌∙◌, ℕ, suc, ◌+◌, ◌*◌, ◌^◌, ◌<◌, ◌≤◌, Bool, true, false, List, [], ◌∷◌, length, Result, Ok, Err, IfOk, arith, le_refl, subst}
+use Rattle.std.proofs.Common.{◌≡◌, refl, sym, ap, ◌∙◌, ℕ, ◌*◌, ◌^◌, ◌<◌, ◌≤◌, Bool, true, false, List, [], ◌∷◌, length, Result, Ok, Err, IfOk, arith, le_refl, subst}
 use Rattle.js_values.specs.declared.ids.ObjId.{ObjId}
 use Rattle.page_host.specs.declared.listener.Listener.{Listener}
 use Rattle.page_host.specs.declared.path.Place.{Place}
@@ -10,7 +10,6 @@ use Rattle.page_meaning.specs.Dispatch as dispatch
 use Rattle.page_meaning.specs.Events.{arrives, is_stopped}
 use Rattle.page_meaning.specs.Primitives.{changes_event}
 use Rattle.page_meaning.specs.Store.{Store}
-use Rattle.page_frames.specs.declared.meter.Meter.{Meter}
 use Rattle.page_frames.specs.declared.meter.Next.{Next}
 use Rattle.page_frames.specs.Step.{Leads}
 use Rattle.page_frames.specs.Weight.{many}

@@ -1,5 +1,5 @@
 -- What a part of a dispatch leads to, and the listeners that are left to it.
-use Rattle.std.specs.Prelude.{ℕ, ◌+◌, ◌*◌, suc, List, [], ◌∷◌, length, if◌then◌else◌}
+use Rattle.std.specs.Prelude.{ℕ, ◌+◌, ◌*◌, List, [], ◌∷◌, length, if◌then◌else◌}
 use Rattle.js_values.specs.declared.ids.NodeId.{NodeId}
 use Rattle.js_values.specs.declared.ids.ObjId.{ObjId}
 use Rattle.js_values.specs.declared.value.Value.{Value}

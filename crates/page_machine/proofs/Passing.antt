@@ -5,7 +5,7 @@ use Rattle.js_values.specs.declared.value.Value.TheVariants.{Object}
 use Rattle.timer_queue.specs.declared.timer.Live.{Live}
 use Rattle.page_host.specs.Steps.{clock_at, fires, next_timer}
 use Rattle.page_meaning.specs.declared.signal.Signal.{Signal}
-use Rattle.page_meaning.specs.Act.{Act, Calls, Outcome, Ended, Stopped, bind, done, nothing, then_on}
+use Rattle.page_meaning.specs.Act.{Act, Outcome, Ended, Stopped, bind, done, nothing, then_on}
 use Rattle.page_meaning.specs.Calls.{calls_at}
 use Rattle.page_meaning.specs.Lines.{put_uncaught}
 use Rattle.page_meaning.specs.Places.{window}

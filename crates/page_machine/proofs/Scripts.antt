@@ -1,7 +1,7 @@
 -- What tasks come to, by what their parts do.
 use Rattle.std.proofs.Common.{◌≡◌, refl, sym, ap, ◌∙◌, ℕ, Bool, List, [], Some, None, Result, Ok, Err, IfOk, OnOk}
 use Rattle.code_table.specs.Declarations.{functions_of, variables_of}
-use Rattle.code_table.specs.Node.{block_node, body_of}
+use Rattle.code_table.specs.Node.{block_node}
 use Rattle.js_core.specs.Tree as tree
 use Rattle.js_values.specs.declared.ids.NodeId.{NodeId}
 use Rattle.js_values.specs.declared.ids.ObjId.{ObjId}
@@ -13,8 +13,9 @@ use Rattle.page_meaning.specs.declared.signal.Signal.{Signal}
 use Rattle.page_meaning.specs.declared.signal.Signal.TheVariants.{Value as Val, Thrown, Return, Break, Continue}
 use Rattle.page_meaning.specs.Act.{Act, Calls, Outcome, Ended, Stopped, also, bind, on_value, ret, then_on}
 use Rattle.page_meaning.specs.Calls.{calls_at}
+use Rattle.page_meaning.specs.Dispatch.{deliver}
 use Rattle.page_meaning.specs.Functions.{call_end, declare_globals, global_variables}
-use Rattle.page_meaning.specs.Names.{Here, read_name}
+use Rattle.page_meaning.specs.Names.{read_name}
 use Rattle.page_meaning.specs.Places.{window}
 use Rattle.page_meaning.specs.Events.{initialises}
 use Rattle.page_meaning.specs.Primitives.{changes_event, make_event, put_line}
@@ -112,7 +113,10 @@ pub event_fired : {E : Type 0} (calls : Calls) (x : List ℕ) (bubbles cancelabl
     → Does (λ _. changes_event at (initialises x bubbles cancelable)) u tt v → IfOk r (λ e. outcome_of e t j ≡ (mean_of calls (begin.Deliver at k)).run v n)
     → IfOk r (λ e. outcome_of e t j ≡ (task_of calls (Fires x bubbles cancelable k)).run s n)
 event_fired calls x bubbles cancelable k at s u v t n j (Err y) made begun h = h
-event_fired calls x bubbles cancelable k at s u v t n j (Ok e) made begun h = h ∙ sym (rw (made.is calls n) (rw (begun.is calls n) refl))
+event_fired calls x bubbles cancelable k at s u v t n j (Ok e) made begun h =
+    h
+    ∙ sym (ap (λ o. then_on o (λ a. bind (changes_event a (initialises x bubbles cancelable)) (λ _. deliver calls a k))) (made.is calls n)
+    ∙ ap (λ o. then_on o (λ _. deliver calls at k)) (begun.is calls n))
 
 -- ---- whole tasks
 

@@ -1,10 +1,9 @@
 -- What host events do, by what their parts do.
-use Rattle.std.proofs.Common.{◌≡◌, refl, ◌∙◌, ℕ, ◌<◌, Bool, List, [], ◌∷◌, length, Option, Some, None, Result, Ok, Err, OnOk, codes, true, false, arith}
+use Rattle.std.proofs.Common.{◌≡◌, ◌<◌, [], ◌∷◌, length, Some, None, Result, Ok, Err, OnOk, arith}
 use Rattle.js_core.specs.Text.{Text}
 use Rattle.js_values.specs.declared.ids.NodeId.{NodeId}
 use Rattle.dom_tree.specs.Node.{Nodes}
 use Rattle.dom_tree.specs.Sound.{IsSound}
-use Rattle.dom_tree.specs.Trees.{find_id}
 use Rattle.page_meaning.specs.Pages.{on_element}
 use Rattle.page_meaning.specs.Store.{Store}
 use Rattle.session.specs.Elements.{IsElement}

@@ -9,8 +9,8 @@ use Rattle.js_values.specs.declared.ids.ObjId.{ObjId}
 use Rattle.js_values.specs.declared.throw.Throw.TheVariants.{WrongArgument}
 use Rattle.js_values.specs.declared.value.Value.{Value}
 use Rattle.js_values.specs.declared.value.Value.TheVariants.{Num}
-use Rattle.page_meaning.specs.declared.signal.Signal.TheVariants.{Value as Val, Thrown}
-use Rattle.page_meaning.specs.Act.{Act, Calls, Ended, choose}
+use Rattle.page_meaning.specs.declared.signal.Signal.TheVariants.{Value as Val}
+use Rattle.page_meaning.specs.Act.{Act, Calls, choose}
 use Rattle.page_meaning.specs.Convert.{to_number}
 use Rattle.page_meaning.specs.Errors.{raise}
 use Rattle.page_meaning.specs.FunctionRows.{is_callable}

@@ -1,5 +1,5 @@
 -- Timers that start.
-use Rattle.std.proofs.Common.{◌≡◌, sym, ap, ◌∙◌, ℕ, Option, Some, None, Ok, Err}
+use Rattle.std.proofs.Common.{◌≡◌, sym, ap, ◌∙◌, ℕ, Option, Some, None}
 use Rattle.std.specs.Prelude.{pos}
 use Rattle.js_core.specs.declared.memory.Failure.{Failure}
 use Rattle.js_core.specs.declared.memory.Failure.TheVariants as fault
