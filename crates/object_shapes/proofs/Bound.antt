@@ -8,9 +8,10 @@ use Rattle.object_heap.proofs.Callers.{environment_absent, environment_before, e
 use Rattle.object_heap.specs.Chain.{object_at}
 use Rattle.object_heap.specs.Environment.{Bound, Environment, environment_at, inside, new_environment, with_bound}
 use Rattle.object_heap.specs.Heap.{opened, set}
-use Rattle.page_meaning.specs.Store.{Store, with_heap}
+use Rattle.page_meaning.specs.Places.{built_in_count}
+use Rattle.page_meaning.specs.Store.{Store, with_heap, with_lines}
 use Rattle.object_shapes.specs.Links.{all_below, bound_links}
-use Rattle.object_shapes.specs.Shapes.{IsShaped}
+use Rattle.object_shapes.specs.Shapes.{HasShape, IsShaped}
 use Rattle.object_shapes.proofs.Held.{held_of, props_same, shape_kept, shaped_of}
 use Rattle.object_shapes.proofs.Lists.{Small, bound_set}
 use Rattle.object_shapes.proofs.Steps.{environments_held}
@@ -72,7 +73,7 @@ module _ (s : Store) (h : IsShaped s) (k : ℕ) (name : List ℕ) (v : Value) (s
 
 -- ---- lines do not count
 
-pub lines_shaped : (s : Store) (lines : List Line) → IsShaped s → IsShaped (record { heap = s.heap; lines = lines })
+pub lines_shaped : (s : Store) (lines : List Line) → IsShaped s → IsShaped (with_lines s lines)
 lines_shaped s lines h = record {
   built_ins = h.built_ins;
   window = h.window;
@@ -80,9 +81,22 @@ lines_shaped s lines h = record {
   there = h.there;
   bound_there = h.bound_there;
   older = h.older;
-  made = λ k thing. shape_kept s (record { heap = s.heap; lines = lines }) (object_at s.heap.objects k) (object_at s.heap.objects k)
-      (object_at s.heap.objects k).class
-      (record { same = λ at f. (refl, f) }) refl (props_same (object_at s.heap.objects k).class (object_at s.heap.objects k).props)
-      (h.made k thing);
+  made = λ k thing. shape k (h.made k thing);
   not_closed = h.not_closed;
+  document = shape built_in_count h.document;
+  document_open = h.document_open;
+  host = record {
+    sound = h.host.sound;
+    object_of = h.host.object_of;
+    node_of = h.host.node_of;
+    document = h.host.document;
+    heard = h.host.heard;
+    calls = h.host.calls;
+  };
 }
+  where
+    shape : (k : ℕ) → HasShape s (object_at s.heap.objects k) (object_at s.heap.objects k).class
+        → HasShape (with_lines s lines) (object_at s.heap.objects k) (object_at s.heap.objects k).class
+    shape k g = shape_kept s (with_lines s lines) (object_at s.heap.objects k) (object_at s.heap.objects k) (object_at s.heap.objects k).class
+        (record { functions = λ at f. (refl, f); nodes = λ at j e. e; longer = omega arith }) refl
+        (props_same (object_at s.heap.objects k).class (object_at s.heap.objects k).props) (λ free. free) g

@@ -1,9 +1,9 @@
 -- What other crates cite of the shapes of objects.
 use Rattle.std.specs.Prelude.{◌≡◌, ℕ, ◌≤◌, true, List, ◌++◌}
 use Rattle.js_values.specs.declared.line.Line.{Line}
-use Rattle.page_meaning.specs.Store.{Store}
+use Rattle.page_meaning.specs.Store.{Store, with_lines}
 use Rattle.object_shapes.specs.Links.{all_below}
-use Rattle.object_shapes.specs.Laws.{FunctionsStay, PagesBeginShaped, ShapesStay}
+use Rattle.object_shapes.specs.Laws.{FunctionsStay, PagesBeginShaped, PlainStays, ShapesStay}
 use Rattle.object_shapes.specs.Shapes.{IsShaped}
 use Rattle.object_shapes.proofs.Begin as begin
 use Rattle.object_shapes.proofs.Bound as bound
@@ -17,11 +17,14 @@ pristine_shaped = begin.pristine_shaped
 pub step_shaped : ShapesStay
 step_shaped = stays.step_shaped
 
+pub plain_stays : PlainStays
+plain_stays = stays.plain_stays
+
 pub function_shaped : FunctionsStay
 function_shaped = made.function_shaped
 
 -- other lines
-pub lines_shaped : (s : Store) (lines : List Line) → IsShaped s → IsShaped (record { heap = s.heap; lines = lines })
+pub lines_shaped : (s : Store) (lines : List Line) → IsShaped s → IsShaped (with_lines s lines)
 lines_shaped = bound.lines_shaped
 
 -- two lists of places below a bound

@@ -4,6 +4,7 @@ use Rattle.std.proofs.lemmas.Bool.{or_left, or_right}
 use Rattle.js_values.specs.declared.throw.Throw.{Throw}
 use Rattle.js_values.specs.declared.throw.Throw.TheVariants.{CannotDefine, CannotSet}
 use Rattle.js_values.specs.declared.value.Value.{Value}
+use Rattle.dom_tree.specs.Node.{Nodes}
 use Rattle.object_heap.specs.Attempt.{Attempt}
 use Rattle.object_heap.specs.Define.{array_length, define, define_indexed, define_length, define_length_as, define_ordinary, defined_over, deleted_over, grown_over, has_writable_length, is_closed_at, length_name, prevented, put_change, shrunk, valid_length}
 use Rattle.object_heap.specs.Index.{index_of}
@@ -15,6 +16,7 @@ use Rattle.page_meaning.specs.Places.{window}
 use Rattle.object_shapes.specs.Shapes.{HasFunctionProps, HasLength, IsWindow, built_in_at}
 use Rattle.object_shapes.proofs.Called.{Call, IsSmall, after_call, call_stays, defining, deleting, name_of, putting}
 use Rattle.object_shapes.proofs.Edits.{AnyName, HasFixedLength, fixed_rules, function_rules, length_rules, small_rules}
+use Rattle.object_shapes.proofs.Free.{IsFree, free_stays, have_no_kept}
 use Rattle.object_shapes.proofs.Lists.{AreSmall}
 use Rattle.object_shapes.proofs.Window.{IsOther, Leads, leads_rules, window_leads, window_open}
 
@@ -100,8 +102,8 @@ call_still o (deleting name) e = left_is o (is_closed_at o name) _ _ (or_left o.
 
 -- ---- all that is kept
 
--- what an object refers to stays below the bound; a closed object stays as it is; and each kind keeps its properties
-pub record Kept (n : ℕ) (o p : Object) : Type 0 where
+-- what an object refers to stays below the bound; a closed object stays as it is; each kind keeps its properties; and none comes to be kept
+pub record Kept (n : ℕ) (t : Nodes) (o p : Object) : Type 0 where
   pub class : p.class ≡ o.class
   pub proto : p.proto ≡ o.proto
   pub closed : p.closed ≡ o.closed
@@ -111,9 +113,10 @@ pub record Kept (n : ℕ) (o p : Object) : Type 0 where
   pub list : is_list o.class ≡ true → HasLength o.props → HasLength p.props
   pub function : (m : ℕ) → is_list o.class ≡ false → HasFunctionProps m o.props → HasFunctionProps m p.props
   pub fixed : (m : ℕ) → is_list o.class ≡ false → HasFixedLength m o.props → HasFixedLength m p.props
+  pub free : have_no_kept t o.class o.props ≡ true → have_no_kept t p.class p.props ≡ true
 
-pub call_kept : (n : ℕ) (o : Object) (call : Call) → IsSmall n call → Kept n o (after_call o call)
-call_kept n o call small = record {
+pub call_kept : (n : ℕ) (t : Nodes) (o : Object) (call : Call) → IsSmall n call → IsFree t o.class call → Kept n t o (after_call o call)
+call_kept n t o call small may = record {
   class = (call_same o call).class;
   proto = (call_same o call).proto;
   closed = (call_same o call).closed;
@@ -138,11 +141,12 @@ call_kept n o call small = record {
   list = λ e h. call_stays n AnyName HasLength true (length_rules n) o call e (λ free. tt) small h;
   function = λ m e h. call_stays n AnyName (HasFunctionProps m) false (function_rules n m) o call e (λ free. tt) small h;
   fixed = λ m e h. call_stays n AnyName (HasFixedLength m) false (fixed_rules n m) o call e (λ free. tt) small h;
+  free = λ h. ap (λ c. have_no_kept t c (after_call o call).props) (call_same o call).class ∙ free_stays n t o call small may h;
 }
 
 -- an object stays
-pub itself : (n : ℕ) (o p : Object) → p ≡ o → Kept n o p
-itself n o p e = subst (Kept n o) (sym e) (record {
+pub itself : (n : ℕ) (t : Nodes) (o p : Object) → p ≡ o → Kept n t o p
+itself n t o p e = subst (Kept n t o) (sym e) (record {
   class = refl;
   proto = refl;
   closed = refl;
@@ -152,16 +156,17 @@ itself n o p e = subst (Kept n o) (sym e) (record {
   list = λ l h. h;
   function = λ m l h. h;
   fixed = λ m l h. h;
+  free = λ h. h;
 })
 
-pub prevented_kept : (n : ℕ) (o : Object) → Kept n o (prevented o).after
-prevented_kept n o = by_case (o.closed || is_window o.class) refl
+pub prevented_kept : (n : ℕ) (t : Nodes) (o : Object) → Kept n t o (prevented o).after
+prevented_kept n t o = by_case (o.closed || is_window o.class) refl
   where
     refused : (o.closed || is_window o.class) ≡ true → (prevented o).after ≡ o
     refused e = left_is o (o.closed || is_window o.class) _ _ e refl
 
-    by_case : (b : Bool) → (o.closed || is_window o.class) ≡ b → Kept n o (prevented o).after
-    by_case true e = itself n o (prevented o).after (refused e)
+    by_case : (b : Bool) → (o.closed || is_window o.class) ≡ b → Kept n t o (prevented o).after
+    by_case true e = itself n t o (prevented o).after (refused e)
     by_case false e = rw e (record {
       class = refl;
       proto = refl;
@@ -172,4 +177,5 @@ prevented_kept n o = by_case (o.closed || is_window o.class) refl
       list = λ l h. h;
       function = λ m l h. h;
       fixed = λ m l h. h;
+      free = λ h. h;
     })

@@ -1,8 +1,9 @@
 -- Pages whose objects refer to places below a bound, with their shapes; and functions, whose lengths stay.
-use Rattle.std.proofs.Common.{◌≡◌, ◌⊎◌, inl, inr, refl, sym, ap, subst, ◌∙◌, ℕ, zero, suc, ◌-◌, ◌<◌, ◌≤◌, pos, Bool, true, false, ◌&&◌, not, IsTrue, nat_le, nat_lt, List, [], ◌∷◌, Some, length, bytes_eq, if◌then◌else◌, arith}
-use Rattle.std.proofs.lemmas.Bool.{and_from, and_parts, cases_lt, le-leb, leb-true, lt-ltb, ltb-true, not-true}
+use Rattle.std.proofs.Common.{◌≡◌, ◌⊎◌, inl, inr, refl, sym, ap, subst, ◌∙◌, ℕ, zero, suc, ◌-◌, ◌<◌, ◌≤◌, pos, Bool, true, false, ◌&&◌, not, IsTrue, nat_lt, List, [], ◌∷◌, Option, Some, None, length, bytes_eq, if◌then◌else◌, arith}
+use Rattle.std.proofs.lemmas.Bool.{and_from, and_parts, cases_lt, cases_order, lt-ltb, ltb-true, not-true}
 use Rattle.std.proofs.lemmas.Slice.Eq.{bytes_eq-Decides}
 use Rattle.code_table.specs.Declarations.{formals_of}
+use Rattle.js_values.specs.declared.ids.NodeId.{NodeId}
 use Rattle.js_values.specs.declared.ids.ObjId.{ObjId}
 use Rattle.js_values.specs.declared.value.Value.{Value}
 use Rattle.js_values.specs.declared.value.Value.TheVariants.{Num}
@@ -11,18 +12,20 @@ use Rattle.object_heap.specs.Chain.{get_property, object_at}
 use Rattle.object_heap.specs.Define.{length_name, number, number_in}
 use Rattle.object_heap.specs.Environment.{environment_at}
 use Rattle.object_heap.specs.Function.{prototype_name}
+use Rattle.object_heap.specs.Heap.{Contents}
 use Rattle.object_heap.specs.Object.{is_list, Object}
 use Rattle.object_heap.specs.Property.{Props, fixed}
 use Rattle.object_heap.specs.declared.object.Class.{Class}
 use Rattle.object_heap.specs.declared.object.Class.TheVariants as class
+use Rattle.object_heap.specs.declared.object.EventParts.{EventParts}
 use Rattle.object_heap.specs.declared.property.Prop.{Prop}
 use Rattle.page_meaning.specs.Elements.{length_of}
-use Rattle.page_meaning.specs.Places.{window}
-use Rattle.page_meaning.specs.Pristine.{pristine}
-use Rattle.page_meaning.specs.Properties.{class_at, is_function}
-use Rattle.page_meaning.specs.Store.{Store}
+use Rattle.page_meaning.specs.Classes.{class_at, is_function, is_node_class}
+use Rattle.page_meaning.specs.Places.{built_in_count, window}
+use Rattle.page_meaning.specs.Pristine.{built_ins}
+use Rattle.page_meaning.specs.Store.{Store, with_heap}
+use Rattle.object_shapes.specs.Hosted.{HasParts, IsHosted, has_no_kept, is_node_at, is_node_if}
 use Rattle.object_shapes.specs.Links.{all_below, bound_links, is_thing, made_links, object_links}
-use Rattle.page_meaning.specs.Places.{built_in_count}
 use Rattle.object_shapes.specs.Shapes.{HasFunctionProps, HasLength, HasShape, IsShaped, IsWindow, built_in_at, made_property}
 use Rattle.object_shapes.proofs.Edits.{HasFixedLength}
 use Rattle.object_shapes.proofs.Lists.{all_more}
@@ -31,12 +34,15 @@ use Rattle.object_shapes.proofs.Lists.{all_more}
 pub record IsHeld (n : ℕ) (s : Store) : Type 0 where
   pub built_ins : (k : ℕ) → 0 < k → k < built_in_count → object_at s.heap.objects k ≡ built_in_at k
   pub window : IsWindow (object_at s.heap.objects window.0)
-  pub all_there : built_in_count ≤ length s.heap.objects
+  pub all_there : built_in_count < length s.heap.objects
   pub there : (k : ℕ) → IsTrue (all_below n (object_links (object_at s.heap.objects k)))
   pub bound_there : (e : ℕ) → IsTrue (all_below n (bound_links (environment_at s.heap.environments e).names))
   pub older : (k : ℕ) → IsTrue (is_thing s k) → IsTrue (all_below k (made_links (object_at s.heap.objects k)))
   pub made : (k : ℕ) → IsTrue (is_thing s k) → HasShape s (object_at s.heap.objects k) (object_at s.heap.objects k).class
   pub not_closed : (k : ℕ) → IsTrue (is_thing s k) → (object_at s.heap.objects k).closed ≡ false
+  pub document : HasShape s (object_at s.heap.objects built_in_count) (object_at s.heap.objects built_in_count).class
+  pub document_open : (object_at s.heap.objects built_in_count).closed ≡ false
+  pub host : IsHosted s
 
 pub held_of : (s : Store) → IsShaped s → IsHeld (length s.heap.objects) s
 held_of s h = record {
@@ -48,6 +54,9 @@ held_of s h = record {
   older = h.older;
   made = h.made;
   not_closed = h.not_closed;
+  document = h.document;
+  document_open = h.document_open;
+  host = h.host;
 }
 
 pub shaped_of : (n : ℕ) (s : Store) → IsHeld n s → n ≡ length s.heap.objects → IsShaped s
@@ -60,6 +69,9 @@ shaped_of n s h e = record {
   older = h.older;
   made = h.made;
   not_closed = h.not_closed;
+  document = h.document;
+  document_open = h.document_open;
+  host = h.host;
 }
 
 pub held_more : (m n : ℕ) (s : Store) → m ≤ n → IsHeld m s → IsHeld n s
@@ -72,22 +84,40 @@ held_more m n s more h = record {
   older = h.older;
   made = h.made;
   not_closed = h.not_closed;
+  document = h.document;
+  document_open = h.document_open;
+  host = h.host;
 }
 
 -- ---- things
 
 pub record IsThing (s : Store) (k : ℕ) : Type 0 where
-  pub young : built_in_count ≤ k
+  pub young : built_in_count < k
   pub there : k < length s.heap.objects
 
 pub thing_is : (s : Store) (k : ℕ) → is_thing s k ≡ true → IsThing s k
 thing_is s k h =
-    let both = and_parts (nat_le built_in_count k) (nat_lt k (length s.heap.objects)) h in
-    record { young = leb-true built_in_count k both.0; there = ltb-true k (length s.heap.objects) both.1 }
+    let both = and_parts (nat_lt built_in_count k) (nat_lt k (length s.heap.objects)) h in
+    record { young = ltb-true built_in_count k both.0; there = ltb-true k (length s.heap.objects) both.1 }
 
 pub is_thing_from : (s : Store) (k : ℕ) → IsThing s k → is_thing s k ≡ true
-is_thing_from s k h = and_from (nat_le built_in_count k) (nat_lt k (length s.heap.objects)) (le-leb built_in_count k h.young)
+is_thing_from s k h = and_from (nat_lt built_in_count k) (nat_lt k (length s.heap.objects)) (lt-ltb built_in_count k h.young)
     (lt-ltb k (length s.heap.objects) h.there)
+
+-- what is not built in has its shape, and is not closed
+pub record IsOpen (s : Store) (k : ℕ) : Type 0 where
+  pub shape : HasShape s (object_at s.heap.objects k) (object_at s.heap.objects k).class
+  pub not_closed : (object_at s.heap.objects k).closed ≡ false
+
+pub shape_at : (n : ℕ) (s : Store) → IsHeld n s → (k : ℕ) → built_in_count ≤ k → k < length s.heap.objects → IsOpen s k
+shape_at n s held k young there = by_case (cases_order k built_in_count)
+  where
+    by_case : (k ≡ built_in_count) ⊎ ((k < built_in_count) ⊎ (built_in_count < k)) → IsOpen s k
+    by_case (inl here) = subst (IsOpen s) (sym here) (record { shape = held.document; not_closed = held.document_open })
+    by_case (inr (inl old)) = absurd (omega (arith, old, young))
+    by_case (inr (inr past)) =
+        let thing = is_thing_from s k (record { young = past; there = there }) in
+        record { shape = held.made k thing; not_closed = held.not_closed k thing }
 
 -- ---- the lengths of functions
 
@@ -146,11 +176,11 @@ begins_length (e ∷ es) h =
     let prop = fixed_prop e.1 both.1 in
     record { count = number_in e.1.value; is = record { others = es; are = (λ j. (name j, prop j) ∷ es) } }
 
-all_fixed : are_fixed pristine.heap.objects ≡ true
+all_fixed : are_fixed built_ins ≡ true
 all_fixed = refl
 
 pub built_in_length : (k : ℕ) → is_function (Some (built_in_at k).class) ≡ true → SomeLength (built_in_at k).props
-built_in_length k h = from_test (built_in_at k) h (fixed_at pristine.heap.objects k all_fixed)
+built_in_length k h = from_test (built_in_at k) h (fixed_at built_ins k all_fixed)
   where
     from_test : (o : Object) → is_function (Some o.class) ≡ true → is_plain_or_fixed o ≡ true → SomeLength o.props
     from_test o f t = begins_length o.props (rw f at t)
@@ -181,8 +211,7 @@ module _ (n : ℕ) (s : Store) (held : IsHeld n s) where
           → SomeLength (object_at s.heap.objects (suc j)).props
       by_case (inl small) which = old (object_at s.heap.objects (suc j)) (held.built_ins (suc j) (omega arith) small) f
       by_case (inr young) (inl there) =
-          shape_length s (object_at s.heap.objects (suc j)) (object_at s.heap.objects (suc j)).class
-          (held.made (suc j) (is_thing_from s (suc j) (record { young = young; there = there }))) f
+          shape_length s (object_at s.heap.objects (suc j)) (object_at s.heap.objects (suc j)).class (shape_at n s held (suc j) young there).shape f
       by_case (inr young) (inr past) = absurd
           (cc (sym f ∙ ap (λ (x : Object). is_function (Some x.class)) (object_absent s.heap.objects (suc j) past)))
 
@@ -199,25 +228,63 @@ module _ (n : ℕ) (s : Store) (held : IsHeld n s) where
       by_case (inl there) = there
       by_case (inr past) = absurd (cc (sym f ∙ ap (λ (x : Object). is_function (Some x.class)) (object_absent s.heap.objects k past)))
 
+pub node_there : (s : Store) (at : ObjId) (k : NodeId) → class_at s at ≡ class.Node k → at.0 < length s.heap.objects
+node_there s at k e = by_case (cases_lt at.0 (length s.heap.objects))
+  where
+    by_case : (at.0 < length s.heap.objects) ⊎ (length s.heap.objects ≤ at.0) → at.0 < length s.heap.objects
+    by_case (inl there) = there
+    by_case (inr past) = absurd (cc (sym e ∙ ap (λ (x : Object). x.class) (object_absent s.heap.objects at.0 past)))
+
 -- ---- shapes in another page
 
--- functions are functions in the other one too, of the same length
-pub record SameFunctions (s t : Store) : Type 0 where
-  pub same : (at : ObjId) → is_function (Some (class_at s at)) ≡ true
+-- functions are functions in the other one too, of the same length, and objects of nodes are theirs
+pub record SameKinds (s t : Store) : Type 0 where
+  pub functions : (at : ObjId) → is_function (Some (class_at s at)) ≡ true
       → (length_of at t ≡ length_of at s) × (is_function (Some (class_at t at)) ≡ true)
+  pub nodes : (at : ObjId) (k : NodeId) → class_at s at ≡ class.Node k → class_at t at ≡ class.Node k
+  pub longer : length s.host.nodes ≤ length t.host.nodes
 
 pub record FunctionKept (o p : Object) : Type 0 where
   pub class : p.class ≡ o.class
   pub fixed : (m : ℕ) → HasFixedLength m o.props → HasFixedLength m p.props
 
-pub same_functions : (n : ℕ) (s t : Store) → IsHeld n s
+pub same_kinds : (n : ℕ) (s t : Store) → IsHeld n s
     → ((k : ℕ) → is_function (Some (object_at s.heap.objects k).class) ≡ true → FunctionKept (object_at s.heap.objects k)
-    (object_at t.heap.objects k)) → SameFunctions s t
-same_functions n s t held kept = record {
-  same = λ at f.
+    (object_at t.heap.objects k))
+    → ((at : ObjId) (k : NodeId) → class_at s at ≡ class.Node k → class_at t at ≡ class.Node k)
+    → length s.host.nodes ≤ length t.host.nodes → SameKinds s t
+same_kinds n s t held kept nodes longer = record {
+  functions = λ at f.
       let h = kept at.0 f in
       (length_read t at (length_of at s) (h.fixed (length_of at s) (function_length n s held at f)), ap (λ c. is_function (Some c)) h.class ∙ f);
+  nodes = nodes;
+  longer = longer;
 }
+
+module _ (s t : Store) (f : SameKinds s t) where
+  pub node_kept : (at : ObjId) → is_node_at s at ≡ true → is_node_at t at ≡ true
+  node_kept at h = by_class (class_at s at) refl h
+    where
+      by_class : (c : Class) → class_at s at ≡ c → is_node_class s.host.nodes c ≡ true → is_node_at t at ≡ true
+      by_class (class.Node k) e there =
+          let less = ltb-true k.0 (length s.host.nodes) there in
+          let more = f.longer in
+          ap (is_node_class t.host.nodes) (f.nodes at k e) ∙ lt-ltb k.0 (length t.host.nodes) (omega (arith, less, more))
+      by_class c e there = cc there
+
+  node_if_kept : (o : Option ObjId) → is_node_if s o ≡ true → is_node_if t o ≡ true
+  node_if_kept None h = refl
+  node_if_kept (Some at) h = node_kept at h
+
+  pub parts_kept : (e : EventParts) → HasParts s e → HasParts t e
+  parts_kept e h = record {
+    fresh = h.fresh;
+    sent = h.sent;
+    begun = h.begun;
+    target = node_if_kept e.target h.target;
+    current = node_if_kept e.current h.current;
+    phase = h.phase;
+  }
 
 -- what an object of a class keeps of its properties
 pub record PropsKept (c : Class) (ps qs : Props) : Type 0 where
@@ -228,14 +295,14 @@ pub record PropsKept (c : Class) (ps qs : Props) : Type 0 where
 pub props_same : (c : Class) (ps : Props) → PropsKept c ps ps
 props_same c ps = record { list = λ e h. h; function = λ m e h. h; fixed = λ m e h. h }
 
-pub shape_kept : (s t : Store) (o p : Object) (c : Class) → SameFunctions s t → p.proto ≡ o.proto → PropsKept c o.props p.props → HasShape s o c
-    → HasShape t p c
-shape_kept s t o p class.Plain f e k h = tt
-shape_kept s t o p class.List f e k h = (e ∙ h.0, k.list refl h.1)
-shape_kept s t o p class.Fault f e k h = record { kind = h.kind; is = e ∙ h.is }
-shape_kept s t o p (class.Page c env) f e k h = (e ∙ h.0, k.function (length (formals_of c)) refl h.1)
-shape_kept s t o p (class.Bound target this args) f e k h =
-    let same = f.same target h.2 in
+pub shape_kept : (s t : Store) (o p : Object) (c : Class) → SameKinds s t → p.proto ≡ o.proto → PropsKept c o.props p.props
+    → (has_no_kept s o ≡ true → has_no_kept t p ≡ true) → HasShape s o c → HasShape t p c
+shape_kept s t o p class.Plain f e k free h = tt
+shape_kept s t o p class.List f e k free h = (e ∙ h.0, k.list refl h.1)
+shape_kept s t o p class.Fault f e k free h = record { kind = h.kind; is = e ∙ h.is }
+shape_kept s t o p (class.Page c env) f e k free h = (e ∙ h.0, k.function (length (formals_of c)) refl h.1)
+shape_kept s t o p (class.Bound target this args) f e k free h =
+    let same = f.functions target h.2 in
     let now = k.fixed (length_of target s - length args) refl (record { others = h.1.others; are = h.1.are }) in (
       e ∙ h.0,
       record {
@@ -245,4 +312,19 @@ shape_kept s t o p (class.Bound target this args) f e k h =
       },
       same.1,
     )
-shape_kept s t o p c f e k h = h
+shape_kept s t o p (class.Node j) f e k free h = (e ∙ h.0, free h.1)
+shape_kept s t o p (class.Event parts) f e k free h = (e ∙ h.0, free h.1, parts_kept s t f parts h.2)
+shape_kept s t o p c f e k free h = h
+
+-- ---- the host of a page whose heap changes
+
+pub hosted_kept : (s : Store) (g : Contents) → SameKinds s (with_heap s g)
+    → ((at : ObjId) (k : NodeId) → class_at (with_heap s g) at ≡ class.Node k → class_at s at ≡ class.Node k) → IsHosted s → IsHosted (with_heap s g)
+hosted_kept s g f back h = record {
+  sound = h.sound;
+  object_of = λ k there. f.nodes _ _ (h.object_of k there);
+  node_of = λ j k e. h.node_of j k (back (record { 0 = j }) (record { 0 = k }) e);
+  document = h.document;
+  heard = λ k d i. (f.functions _ (h.heard k d i)).1;
+  calls = λ t i. (f.functions t.call (h.calls t i)).1;
+}

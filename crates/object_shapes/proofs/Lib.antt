@@ -4,9 +4,14 @@ pub mod Called
 pub mod Callers
 pub mod Changed
 pub mod Edits
+pub mod Events
+pub mod Free
 pub mod Held
+pub mod Hosts
 pub mod Lists
 pub mod Made
+pub mod NodeNames
+pub mod Nodes
 pub mod Rules
 pub mod Stays
 pub mod Steps

@@ -60,7 +60,7 @@ module _ (test : List ℕ → Bool) where
 
   -- a test of names
   module _ (f : List ℕ → Bool) where
-    all_set : (ps : Props) (q : Prop) → list_all (λ e. f e.0) ps ≡ true → list_all (λ e. f e.0) (set_value test ps q) ≡ true
+    pub all_set : (ps : Props) (q : Prop) → list_all (λ e. f e.0) ps ≡ true → list_all (λ e. f e.0) (set_value test ps q) ≡ true
     all_set [] q h = refl
     all_set (e ∷ es) q h = by_case (test e.0) refl (all_set es q (and_parts (f e.0) (list_all (λ x. f x.0) es) h).1)
       where
@@ -69,7 +69,7 @@ module _ (test : List ℕ → Bool) where
         by_case true g more = rw g h
         by_case false g more = rw g (and_from (f e.0) _ (and_parts (f e.0) (list_all (λ x. f x.0) es) h).0 more)
 
-    all_removed : (ps : Props) → list_all (λ e. f e.0) ps ≡ true → list_all (λ e. f e.0) (remove_entry test ps) ≡ true
+    pub all_removed : (ps : Props) → list_all (λ e. f e.0) ps ≡ true → list_all (λ e. f e.0) (remove_entry test ps) ≡ true
     all_removed [] h = refl
     all_removed (e ∷ es) h = by_case (test e.0) refl (all_removed es (and_parts (f e.0) (list_all (λ x. f x.0) es) h).1)
       where
@@ -78,7 +78,7 @@ module _ (test : List ℕ → Bool) where
         by_case true g more = rw g (and_parts (f e.0) (list_all (λ x. f x.0) es) h).1
         by_case false g more = rw g (and_from (f e.0) _ (and_parts (f e.0) (list_all (λ x. f x.0) es) h).0 more)
 
-all_added : (f : List ℕ → Bool) (ps : Props) (name : List ℕ) (p : Prop) → list_all (λ e. f e.0) ps ≡ true → f name ≡ true
+pub all_added : (f : List ℕ → Bool) (ps : Props) (name : List ℕ) (p : Prop) → list_all (λ e. f e.0) ps ≡ true → f name ≡ true
     → list_all (λ e. f e.0) (ps ++ (name, p) ∷ []) ≡ true
 all_added f [] name p h g = and_from (f name) true g refl
 all_added f (e ∷ es) name p h g =
