@@ -1,2 +1,3 @@
 pub mod FunctionTables
+pub mod NodeObjects
 pub mod Youngest

@@ -30,7 +30,7 @@ there : (k : ℕ) (p : ObjId) → p.0 < k → older k (Some p) ≡ Some p
 there k p h = rw (lt-ltb p.0 k h) refl
 
 -- what is made is there as it was given, where its prototype is older
-made_whole : (h h1 : Contents) (class : Class) (p : ObjId) (props : Props) → class_at (length h.objects) class ≡ class → p.0 < length h.objects
+pub made_whole : (h h1 : Contents) (class : Class) (p : ObjId) (props : Props) → class_at (length h.objects) class ≡ class → p.0 < length h.objects
     → h1 ≡ made h (whole_object class (Some p) props) → h1 ≡ with_new_object h (whole_object class (Some p) props)
 made_whole h h1 class p props e l m = m ∙ rw (e, there (length h.objects) p l) refl
 
