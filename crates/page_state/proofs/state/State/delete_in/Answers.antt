@@ -18,5 +18,5 @@ returns-in-None c =
 
 pub returns-in-Some : goal.returns-in-Some
 returns-in-Some c =
-    delete_goes c.args.at c.args.name.now c.args.self.now c.raise.new.self (Err c.raise.result) (sym c.if-has_named_host.false ∙ c.has_named_host.ensures)
-    (refused (delete_at c.args.at c.args.name.now) (give (Bool true)) c.in-Some.what c.args.self.now c.delete_at.new.self c.raise.new.self c.raise.result (rw c.in-Some.is at c.in_ok-delete_at.ensures) c.raise.ensures)
+    delete_goes c.args.at c.args.name.now c.args.self.now c.raise-in-Some.new.self (Err c.raise-in-Some.result) (sym c.if-has_named_host.false ∙ c.has_named_host.ensures)
+    (refused (delete_at c.args.at c.args.name.now) (give (Bool true)) c.in-Some.what c.args.self.now c.delete_at.new.self c.raise-in-Some.new.self c.raise-in-Some.result (rw c.in-Some.is at c.in_ok-delete_at.ensures) c.raise-in-Some.ensures)
