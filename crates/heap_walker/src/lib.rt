@@ -18,4 +18,4 @@ pub use weight::{Weight, weigh, weight_of};
 pub const BUILT_IN_COUNT: u64 = 122;
 
 /// How many properties the global object begins with. Those that scripts make stand after them.
-pub const BUILT_IN_GLOBALS: u64 = 26;
+pub const BUILT_IN_GLOBALS: u64 = 27;

@@ -18,9 +18,9 @@ pages grow = record {
 }
 
 pub moves_join : LinesGrow → MovesJoin
-moves_join grow scripts moved again earlier between f g =
-    let first : Follows (pages grow) (run_of scripts earlier) (load_of moved) = record { silent = f.silent; same = f.same } in
+moves_join grow page moved again earlier between f g =
+    let first : Follows (pages grow) (run_of page earlier) (load_of moved) = record { silent = f.silent; same = f.same } in
     let second : Follows (pages grow) (run_of moved between) (load_of again) = record { silent = g.silent; same = g.same } in
-    let both = joined (pages grow) (run_of scripts earlier) (load_of moved) (load_of again) between first second in
-    let whole = subst (λ s. Follows (pages grow) s (load_of again)) (sym (run_append (pages grow) (load_of scripts) earlier between)) both in
+    let both = joined (pages grow) (run_of page earlier) (load_of moved) (load_of again) between first second in
+    let whole = subst (λ s. Follows (pages grow) s (load_of again)) (sym (run_append (pages grow) (load_of page) earlier between)) both in
     record { silent = whole.silent; same = whole.same }

@@ -5,14 +5,16 @@ use Rattle.js_core.specs.Tree as tree
 use Rattle.js_print.specs.Lined.{LinedScriptsAreReadAgain}
 use Rattle.js_values.specs.declared.event.Event.{Event}
 use Rattle.js_values.specs.declared.line.Line.{Line}
-use Rattle.page_meaning.specs.Pages.{load_of, run_all, run_of}
+use Rattle.heap_walker.specs.Bare.{IsBare}
+use Rattle.heap_walker.specs.Still.{Rests, Still}
+use Rattle.page_meaning.specs.Pages.{Page, load_of, run_all, run_of}
 use Rattle.page_meaning.specs.Store.{Store}
 use Rattle.page_meaning.specs.Tasks.{step_limit}
 use Rattle.page_rest.specs.Laws.{PagesRest}
 use Rattle.page_writer.specs.FormScripts.{SavedScriptsAreForm}
 use Rattle.page_writer.specs.Length.{PagesAreShort}
 use Rattle.page_writer.specs.Page.{page_of, saved_page}
-use Rattle.page_writer.specs.Script.{saved_script}
+use Rattle.page_writer.specs.Script.{saved_in_frame, saved_script}
 use Rattle.page_writer.specs.Sizes.{text_limit, things_limit}
 use Rattle.rebuild_plan.specs.Compact.{compact}
 use Rattle.rebuild_plan.specs.Count.{PlansAreFew}
@@ -41,12 +43,16 @@ loads_within script n m more h = record { signal = h.signal; after = h.after; le
 fits : (n things text : ℕ) → n ≤ 160 * things + text + 4096 → things ≤ things_limit → text ≤ text_limit → n ≤ longest_page
 fits n things text bound few short = omega arith
 
-can_be_rebuilt : PlansAreFew → PagesRest → (scripts : List tree.Stmts) (earlier : List Event) (things : List ℕ) → CanBeMoved scripts earlier things
-    → CanBeRebuilt (run_of scripts earlier) things
-can_be_rebuilt few rest scripts earlier things can =
-    let s : Store = run_of scripts earlier in
+-- a bare page at rest can be saved
+still_of : (s : Store) → Rests s → IsBare s → Still s
+still_of s rests bare = record { sound = rests.sound; shaped = rests.shaped; functions = rests.functions; bare = bare }
+
+can_be_rebuilt : PlansAreFew → PagesRest → (page : Page) (earlier : List Event) (things : List ℕ) → CanBeMoved page earlier things
+    → CanBeRebuilt (run_of page earlier) things
+can_be_rebuilt few rest page earlier things can =
+    let s : Store = run_of page earlier in
     record {
-      still = (rest scripts earlier things can.in_form can.walked).0;
+      still = still_of s (rest page earlier things can.sound can.in_form can.walked).0 can.bare;
       walk = can.walked;
       in_range = can.literals;
       few = few_steps (length (plan (compact s things))) (weight.load_of s things).things (few s things) can.few;
@@ -56,26 +62,27 @@ can_be_rebuilt few rest scripts earlier things can =
 
 pub moved_pages_go_on : PagesAreShort → SavedScriptsAreForm → LinedScriptsAreReadAgain → ScriptPages → PlansStand → PlansAreFew → PagesRest → ScriptsRebuild → RebuiltPagesGoOn → SavedAgain → ScriptsTakeFewSteps
     → MovedPagesGoOn
-moved_pages_go_on bound form lined pages stand few rest rebuild go_on saved_again steps scripts earlier things can =
-    let s : Store = run_of scripts earlier in
-    let at_rest = rest scripts earlier things can.in_form can.walked in
+moved_pages_go_on bound form lined pages stand few rest rebuild go_on saved_again steps page earlier things can =
+    let s : Store = run_of page earlier in
+    let at_rest = rest page earlier things can.sound can.in_form can.walked in
+    let still : Still s = still_of s at_rest.0 can.bare in
     let rs : List Rebuild = plan (compact s things) in
-    let t : Store = load_of (saved_script rs ∷ []) in
-    let ready = can_be_rebuilt few rest scripts earlier things can in
-    let written = are_written stand s things at_rest.0 can.walked at_rest.1 at_rest.2 can.literals can.few in
+    let t : Store = load_of (saved_in_frame rs) in
+    let ready = can_be_rebuilt few rest page earlier things can in
+    let written = are_written stand s things still can.walked at_rest.1 at_rest.2 can.literals can.few in
     let silent : t.lines ≡ [] = (rebuild s things ready).0 in (
       record {
         script = saved_script rs;
         within = loads_within (saved_script rs) (length rs) (2 * (weight.load_of s things).things) (few s things) (steps s things ready);
         goes_on = record {
           fits = fits (length (saved_page s things)) (weight.load_of s things).things (weight.load_of s things).text
-              (bound s things at_rest.0 can.walked can.few can.literals) can.few can.short;
-          accepted = saved_pages_are_accepted form lined pages s things at_rest.0 can.walked written;
-          formed = (form s things at_rest.0 can.walked written).1.form.formed;
+              (bound s things still can.walked can.few can.literals) can.few can.short;
+          accepted = saved_pages_are_accepted form lined pages s things still can.walked written;
+          formed = (form s things still can.walked written).1.form.formed;
           silent = silent;
           again = λ (again : List ℕ) walk. ap (λ c. page_of (plan c)) (saved_again s things again ready walk);
           same = λ later. ap (λ (ls : List Line). drop (length ls) (run_all t later).lines) silent ∙ go_on s things later ready;
         };
       },
-      bound s things at_rest.0 can.walked can.few can.literals,
+      bound s things still can.walked can.few can.literals,
     )

@@ -52,7 +52,7 @@ use Rattle.moved_pages.proofs.UsedNames.{needed_named}
 -- ---- places and values
 
 -- what is built in and as many things as a saved page may have
-low : (n : ℕ) → n ≤ 75000 → built_in_count + n ≤ 75093
+low : (n : ℕ) → n ≤ 75000 → built_in_count + n ≤ 75122
 unfolding built_in_count
 low n few = omega arith
 
@@ -60,7 +60,7 @@ number_written : (n : ℕ) → n ≤ 75000 → is_thing_number n ≡ true
 number_written n few = le-leb n largest (omega (arith, few))
 
 -- below the place n, which is no higher than that
-module _ (n : ℕ) (few : n ≤ 75093) where
+module _ (n : ℕ) (few : n ≤ 75122) where
   place_written : (k : ℕ) → nat_lt k n ≡ true → nat_le (k - built_in_count) largest ≡ true
   place_written k h = le-leb (k - built_in_count) largest (omega (arith, few, ltb-true k n h))
 
@@ -123,7 +123,7 @@ named_as s things proto (class.Page c env) h =
     (is, ap (list_all is_identifier) (names_same s things env (needed_variables c)) ∙ needed_named c is.0)
 named_as s things proto d h = tt
 
-needs_written : (n : ℕ) → n ≤ 75093 → (needs : List (List ℕ × Value)) → all_below n (needs_links needs) ≡ true → All IsLiteral (need_values needs)
+needs_written : (n : ℕ) → n ≤ 75122 → (needs : List (List ℕ × Value)) → all_below n (needs_links needs) ≡ true → All IsLiteral (need_values needs)
     → list_all is_identifier (need_names needs) ≡ true → list_all is_need needs ≡ true
 needs_written n few [] h is named = refl
 needs_written n few (x ∷ xs) h is named =
@@ -135,7 +135,7 @@ needs_written n few (x ∷ xs) h is named =
     (value_written n few x.1 parts.0 (All-head IsLiteral x.1 (need_values xs) is)))
     (needs_written n few xs parts.1 (All-tail IsLiteral x.1 (need_values xs) is) names.1)
 
-maker_written : (n : ℕ) → n ≤ 75093 → (m : Maker) → all_below n (maker_names m) ≡ true → All IsLiteral (maker_values m) → IsNamed m
+maker_written : (n : ℕ) → n ≤ 75122 → (m : Maker) → all_below n (maker_names m) ≡ true → All IsLiteral (maker_values m) → IsNamed m
     → IsWritableMaker m
 maker_written n few (made.Plain proto) h is named = proto_written n few proto h
 maker_written n few made.List h is named = tt

@@ -1,5 +1,5 @@
 -- What can be reached in a page that agrees with itself names itself, where no function was rebuilt.
-use Rattle.std.proofs.Common.{◌≡◌, ◌⊎◌, inl, inr, refl, subst, ℕ, zero, suc, ◌<◌, Bool, true, false, ◌||◌, nat_eq, List, [], ◌∷◌, ◌++◌, Option, Some, None, drop, arith}
+use Rattle.std.proofs.Common.{◌≡◌, ◌⊎◌, inl, inr, refl, subst, ℕ, zero, suc, ◌≤◌, Bool, true, false, ◌||◌, nat_eq, List, [], ◌∷◌, ◌++◌, Option, Some, None, drop, arith}
 use Rattle.std.proofs.lemmas.Bool.Decides.{nat_tests}
 use Rattle.std.specs.Option.{option_map}
 use Rattle.std.specs.Prelude.{unwrap_or}
@@ -18,7 +18,7 @@ use Rattle.object_heap.specs.Property.{Props}
 use Rattle.object_heap.specs.declared.object.Class.{Class}
 use Rattle.object_heap.specs.declared.object.Class.TheVariants as class
 use Rattle.page_meaning.specs.Places.{built_in_count}
-use Rattle.object_shapes.specs.Links.{made_links, parts_links, props_links, proto_links, value_links}
+use Rattle.object_shapes.specs.Links.{event_links, made_links, parts_links, props_links, proto_links, value_links}
 use Rattle.page_meaning.specs.Pristine.{built_in_globals}
 use Rattle.page_meaning.specs.Places.{window}
 use Rattle.page_meaning.specs.Store.{Store}
@@ -57,8 +57,7 @@ in_first _ ys here = here
 in_first (x ∷ xs) ys (there i) = there (in_first xs ys i)
 
 -- the global object is built in
-some_built_in : window.0 < built_in_count
-unfolding built_in_count
+some_built_in : window.0 ≤ built_in_count
 some_built_in = omega arith
 
 -- ---- what needed variables hold
@@ -93,11 +92,11 @@ module _ {W : World} {s : Store} (g : StoreRel W s s) (closed : W.opens ≡ fals
       o = object_at s.heap.objects j
 
       made : In k (made_links o) → Named W k k
-      made h = linked_read g n k (in_first (made_links o) (props_links o.props) h)
+      made h = linked_read g n k (in_first (made_links o) (event_links o.class ++ props_links o.props) h)
 
       by_rest : In k (class_links s o.class) ⊎ In k (props_links o.props) → Named W k k
       by_rest (inl h) = class_named j n o.class refl k h (λ p. made (in_rest (proto_links o.proto) (parts_links o.class) p))
-      by_rest (inr h) = linked_read g n k (in_rest (made_links o) (props_links o.props) h)
+      by_rest (inr h) = linked_read g n k (in_rest (made_links o) (event_links o.class ++ props_links o.props) (in_rest (event_links o.class) (props_links o.props) h))
 
       by_part : In k (proto_links o.proto) ⊎ In k (class_links s o.class ++ props_links o.props) → Named W k k
       by_part (inl h) = made (in_first (proto_links o.proto) (parts_links o.class) h)
@@ -107,5 +106,5 @@ module _ {W : World} {s : Store} (g : StoreRel W s s) (closed : W.opens ≡ fals
   reached_named k (root thing i) =
       let o = object_at s.heap.objects window.0 in
       let own : In k (props_links o.props) = not_dropped built_in_globals o.props (found_in k (roots s) i) in
-      linked_read g (g.built_ins window.0 some_built_in) k (in_rest (made_links o) (props_links o.props) own)
+      linked_read g (g.built_ins window.0 some_built_in) k (in_rest (made_links o) (event_links o.class ++ props_links o.props) (in_rest (event_links o.class) (props_links o.props) own))
   reached_named k (link {j = j} r thing i) = link_named j (reached_named j r) k (found_in k (links s j) i)

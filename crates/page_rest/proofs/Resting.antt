@@ -97,9 +97,9 @@ function_at_rest s k c env h =
 -- ---- pages
 
 pub pages_rest : StandingPagesAgree → PagesRest
-pages_rest agree scripts es things all walk =
-    let s : Store = run_of scripts es in
-    let h = agree (formed is_asked_low) scripts es refl (form_pages_stand 1 scripts all) in
+pages_rest agree page es things nodes all walk =
+    let s : Store = run_of page es in
+    let h = agree (formed is_asked_low) page es nodes refl (form_pages_stand 1 page.scripts all) in
     let names : (k : ℕ) → Reach s k → Named h.world k k = reached_named h.stores (h.trees.opens ∙ ap (λ d. d.opens) h.demanded) h.none_rebuilt in (
       record {
         sound = h.stores.heap.left;

@@ -48,7 +48,7 @@ path_narrow k path there =
     in
     leb-true (path_width path) 40 short
 
-path_count : length paths ≡ 93
+path_count : length paths ≡ 122
 unfolding paths
 path_count = refl
 
@@ -68,25 +68,25 @@ thing_narrow n few =
       mark_wide punct.RightBracket refl,
     )
 
-pub past_paths : (k : ℕ) → 93 ≤ k → path_of k ≡ None
+pub past_paths : (k : ℕ) → 122 ≤ k → path_of k ≡ None
 past_paths k past = slice_get_past paths k (omega (arith, past, path_count))
 
 pub thing_at_narrow : (n : ℕ) → n < 75000 → wide (expr_lexemes (reference (thing_place n))) ≤ 11
 unfolding built_in_count
 thing_at_narrow n few =
-    let same : (93 + n) - 93 ≡ n = omega arith in
+    let same : (122 + n) - 122 ≡ n = omega arith in
     let is : expr_lexemes (reference (thing_place n)) ≡ expr_lexemes (thing_expr n) =
-    ap (λ o. expr_lexemes (reference_over (93 + n) o)) (past_paths (93 + n) (omega arith))
+    ap (λ o. expr_lexemes (reference_over (122 + n) o)) (past_paths (122 + n) (omega arith))
     ∙ ap (λ m. expr_lexemes (thing_expr m)) same in
     omega (arith, ap wide is, thing_narrow n few)
 
-pub reference_narrow : (at : ObjId) → at.0 < 75093 → wide (expr_lexemes (reference at)) ≤ 40
+pub reference_narrow : (at : ObjId) → at.0 < 75122 → wide (expr_lexemes (reference at)) ≤ 40
 unfolding built_in_count
 reference_narrow at low = by (path_of at.0) refl
   where
     by : (o : Option (List ℕ)) → path_of at.0 ≡ o → wide (expr_lexemes (reference_over at.0 o)) ≤ 40
     by (Some path) there = path_narrow at.0 path there
-    by None there = omega (arith, thing_narrow (at.0 - 93) (omega (arith, low)))
+    by None there = omega (arith, thing_narrow (at.0 - 122) (omega (arith, low)))
 
 pub window_narrow : wide (expr_lexemes (reference window)) ≤ 11
 unfolding paths wide lib.Utf8.encode

@@ -75,7 +75,7 @@ path_lexemes path = dotted_between [] path ∙ names_lexemes path (names_of path
 pub reference_path : (k : ℕ) (path : List ℕ) (found : Option (List ℕ)) → found ≡ Some path → dotted [] path ≡ expr_lexemes (reference_over k found)
 reference_path k path found is = path_lexemes path ∙ ap (λ o. expr_lexemes (reference_over k o)) (sym is)
 
-pub reference_thing : (k n : ℕ) (found : Option (List ℕ)) → found ≡ None → n ≡ k - 93 → expr_lexemes (thing_expr n) ≡ expr_lexemes (reference_over k found)
+pub reference_thing : (k n : ℕ) (found : Option (List ℕ)) → found ≡ None → n ≡ k - 122 → expr_lexemes (thing_expr n) ≡ expr_lexemes (reference_over k found)
 unfolding built_in_count
 reference_thing k n found is counted = ap (λ m. expr_lexemes (thing_expr m)) counted ∙ ap (λ o. expr_lexemes (reference_over k o)) (sym is)
 

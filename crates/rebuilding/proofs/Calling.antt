@@ -63,36 +63,36 @@ module _ (c : Scene) (s : Store) (sites : List ℕ) (r : IsRunning c s.heap site
 
   pub is_define_property : (object_at s.heap.objects (function_place built_in.ObjectDefineProperty)).class ≡ Native built_in.ObjectDefineProperty
   unfolding function_place built_in_count
-  is_define_property = class_stays 16 (omega arith) (omega arith)
+  is_define_property = class_stays 21 (omega arith) (omega arith)
 
   pub is_create : (object_at s.heap.objects (function_place built_in.ObjectCreate)).class ≡ Native built_in.ObjectCreate
   unfolding function_place built_in_count
-  is_create = class_stays 15 (omega arith) (omega arith)
+  is_create = class_stays 20 (omega arith) (omega arith)
 
   pub is_prevent_extensions : (object_at s.heap.objects (function_place built_in.ObjectPreventExtensions)).class
       ≡ Native built_in.ObjectPreventExtensions
   unfolding function_place built_in_count
-  is_prevent_extensions = class_stays 20 (omega arith) (omega arith)
+  is_prevent_extensions = class_stays 25 (omega arith) (omega arith)
 
   pub is_bind : (object_at s.heap.objects (function_place built_in.FunctionPrototypeBind)).class ≡ Native built_in.FunctionPrototypeBind
   unfolding function_place built_in_count
-  is_bind = class_stays 28 (omega arith) (omega arith)
+  is_bind = class_stays 33 (omega arith) (omega arith)
 
   pub is_error : (object_at s.heap.objects (function_place built_in.Error)).class ≡ Native built_in.Error
   unfolding function_place built_in_count
-  is_error = class_stays 82 (omega arith) (omega arith)
+  is_error = class_stays 87 (omega arith) (omega arith)
 
   pub is_type_error : (object_at s.heap.objects (function_place built_in.TypeError)).class ≡ Native built_in.TypeError
   unfolding function_place built_in_count
-  is_type_error = class_stays 84 (omega arith) (omega arith)
+  is_type_error = class_stays 89 (omega arith) (omega arith)
 
   pub is_range_error : (object_at s.heap.objects (function_place built_in.RangeError)).class ≡ Native built_in.RangeError
   unfolding function_place built_in_count
-  is_range_error = class_stays 86 (omega arith) (omega arith)
+  is_range_error = class_stays 91 (omega arith) (omega arith)
 
   pub is_reference_error : (object_at s.heap.objects (function_place built_in.ReferenceError)).class ≡ Native built_in.ReferenceError
   unfolding function_place built_in_count
-  is_reference_error = class_stays 88 (omega arith) (omega arith)
+  is_reference_error = class_stays 93 (omega arith) (omega arith)
 
   -- ---- functions of `Object`
 
