@@ -66,11 +66,7 @@ fn push_built_ins(alloc: Global, heap: &mut Heap) -> Result<(), OutOfMemory>
 }
 
 // An object for each node, in the order of the nodes; these are their places.
-fn push_node_objects(
-    alloc: Global,
-    heap: &mut Heap,
-    dom: &Dom,
-) -> Result<Vec<ObjId>, OutOfMemory>
+fn push_node_objects(alloc: Global, heap: &mut Heap, dom: &Dom) -> Result<Vec<ObjId>, OutOfMemory>
     requires { node_prototype.0 < length heap.old.objects }
     ensures heap { OnOk result (heap.new ≡ beside heap.old (spec.node_objects 0 dom.now)) }
     ensures places { IfOk result (λ places. places.items ≡ spec.places_from

@@ -150,11 +150,7 @@ pub(crate) const NODE_PROTOTYPE_FUNCTIONS: [Method; 17] = [
     (b"hasChildNodes", BuiltIn::NodePrototypeHasChildNodes, 0),
     (b"getAttribute", BuiltIn::NodePrototypeGetAttribute, 1),
     (b"setAttribute", BuiltIn::NodePrototypeSetAttribute, 2),
-    (
-        b"removeAttribute",
-        BuiltIn::NodePrototypeRemoveAttribute,
-        1,
-    ),
+    (b"removeAttribute", BuiltIn::NodePrototypeRemoveAttribute, 1),
     (b"hasAttribute", BuiltIn::NodePrototypeHasAttribute, 1),
     (
         b"addEventListener",
@@ -167,17 +163,9 @@ pub(crate) const NODE_PROTOTYPE_FUNCTIONS: [Method; 17] = [
         3,
     ),
     (b"dispatchEvent", BuiltIn::NodePrototypeDispatchEvent, 1),
-    (
-        b"getElementById",
-        BuiltIn::NodePrototypeGetElementById,
-        1,
-    ),
+    (b"getElementById", BuiltIn::NodePrototypeGetElementById, 1),
     (b"createElement", BuiltIn::NodePrototypeCreateElement, 1),
-    (
-        b"createTextNode",
-        BuiltIn::NodePrototypeCreateTextNode,
-        1,
-    ),
+    (b"createTextNode", BuiltIn::NodePrototypeCreateTextNode, 1),
     (b"createComment", BuiltIn::NodePrototypeCreateComment, 1),
     (b"createEvent", BuiltIn::NodePrototypeCreateEvent, 1),
 ];
@@ -190,9 +178,5 @@ pub(crate) const EVENT_PROTOTYPE_FUNCTIONS: [Method; 3] = [
         BuiltIn::EventPrototypeStopPropagation,
         0,
     ),
-    (
-        b"preventDefault",
-        BuiltIn::EventPrototypePreventDefault,
-        0,
-    ),
+    (b"preventDefault", BuiltIn::EventPrototypePreventDefault, 0),
 ];

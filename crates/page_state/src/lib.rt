@@ -38,7 +38,8 @@ pub use functions::{built, object_or};
 pub use lines::class_name;
 pub use places::{
     ARRAY_PROTOTYPE, BOOLEAN_PROTOTYPE, CONSOLE, DOCUMENT, EVENT_PROTOTYPE, FUNCTION_PROTOTYPE,
-    MATH, NODE_PROTOTYPE, NUMBER_PROTOTYPE, OBJECT_PROTOTYPE, STRING_PROTOTYPE, WINDOW, function_at,
+    MATH, NODE_PROTOTYPE, NUMBER_PROTOTYPE, OBJECT_PROTOTYPE, STRING_PROTOTYPE, WINDOW,
+    function_at,
 };
 pub use primitives::are_short;
 pub use properties::own_of_text;

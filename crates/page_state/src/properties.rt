@@ -53,11 +53,7 @@ impl State {
     }
 
     // The property of an object, where a name may be one of the host's.
-    fn property_at(
-        &self,
-        at: ObjId,
-        name: &Units,
-    ) -> Result<Result<Value, Throw>, OutOfMemory>
+    fn property_at(&self, at: ObjId, name: &Units) -> Result<Result<Value, Throw>, OutOfMemory>
         ensures { IfOk result (λ read. read ≡ spec.property_of self.now (Object at) name.now) }
     {
         match HostName::of(name) {
