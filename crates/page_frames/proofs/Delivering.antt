@@ -1,5 +1,5 @@
 -- The frame of a dispatch matches the meaning by computing.
-use Rattle.std.specs.Prelude.{refl, ℕ, List, ◌∷◌}
+use Rattle.std.specs.Prelude.{refl, ℕ, List}
 use Rattle.page_host.specs.declared.listener.Listener.{Listener}
 use Rattle.page_meaning.specs.Act.{Calls}
 use Rattle.page_meaning.specs.Store.{Store}

@@ -152,7 +152,7 @@ fn pass_to(state: &mut State, moment: u64, meter: &mut Meter) -> Result<End, Out
     ensures { IfOk result (λ end. outcome_of end state.new meter.new.steps
         ≡ (timers.pass_to (calls_at meter.old.depth) moment).run state.old meter.old.steps) }
 {
-    while state.is_timer_due(moment) {
+    'firings: while state.is_timer_due(moment) {
         if !fire_next(state, moment, meter)? {
             return Ok(End::Stopped);
         }
