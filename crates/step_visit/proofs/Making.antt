@@ -55,22 +55,23 @@ reduces_from_element calls at n [] h = refl
 reduces_from_element calls at n (f ∷ []) h = refl
 reduces_from_element calls at n (f ∷ v ∷ vs) h = absurd (omega (arith, h))
 
--- all others are `reduce`
-reduces : (calls : Calls) (which : BuiltIn) (at : ObjId) (n : ℕ) (vs : List Value) → (which ≡ built_in.ArrayPrototypeEvery → ⊥) → (which ≡ built_in.ArrayPrototypeSome → ⊥) → (which ≡ built_in.ArrayPrototypeForEach → ⊥)
-    → (which ≡ built_in.ArrayPrototypeMap → ⊥) → (which ≡ built_in.ArrayPrototypeFilter → ⊥) → visit_list calls which at n vs ≡ reduce calls at n vs
-reduces calls built_in.ArrayPrototypeEvery at n vs a b c d e = absurd (a refl)
-reduces calls built_in.ArrayPrototypeSome at n vs a b c d e = absurd (b refl)
-reduces calls built_in.ArrayPrototypeForEach at n vs a b c d e = absurd (c refl)
-reduces calls built_in.ArrayPrototypeMap at n vs a b c d e = absurd (d refl)
-reduces calls built_in.ArrayPrototypeFilter at n vs a b c d e = absurd (e refl)
-reduces calls which at n vs a b c d e = refl
+-- all others are refused
+refused : (calls : Calls) (which : BuiltIn) (at : ObjId) (n : ℕ) (vs : List Value) → (which ≡ built_in.ArrayPrototypeEvery → ⊥) → (which ≡ built_in.ArrayPrototypeSome → ⊥) → (which ≡ built_in.ArrayPrototypeForEach → ⊥)
+    → (which ≡ built_in.ArrayPrototypeMap → ⊥) → (which ≡ built_in.ArrayPrototypeFilter → ⊥) → (which ≡ built_in.ArrayPrototypeReduce → ⊥) → visit_list calls which at n vs ≡ raise WrongArgument
+refused calls built_in.ArrayPrototypeEvery at n vs a b c d e f = absurd (a refl)
+refused calls built_in.ArrayPrototypeSome at n vs a b c d e f = absurd (b refl)
+refused calls built_in.ArrayPrototypeForEach at n vs a b c d e f = absurd (c refl)
+refused calls built_in.ArrayPrototypeMap at n vs a b c d e f = absurd (d refl)
+refused calls built_in.ArrayPrototypeFilter at n vs a b c d e f = absurd (e refl)
+refused calls built_in.ArrayPrototypeReduce at n vs a b c d e f = absurd (f refl)
+refused calls which at n vs a b c d e f = refl
 
 pub other_visits : {E : Type 0} (which : BuiltIn) (at : ObjId) (n : ℕ) (vs : List Value) (w t : Store) (m m1 : Meter) (r : Result Next E) → (which ≡ built_in.ArrayPrototypeEvery → ⊥) → (which ≡ built_in.ArrayPrototypeSome → ⊥)
-    → (which ≡ built_in.ArrayPrototypeForEach → ⊥) → (which ≡ built_in.ArrayPrototypeMap → ⊥) → (which ≡ built_in.ArrayPrototypeFilter → ⊥)
-    → IfOk r (λ k. Climbs (λ calls. reduce calls at n vs) w m k t m1) → IfOk r (λ k. Climbs (λ calls. visit_list calls which at n vs) w m k t m1)
-other_visits which at n vs w t m m1 r a b c d e h =
-    lowers_as (λ calls. visit_list calls which at n vs) (λ calls. reduce calls at n vs) 0 0 w t m m1 r
-    (λ calls k. ap (λ (x : Act). x.run w k) (reduces calls which at n vs a b c d e)) (le_refl 0) h
+    → (which ≡ built_in.ArrayPrototypeForEach → ⊥) → (which ≡ built_in.ArrayPrototypeMap → ⊥) → (which ≡ built_in.ArrayPrototypeFilter → ⊥) → (which ≡ built_in.ArrayPrototypeReduce → ⊥)
+    → IfOk r (λ k. Climbs (λ _. raise WrongArgument) w m k t m1) → IfOk r (λ k. Climbs (λ calls. visit_list calls which at n vs) w m k t m1)
+other_visits which at n vs w t m m1 r a b c d e f h =
+    lowers_as (λ calls. visit_list calls which at n vs) (λ _. raise WrongArgument) 0 0 w t m m1 r
+    (λ calls k. ap (λ (x : Act). x.run w k) (refused calls which at n vs a b c d e f)) (le_refl 0) h
 
 -- what is to be called may be called, or not
 pub asked_to_visit : {E : Type 0} (which : BuiltIn) (vs : List Value) (at : ObjId) (n : ℕ) (b : Bool) (w t : Store) (m m1 : Meter) (r : Result Next E) → n ≡ length_of at w → b ≡ is_callable (argument vs 0) w

@@ -95,7 +95,11 @@ fn begin_list(
         BuiltIn::ArrayPrototypeForEach => advance(state, visited, Visit::ForEach, 0, meter),
         BuiltIn::ArrayPrototypeMap => begin_map(state, visited, meter),
         BuiltIn::ArrayPrototypeFilter => begin_filter(state, visited, meter),
-        _ => begin_reduce(state, visited, args, meter),
+        BuiltIn::ArrayPrototypeReduce => begin_reduce(state, visited, args, meter),
+        _ => {
+            let fault = state.raise(Throw::WrongArgument);
+            give(Err(fault))
+        }
     }
 }
 

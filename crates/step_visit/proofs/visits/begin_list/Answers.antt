@@ -1,4 +1,8 @@
+use Rattle.std.proofs.Common.{Err}
+use Rattle.js_values.specs.declared.throw.Throw.TheVariants.{WrongArgument}
+use Rattle.page_meaning.specs.Errors.{raise}
 use Rattle.page_meaning.specs.declared.visit.Visit.TheVariants as visit
+use Rattle.step_parts.proofs.Callers.{gives_lower}
 use Rattle.step_visit.proofs.Going.{from_start}
 use Rattle.step_visit.proofs.Making.{filters, other_visits}
 use Rattle.step_visit.proofs.visits.begin_list.Goals as goal
@@ -26,8 +30,12 @@ returns-in-ArrayPrototypeFilter c =
     filters c.args.which c.args.visited.callback c.args.visited.this c.args.visited.list c.args.visited.length c.args.args.now c.args.state.now c.begin_filter.new.state c.args.meter.now
     c.begin_filter.new.meter c.begin_filter.result c.in-ArrayPrototypeFilter.is c.requires.callback c.requires.this c.begin_filter.ensures
 
+pub returns-in-ArrayPrototypeReduce : goal.returns-in-ArrayPrototypeReduce
+returns-in-ArrayPrototypeReduce c = rw c.in-ArrayPrototypeReduce.is c.begin_reduce.ensures
+
 pub returns-in_default : goal.returns-in_default
 returns-in_default c =
-    other_visits c.args.which c.args.visited.list c.args.visited.length c.args.args.now c.args.state.now c.begin_reduce.new.state c.args.meter.now c.begin_reduce.new.meter c.begin_reduce.result
+    other_visits c.args.which c.args.visited.list c.args.visited.length c.args.args.now c.args.state.now c.raise-fault.new.self c.args.meter.now c.args.meter.now c.give.result
     c.in_default.not-ArrayPrototypeEvery c.in_default.not-ArrayPrototypeSome c.in_default.not-ArrayPrototypeForEach c.in_default.not-ArrayPrototypeMap c.in_default.not-ArrayPrototypeFilter
-    c.begin_reduce.ensures
+    c.in_default.not-ArrayPrototypeReduce
+    (gives_lower (λ _. raise WrongArgument) (Err c.raise-fault.result) 0 c.args.state.now c.raise-fault.new.self c.args.meter.now c.give.result c.raise-fault.ensures c.give.ensures)
