@@ -9,7 +9,7 @@ use Rattle.js_values.specs.declared.value.Value.TheVariants.{Text}
 use Rattle.page_meaning.specs.Act.{also}
 use Rattle.page_meaning.specs.Calls.{calls_at}
 use Rattle.page_meaning.specs.Convert.{text_in}
-use Rattle.page_meaning.specs.Properties.{get_member, key_of, property_of, read_property, with_properties}
+use Rattle.page_meaning.specs.Properties.{get_member, key_of, read_property, with_properties}
 use Rattle.page_meaning.specs.declared.signal.Signal.TheVariants.{Value as Val}
 use Rattle.page_meaning.specs.Store.{Store}
 use Rattle.page_frames.specs.declared.meter.Meter.{Meter}
@@ -21,7 +21,6 @@ use Rattle.page_frames.specs.Weight.{cost, weigh}
 use Rattle.page_frames.specs.Where.{Where, here_of, spot_node}
 use Rattle.page_frames.proofs.Callers.{early_part, weigh_less}
 use Rattle.page_state.specs.Does.{Does}
-use Rattle.page_state.proofs.Callers.{told_property}
 use Rattle.step_assign.specs.Waiting.{RunsNamed}
 use Rattle.step_parts.proofs.Callers.{also_leads, goes_as}
 
@@ -72,22 +71,22 @@ old_waits f op x base old w t m r k d h =
 -- the name is known, and the right side runs
 pub right_waits : {E : Type 0} (f : Where) (base : Value) (x : List ℕ) (w : Store) (m : Meter) (r : Result Next E) → kind_of (spot_node f) ≡ AssignIndex None
     → IfOk r (λ n. Goes f (kind_of (spot_node f)) 2 (base ∷ Text x ∷ []) 2 w m n)
-    → IfOk r (λ n. RunsNamed f None base x w m n)
+    → IfOk r (λ n. RunsNamed f None base x w m n w)
 right_waits f base x w m r k h = goes_as f (AssignIndex None) 2 2 (weigh (spot_node f) 2) (base ∷ Text x ∷ []) w m r k (third_part (spot_node f)) h
 
 -- and so it is where the property was read before
-pub right_beside : {E : Type 0} (f : Where) (op : BinaryOp) (base old : Value) (x : List ℕ) (w : Store) (m : Meter) (r : Result Next E) → kind_of (spot_node f) ≡ AssignIndex (Some op)
-    → old ≡ property_of w base x → IfOk r (λ n. Goes f (kind_of (spot_node f)) 2 (base ∷ Text x ∷ old ∷ []) 2 w m n)
-    → IfOk r (λ n. RunsNamed f (Some op) base x w m n)
-right_beside f op base old x w m r k e h =
+pub right_beside : {E : Type 0} (f : Where) (op : BinaryOp) (base old : Value) (x : List ℕ) (w t : Store) (m : Meter) (r : Result Next E) → kind_of (spot_node f) ≡ AssignIndex (Some op)
+    → Does (λ _. read_property base x) w (Val old) t → IfOk r (λ n. Goes f (kind_of (spot_node f)) 2 (base ∷ Text x ∷ old ∷ []) 2 t m n)
+    → IfOk r (λ n. RunsNamed f (Some op) base x w m n t)
+right_beside f op base old x w t m r k d h =
     also_leads (λ _. read_property base x) (λ v. also (part (calls_at m.depth) (here_of f) (spot_node f) 2) (put_right (calls_at m.depth) (Some op) base x (v ∷ []))) old (weigh (spot_node f) 2)
-    w w w m m r (told_property base x w old e)
-    (goes_as f (AssignIndex (Some op)) 2 2 (weigh (spot_node f) 2) (base ∷ Text x ∷ old ∷ []) w m r k (third_beside (spot_node f)) h)
+    w t t m m r d
+    (goes_as f (AssignIndex (Some op)) 2 2 (weigh (spot_node f) 2) (base ∷ Text x ∷ old ∷ []) t m r k (third_beside (spot_node f)) h)
 
 -- the name is made of the key
-pub key_known : {E : Type 0} (f : Where) (op : Option BinaryOp) (base key : Value) (x : List ℕ) (w t : Store) (m : Meter) (r : Result Next E)
+pub key_known : {E : Type 0} (f : Where) (op : Option BinaryOp) (base key : Value) (x : List ℕ) (w t u : Store) (m : Meter) (r : Result Next E)
     → Does (λ calls. key_of calls base key) w (Val (Text x)) t
-    → IfOk r (λ n. RunsNamed f op base x t m n)
-    → IfOk r (λ n. Moves f (AssignIndex op) 0 (base ∷ []) key w m n t)
-key_known f op base key x w t m r d h =
-    also_leads (λ calls. key_of calls base key) (λ k. then_right (calls_at m.depth) (here_of f) (spot_node f) op 2 base (text_in k)) (Text x) (weigh (spot_node f) 2) w t t m m r d h
+    → IfOk r (λ n. RunsNamed f op base x t m n u)
+    → IfOk r (λ n. Moves f (AssignIndex op) 0 (base ∷ []) key w m n u)
+key_known f op base key x w t u m r d h =
+    also_leads (λ calls. key_of calls base key) (λ k. then_right (calls_at m.depth) (here_of f) (spot_node f) op 2 base (text_in k)) (Text x) (weigh (spot_node f) 2) w t u m m r d h

@@ -31,8 +31,8 @@ ReadsThenRuns f op x ref w m next t =
     (weigh (spot_node f) 0) w m next t m
 
 -- the right side of a property in brackets runs, once its name is known
-abbrev pub RunsNamed : Where → Option BinaryOp → Value → List ℕ → Store → Meter → Next → Type 0
-RunsNamed f op base x w m next = Leads (then_right (calls_at m.depth) (here_of f) (spot_node f) op 2 base x) (weigh (spot_node f) 2) w m next w m
+abbrev pub RunsNamed : Where → Option BinaryOp → Value → List ℕ → Store → Meter → Next → Store → Type 0
+RunsNamed f op base x w m next t = Leads (then_right (calls_at m.depth) (here_of f) (spot_node f) op 2 base x) (weigh (spot_node f) 2) w m next t m
 
 -- the kth part of a target runs, and then the target goes on with what it has got
 abbrev pub RunsTarget : Where → Value → Option Value → ℕ → Store → Meter → Next → Type 0

@@ -3,6 +3,7 @@
 
 ghost use Rattle.std.specs.Prelude.{◌≡◌, ◌∷◌, [], IfOk, None, Some};
 ghost use Rattle.code_table.specs.Kind.{kind_of};
+ghost use Rattle.js_values.specs.declared.value.Value.TheVariants.{Text};
 ghost use Rattle.page_frames.specs.Step.{Goes, Moves};
 ghost use Rattle.page_frames.specs.Where.{spot_node};
 ghost use Rattle.step_assign.specs.Waiting.{RunsNamed};
@@ -213,21 +214,63 @@ fn run_right(
     requires { kind_of (spot_node spot) ≡ Kind.AssignIndex op }
     ensures { IfOk result (λ n. RunsNamed spot op base.now name state.old meter.now n state.new) }
 {
+    match op {
+        None => run_named(state, spot, base, name, meter),
+        Some(op) => read_named(state, spot, op, base, name, meter),
+    }
+}
+
+// The third part runs, once the base and the name are known.
+fn run_named(
+    state: &State,
+    spot: Spot,
+    base: &Value,
+    name: Units,
+    meter: &Meter,
+) -> Result<Next, OutOfMemory>
+    ensures { IfOk result (λ n. Goes spot (kind_of (spot_node spot)) 2
+        (base.now ∷ Text name ∷ []) 2 state.now meter.now n) }
+{
     let mut got = Values::new(state.alloc());
     got.push(base.clone()?)?;
-    match op {
-        None => {
-            got.push(Value::Text(name))?;
-            run_part(state, spot, 2, got, 2, meter)
-        }
-        Some(_) => {
-            let old = match state.read_property(base, &name) {
-                Ok(old) => old,
-                Err(fault) => return give(Err(fault)),
-            };
-            got.push(Value::Text(name))?;
-            got.push(old)?;
-            run_part(state, spot, 2, got, 2, meter)
-        }
+    got.push(Value::Text(name))?;
+    run_part(state, spot, 2, got, 2, meter)
+}
+
+// The property is read before the right side runs.
+fn read_named(
+    state: &mut State,
+    spot: Spot,
+    op: BinaryOp,
+    base: &Value,
+    name: Units,
+    meter: &Meter,
+) -> Result<Next, OutOfMemory>
+    requires { kind_of (spot_node spot) ≡ Kind.AssignIndex (Some op) }
+    ensures { IfOk result (λ n.
+        RunsNamed spot (Some op) base.now name state.old meter.now n state.new) }
+{
+    match state.read_property(base, &name) {
+        Ok(old) => run_known(state, spot, base, name, old, meter),
+        Err(fault) => give(Err(fault)),
     }
+}
+
+// The third part runs, once the base, the name and the old value are known.
+fn run_known(
+    state: &State,
+    spot: Spot,
+    base: &Value,
+    name: Units,
+    old: Value,
+    meter: &Meter,
+) -> Result<Next, OutOfMemory>
+    ensures { IfOk result (λ n. Goes spot (kind_of (spot_node spot)) 2
+        (base.now ∷ Text name ∷ old ∷ []) 2 state.now meter.now n) }
+{
+    let mut got = Values::new(state.alloc());
+    got.push(base.clone()?)?;
+    got.push(Value::Text(name))?;
+    got.push(old)?;
+    run_part(state, spot, 2, got, 2, meter)
 }

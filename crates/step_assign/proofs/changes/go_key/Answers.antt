@@ -9,7 +9,7 @@ use Rattle.step_assign.proofs.changes.go_key.Goals as goal
 
 pub returns-in-Ok : goal.returns-in-Ok
 returns-in-Ok c =
-    key_known c.args.spot c.args.op c.args.base.now c.args.key.now c.in-Ok.name c.args.state.now c.key_of.new.self c.args.meter.now c.run_right.result c.in-Ok.ensures c.run_right.ensures
+    key_known c.args.spot c.args.op c.args.base.now c.args.key.now c.in-Ok.name c.args.state.now c.key_of.new.self c.run_right.new.state c.args.meter.now c.run_right.result c.in-Ok.ensures c.run_right.ensures
 
 pub returns-in-Err : goal.returns-in-Err
 returns-in-Err c =
