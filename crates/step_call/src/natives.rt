@@ -9,6 +9,7 @@ ghost use Rattle.page_frames.specs.Step.{Leads};
 ghost use Rattle.page_state.specs.Does.{itself};
 ghost use Rattle.page_state.specs.Turns.{Ends};
 ghost use Rattle.step_call.specs.Callees.{Descends};
+ghost use Rattle.step_call.specs.HostFamilies.{host_family};
 
 use crate::functions::run_function;
 use event_dispatch::begin_row;
@@ -139,7 +140,9 @@ fn family_of(which: BuiltIn) -> RowFamily
 }
 
 // Those of nodes, events and timers; all others act on objects and values.
-fn host_family_of(which: BuiltIn) -> RowFamily {
+fn host_family_of(which: BuiltIn) -> RowFamily
+    ensures { result ≡ host_family which }
+{
     match which {
         BuiltIn::NodePrototypeInsertBefore
         | BuiltIn::NodePrototypeReplaceChild

@@ -1,6 +1,8 @@
 use Rattle.page_meaning.specs.declared.family.RowFamily.TheVariants as family
+use Rattle.page_meaning.specs.NodeRows.{node_row}
 use Rattle.page_meaning.specs.Rows.{function_row, list_row, object_row}
 use Rattle.page_meaning.specs.TextRows.{text_row}
+use Rattle.page_meaning.specs.TimerRows.{timer_row}
 use Rattle.page_meaning.specs.VisitRows.{visit_row}
 use Rattle.step_call.proofs.Descending.{at_once}
 use Rattle.step_call.proofs.Running.{family_runs, pays_itself}
@@ -36,3 +38,22 @@ returns-in-Visit c =
     c.begin_visit.result c.family_of.ensures c.in-Visit.is
     (pays_itself (λ calls. visit_row calls c.args.which c.args.this.now c.args.args.now) c.args.state.now c.begin_visit.new.state c.args.meter.now c.begin_visit.new.meter c.begin_visit.result
     (rw c.as_slice-values.ensures at c.begin_visit.ensures))
+
+pub returns-in-Node : goal.returns-in-Node
+returns-in-Node c =
+    family_runs c.args.construct c.args.which c.args.this.now c.args.args.now family.Node c.family_of.result c.args.state.now c.row-in-Node.new.state c.args.meter.now c.args.meter.now c.give-in-Node.result
+    c.family_of.ensures c.in-Node.is
+    (at_once (λ calls. node_row calls c.args.which c.args.this.now c.args.args.now) c.row-in-Node.result c.args.state.now c.row-in-Node.new.state c.args.meter.now c.give-in-Node.result
+    (rw c.as_slice-values.ensures at c.row-in-Node.ensures) c.give-in-Node.ensures)
+
+pub returns-in-Timer : goal.returns-in-Timer
+returns-in-Timer c =
+    family_runs c.args.construct c.args.which c.args.this.now c.args.args.now family.Timer c.family_of.result c.args.state.now c.row-in-Timer.new.state c.args.meter.now c.args.meter.now c.give-in-Timer.result
+    c.family_of.ensures c.in-Timer.is
+    (at_once (λ calls. timer_row calls c.args.which c.args.args.now) c.row-in-Timer.result c.args.state.now c.row-in-Timer.new.state c.args.meter.now c.give-in-Timer.result
+    (rw c.as_slice-values.ensures at c.row-in-Timer.ensures) c.give-in-Timer.ensures)
+
+pub returns-in-Dispatch : goal.returns-in-Dispatch
+returns-in-Dispatch c =
+    family_runs c.args.construct c.args.which c.args.this.now c.args.args.now family.Dispatch c.family_of.result c.args.state.now c.begin_row.new.state c.args.meter.now c.begin_row.new.meter
+    c.begin_row.result c.family_of.ensures c.in-Dispatch.is (rw c.as_slice-values.ensures at c.begin_row.ensures)
