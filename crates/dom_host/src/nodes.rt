@@ -142,9 +142,18 @@ fn unless_refused(
 {
     match answer {
         Ok(()) => Ok(given),
-        Err(DomError::Hierarchy) => Err(state.raise(Throw::Hierarchy)),
-        Err(DomError::NotFound) => Err(state.raise(Throw::NotFound)),
-        Err(DomError::BadName) => Err(state.raise(Throw::InvalidCharacter)),
+        Err(error) => Err(state.raise(thrown(error))),
+    }
+}
+
+// What is thrown where a change of nodes is refused.
+fn thrown(error: DomError) -> Throw
+    ensures { result ≡ spec.dom_throw error }
+{
+    match error {
+        DomError::Hierarchy => Throw::Hierarchy,
+        DomError::NotFound => Throw::NotFound,
+        DomError::BadName => Throw::InvalidCharacter,
     }
 }
 
