@@ -13,7 +13,7 @@ ghost use Rattle.page_meaning.specs.NodeRows.{node_row};
 ghost use Rattle.page_state.specs.Does.{Gives, itself};
 ghost use Rattle.dom_host.specs.Rows.{IsThere, settle_nodes};
 
-use crate::tests::{found_document, found_node, text_argument};
+use crate::judged::{found_document, found_node, text_argument};
 use dom_tree::DomError;
 use js_core::Units;
 use js_values::{NodeId, Throw, Value};

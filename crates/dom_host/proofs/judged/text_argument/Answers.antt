@@ -2,7 +2,7 @@ use Rattle.page_meaning.specs.Convert.{to_text}
 use Rattle.page_meaning.specs.ObjectRows.{argument}
 use Rattle.js_values.specs.declared.value.Value.TheVariants.{Text}
 use Rattle.dom_host.proofs.Asked.{texts_same}
-use Rattle.dom_host.proofs.tests.text_argument.Goals as goal
+use Rattle.dom_host.proofs.judged.text_argument.Goals as goal
 
 pub returns-clause-text : goal.returns-clause-text
 returns-clause-text c = rw (c.in_ok-value.ensures) at c.to_text.ensures
