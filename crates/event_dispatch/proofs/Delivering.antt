@@ -1,12 +1,11 @@
 -- How a dispatch begins, waits and ends.
-use Rattle.std.proofs.Common.{◌≡◌, refl, sym, ap, ◌∙◌, ℕ, suc, ◌+◌, ◌-◌, ◌*◌, ◌^◌, ◌<◌, ◌≤◌, Bool, true, false, not, List, [], ◌∷◌, length, Option, Some, None, is_some, Result, Ok, Err, IfOk, arith, le_refl}
+use Rattle.std.proofs.Common.{◌≡◌, refl, sym, ap, ◌∙◌, ℕ, suc, ◌+◌, ◌-◌, ◌*◌, ◌^◌, ◌<◌, ◌≤◌, Bool, true, false, not, List, length, Option, Some, None, is_some, Result, Ok, Err, IfOk, arith, le_refl}
 use Rattle.js_values.specs.declared.ids.NodeId.{NodeId}
 use Rattle.js_values.specs.declared.ids.ObjId.{ObjId}
 use Rattle.js_values.specs.declared.throw.Throw.TheVariants.{UnspecifiedEventType, WrongArgument}
 use Rattle.js_values.specs.declared.value.Value.{Value}
-use Rattle.js_values.specs.declared.value.Value.TheVariants.{Bool as Truth, Object}
+use Rattle.js_values.specs.declared.value.Value.TheVariants.{Bool as Truth}
 use Rattle.object_heap.specs.declared.object.EventParts.{EventParts}
-use Rattle.page_host.specs.declared.listener.Listener.{Listener}
 use Rattle.page_host.specs.declared.path.Place.{Place}
 use Rattle.page_host.specs.Paths.{event_path}
 use Rattle.page_meaning.specs.declared.signal.Signal.{Signal}
@@ -34,7 +33,7 @@ use Rattle.page_frames.specs.Weight.{heavy, load, many}
 use Rattle.page_state.specs.Does.{Does}
 use Rattle.page_state.specs.Finding.{event_of, node_of, object_if}
 use Rattle.step_parts.proofs.Callers.{lowers_as}
-use Rattle.event_dispatch.specs.Turning.{BeginsBelow, Turns, deliver_value, left_at, next_at, weigh_left}
+use Rattle.event_dispatch.specs.Turning.{BeginsBelow, Turns, deliver_value, left_at, weigh_left}
 use Rattle.event_dispatch.proofs.Turning.{does_turn, turns_as}
 
 -- ---- the end
