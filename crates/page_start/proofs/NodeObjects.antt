@@ -36,7 +36,7 @@ pub making_on : (h0 h h1 : Contents) (ps ps1 : List ObjId) (t : Nodes) (k : ℕ)
     → h1 ≡ made h (new_object (Node (record { 0 = k })) (Some p)) → ps1 ≡ ps ++ at ∷ [] → Making h0 h ps t k → Making h0 h1 ps1 t (k + 1)
 making_on h0 h h1 ps ps1 t k at p there is id m pushed g =
     let new : h1 ≡ with_new_object h (object_of k) = made_node h h1 k p g.room is m in
-    let more : length h1.objects ≡ suc (length h.objects) = ap (λ (c : Contents). length c.objects) new ∙ length_push h.objects (object_of k) ∙ add-one in
+    let more : length h1.objects ≡ suc (length h.objects) = ap (λ (c : Contents). length c.objects) new ∙ length_push h.objects (object_of k) ∙ add-one (length h.objects) in
     let rest = drop (suc k) t in
     let next = drop-cons t k no_node there in
     record {

@@ -12,7 +12,9 @@ pub mod LineTexts
 pub mod NewFunctions
 pub mod OtherKinds
 pub mod Passing
+pub mod Putting
 pub mod Rests
+pub mod Sights
 pub mod Taking
 pub mod TopNames
 pub mod Values
