@@ -3,7 +3,7 @@
 use Rattle.std.specs.Prelude.{◌≡◌, ℕ, ◌+◌, ◌<◌, Bool, true, false, List, [], ◌∷◌, ◌++◌, Option, Some, None, codes, length}
 use Rattle.js_values.specs.declared.ids.NodeId.{NodeId}
 use Rattle.dom_tree.specs.Content.{new_content}
-use Rattle.dom_tree.specs.Node.{Node, Nodes, children_at, first_of, next_of, parent_at}
+use Rattle.dom_tree.specs.Node.{Node, Nodes, children_at, first_of, next_of, node_at, parent_at}
 use Rattle.dom_tree.specs.declared.content.Kind.{Kind}
 use Rattle.dom_tree.specs.declared.content.Kind.TheVariants.{Document, Element}
 use Rattle.object_heap.specs.Chain.{object_at}
@@ -81,3 +81,7 @@ node_if (Some k) = Some (nth_node k)
 -- the node has this parent, this first child and this next node
 abbrev pub IsPlaced : Nodes → ℕ → Option ℕ → Option ℕ → Option ℕ → Type 0
 IsPlaced t k parent first next = (parent_at t k ≡ node_if parent) × (first_of (children_at t k) ≡ node_if first) × (next_of t k ≡ node_if next)
+
+-- it is an element of this name, which has nothing, and stands so
+abbrev pub IsElementAt : Nodes → ℕ → List ℕ → Option ℕ → Option ℕ → Option ℕ → Type 0
+IsElementAt t k name parent first next = ((node_at t k).content ≡ new_content (Element name)) × IsPlaced t k parent first next

@@ -1,8 +1,7 @@
 //! Which pages can be saved, until nodes, listeners and timers are saved, too: bare ones. This file goes when these are saved.
 
-ghost use Rattle.std.specs.Prelude.{◌≡◌, ◌×◌, ◌<◌, ◌≤◌, ◌+◌, ℕ, true, IfOk, codes, drop, length};
+ghost use Rattle.std.specs.Prelude.{◌≡◌, ◌++◌, ◌∷◌, [], ◌<◌, true, IfOk, drop, length};
 ghost use Rattle.dom_tree.specs.Content.{new_content};
-ghost use Rattle.dom_tree.specs.Node.{children_at, first_of, next_of, node_at, parent_at};
 ghost use Rattle.dom_tree.specs.declared.content.Kind.TheVariants.{Document, Element};
 ghost use Rattle.heap_walker.specs.Bare as spec;
 ghost use Rattle.heap_walker.specs.Things as things;
@@ -46,10 +45,16 @@ pub fn is_bare(state: &State, walked: &Walked) -> Result<bool, OutOfMemory>
 fn has_frame(host: &PageHost) -> bool
     ensures { result ≡ true → host.now ≡ with_clock spec.frame_host host.now.clock }
 {
-    host.listeners().is_empty()
-        && host.timers().is_empty()
-        && are_frame_objects(host.objects())
-        && are_frame_nodes(host.dom())
+    if !host.listeners().is_empty() {
+        return false;
+    }
+    if !host.timers().is_empty() {
+        return false;
+    }
+    if !are_frame_objects(host.objects()) {
+        return false;
+    }
+    are_frame_nodes(host.dom())
 }
 
 // Whether these are the objects that the nodes of an empty page begin with.
@@ -75,14 +80,37 @@ fn are_frame_nodes(dom: &Dom) -> bool
     if dom.count() != 4 {
         return false;
     }
-    is_empty_document(dom.content(NodeId(0)))
-        && is_placed(dom, 0, None, Some(1), None)
-        && is_empty_element(dom.content(NodeId(1)), b"html")
-        && is_placed(dom, 1, Some(0), Some(2), None)
-        && is_empty_element(dom.content(NodeId(2)), b"body")
-        && is_placed(dom, 2, Some(1), None, Some(3))
-        && is_empty_element(dom.content(NodeId(3)), b"script")
-        && is_placed(dom, 3, Some(1), None, None)
+    if !is_empty_document(dom.content(NodeId(0))) {
+        return false;
+    }
+    if !is_placed(dom, 0, None, Some(1), None) {
+        return false;
+    }
+    if !is_frame_element(dom, 1, b"html", Some(0), Some(2), None) {
+        return false;
+    }
+    if !is_frame_element(dom, 2, b"body", Some(1), None, Some(3)) {
+        return false;
+    }
+    is_frame_element(dom, 3, b"script", Some(1), None, None)
+}
+
+// Whether the node is an element of this name without attributes and value, which has this parent, this first child and this next node.
+fn is_frame_element(
+    dom: &Dom,
+    node: u64,
+    name: &[u8],
+    parent: Option<u64>,
+    first: Option<u64>,
+    next: Option<u64>,
+) -> bool
+    requires { node < length dom.now }
+    ensures { result ≡ true → spec.IsElementAt dom.now node name.now parent first next }
+{
+    if !is_empty_element(dom.content(NodeId(node)), name) {
+        return false;
+    }
+    is_placed(dom, node, parent, first, next)
 }
 
 // Whether it is a document without attributes and value.
@@ -146,10 +174,16 @@ fn is_node(node: Option<NodeId>, number: Option<u64>) -> bool
 fn are_untouched(state: &State) -> bool
     ensures { result ≡ true → spec.AreUntouched state.now }
 {
-    is_untouched(state, BUILT_IN_COUNT)
-        && is_untouched(state, BUILT_IN_COUNT + 1)
-        && is_untouched(state, BUILT_IN_COUNT + 2)
-        && is_untouched(state, BUILT_IN_COUNT + 3)
+    if !is_untouched(state, BUILT_IN_COUNT) {
+        return false;
+    }
+    if !is_untouched(state, BUILT_IN_COUNT + 1) {
+        return false;
+    }
+    if !is_untouched(state, BUILT_IN_COUNT + 2) {
+        return false;
+    }
+    is_untouched(state, BUILT_IN_COUNT + 3)
 }
 
 // Whether an object has no property of its own, and may get some.
@@ -157,7 +191,10 @@ fn is_untouched(state: &State, place: u64) -> bool
     ensures { result ≡ true
         → spec.IsUntouched (object_at state.now.heap.objects place) }
 {
-    state.is_extensible(ObjId(place)) && state.own_at(ObjId(place), 0).is_none()
+    if !state.is_extensible(ObjId(place)) {
+        return false;
+    }
+    state.own_at(ObjId(place), 0).is_none()
 }
 
 // Whether no thing is a node or an event, and none names the document.
