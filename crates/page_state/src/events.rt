@@ -23,6 +23,7 @@ use page_host::{Listener, Phase, Place};
 
 // What stands for stopped propagation in a phase, and for a prevented default.
 const STOPPED: u8 = 4;
+
 const PREVENTED: u8 = 8;
 
 impl State {
@@ -156,7 +157,8 @@ impl State {
             return Ok(());
         };
         let (current, phase) = (parts.current, parts.phase);
-        self.heap.set_dispatch(at, true, Some(target), current, phase);
+        self.heap
+            .set_dispatch(at, true, Some(target), current, phase);
         Ok(())
     }
 
@@ -174,7 +176,8 @@ impl State {
         };
         let (sent, target) = (parts.sent, parts.target);
         let phase = phase_at(place.phase, is_prevented(parts.phase));
-        self.heap.set_dispatch(at, sent, target, Some(current), phase);
+        self.heap
+            .set_dispatch(at, sent, target, Some(current), phase);
         Ok(())
     }
 
@@ -192,8 +195,7 @@ impl State {
     /// Events under dispatch become as after a dispatch.
     pub fn settle_events(&mut self)
         ensures { self.new ≡ settled self.old }
-    {
-    }
+    {}
 
     /// Whether propagation was stopped.
     pub fn is_stopped(&self, at: ObjId) -> bool
@@ -221,7 +223,9 @@ impl State {
     {
         match self.event_parts(at) {
             Some(parts) => self.host.round(self.alloc(), &parts.kind, place),
-            None => self.host.round(self.alloc(), &Units::of(self.alloc(), &[])?, place),
+            None => self
+                .host
+                .round(self.alloc(), &Units::of(self.alloc(), &[])?, place),
         }
     }
 

@@ -151,12 +151,7 @@ impl State {
     }
 
     /// A text is put at a host name that takes one; an element's `textContent` is filled anew instead.
-    pub fn put_text(
-        &mut self,
-        node: NodeId,
-        name: HostName,
-        text: Units,
-    ) -> Result<(), OutOfMemory>
+    pub fn put_text(&mut self, node: NodeId, name: HostName, text: Units) -> Result<(), OutOfMemory>
         requires there { node.0 < length self.old.host.nodes }
         requires has { node_has (kind_at self.old.host.nodes node.0) name ≡ true }
         ensures { OnOk result (Does (λ _. changes_nodes (text_step node name text)) self.old tt

@@ -81,11 +81,7 @@ impl State {
     }
 
     /// What an object reads that has the host name itself.
-    pub fn host_read(
-        &self,
-        at: ObjId,
-        name: HostName,
-    ) -> Result<Result<Value, Throw>, OutOfMemory>
+    pub fn host_read(&self, at: ObjId, name: HostName) -> Result<Result<Value, Throw>, OutOfMemory>
         requires { has_host_name self.now.host.nodes (class_at self.now at) name ≡ true }
         ensures { IfOk result (λ read. read ≡ host_reads self.now.host (class_at self.now at)
             name) }
