@@ -1,5 +1,5 @@
 -- The objects of nodes, which are made one after another.
-use Rattle.std.proofs.Common.{◌≡◌, refl, sym, ap, ◌∙◌, ℕ, suc, ◌+◌, ◌<◌, ◌≤◌, List, [], ◌∷◌, ◌++◌, Some, length, drop, get_or, add-one, append_assoc, arith}
+use Rattle.std.proofs.Common.{◌≡◌, refl, sym, ap, ◌∙◌, ℕ, suc, ◌+◌, ◌<◌, ◌≤◌, List, [], ◌∷◌, ◌++◌, Some, length, drop, add-one, append_assoc, arith}
 use Rattle.std.proofs.Math.Seq.{drop-cons}
 use Rattle.std.proofs.lemmas.List.{append-nil, drop_all, length_push}
 use Rattle.js_values.specs.declared.ids.ObjId.{ObjId}
@@ -8,7 +8,7 @@ use Rattle.object_heap.specs.declared.object.Class.TheVariants.{Node}
 use Rattle.object_heap.specs.Heap.{Contents, empty, first_props, made, new_object, with_new_object, with_objects}
 use Rattle.object_heap.specs.Object.{Object}
 use Rattle.page_host.specs.Host.{Host, new_host}
-use Rattle.page_meaning.specs.Places.{at_place, array_prototype_place, boolean_prototype_place, built_in_count, console_place, error_prototype_place, event_prototype_place, function_place, math_place, node_prototype, node_prototype_place, number_prototype_place, range_error_prototype_place, reference_error_prototype_place, string_prototype_place, type_error_prototype_place}
+use Rattle.page_meaning.specs.Places.{at_place, built_in_count, node_prototype, node_prototype_place}
 use Rattle.page_meaning.specs.Pristine.{built_ins, node_objects, places_from, pristine}
 use Rattle.page_meaning.specs.Store.{Store, silent}
 use Rattle.page_start.specs.BuiltIns.{beside}
