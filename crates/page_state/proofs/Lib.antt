@@ -5,7 +5,9 @@ pub mod Chains
 pub mod Deletes
 pub mod Does
 pub mod Entering
+pub mod EventSteps
 pub mod Finding
+pub mod HostSteps
 pub mod InTurn
 pub mod Joined
 pub mod LineTexts
@@ -17,5 +19,6 @@ pub mod Rests
 pub mod Sights
 pub mod Taking
 pub mod TopNames
+pub mod Unkept
 pub mod Values
 pub mod Visits
