@@ -1,5 +1,5 @@
 -- What is done to nodes, listeners and timers at once.
-use Rattle.std.proofs.Common.{◌≡◌, refl, sym, ap, ◌∙◌, ◌≤◌, ℕ, zero, suc, Bool, true, false, not, ◌&&◌, List, [], ◌∷◌, ◌++◌, Option, Some, None, Result, Ok, Err, is_some, length, map, nat_lt, reverse, if◌then◌else◌, arith}
+use Rattle.std.proofs.Common.{◌≡◌, refl, sym, ap, subst, ◌∙◌, ◌≤◌, ℕ, zero, suc, Bool, true, false, not, ◌&&◌, List, [], ◌∷◌, ◌++◌, Option, Some, None, Result, Ok, Err, is_some, length, map, nat_lt, reverse, if◌then◌else◌, arith}
 use Rattle.std.specs.Option.{is_none}
 use Rattle.std.specs.Prelude.{OnErr}
 use Rattle.std.proofs.lemmas.Bool.{and_parts}
@@ -31,13 +31,14 @@ use Rattle.page_host.specs.Answers.{answer_of}
 use Rattle.page_host.specs.Host.{Host}
 use Rattle.page_host.specs.HostNames.{has_at_node, is_handler}
 use Rattle.page_host.specs.Paths.{event_path, in_phase, path_over}
-use Rattle.page_host.specs.Steps.{HostStep, after_host, in_nodes, is_fit, listens, may_be_made, with_new_node}
+use Rattle.page_host.specs.Steps.{after_host, in_nodes, listens, may_be_made, starts, with_new_node}
 use Rattle.page_meaning.specs.Classes.{class_at, is_callable_class}
+use Rattle.page_meaning.specs.HostPuts.{stepped}
 use Rattle.page_meaning.specs.NodeRows.{set_attribute}
 use Rattle.page_meaning.specs.Pages.{with_input}
 use Rattle.page_meaning.specs.Places.{at_place, node_prototype}
 use Rattle.page_meaning.specs.Primitives.{changes_host, make_node}
-use Rattle.page_meaning.specs.Act.{Ended}
+use Rattle.page_meaning.specs.Act.{Act, Ended, choose}
 use Rattle.page_meaning.specs.Steps.{with_node_object}
 use Rattle.page_meaning.specs.Store.{Store, with_both, with_heap, with_host}
 use Rattle.page_meaning.specs.declared.signal.Signal.TheVariants.{Value as Val}
@@ -89,7 +90,7 @@ none_inserted h p c before (Err e) same = by (insertion_error h.nodes p c before
       where
         by_there : (b : Bool) → is_there h.nodes c ≡ b → after_host h (in_nodes (inserts p c before)) ≡ h
         by_there true f = rw (f, g) refl
-        by_there false f = rw (f, g) refl
+        by_there false f = rw f refl
 
 pub none_replaced : (h : Host) (p c old : NodeId) (r : Result (Unit {0}) DomError)
     → r ≡ answer_of (replacement_error h.nodes p c old) → OnErr r (after_host h (in_nodes (replaces p c old)) ≡ h)
@@ -102,21 +103,29 @@ none_replaced h p c old (Err e) same = by (replacement_error h.nodes p c old) re
       where
         by_there : (b : Bool) → is_there h.nodes c ≡ b → after_host h (in_nodes (replaces p c old)) ≡ h
         by_there true f = rw (f, g) refl
-        by_there false f = rw (f, g) refl
+        by_there false f = rw f refl
 
 -- ---- attributes
 
+abbrev named_only : NodeId → Text → Text → Act
+named_only k x v = choose (is_name x) (stepped (sets_attribute k x v)) (raise InvalidCharacter)
+
 pub attribute_refused : (k : NodeId) (x v : Text) (s t : Store) (e : Failure Value) → is_handler (folded x) ≡ true → Raises (λ _. raise WrongArgument) s t e
     → Raises (λ _. set_attribute k x v) s t e
-attribute_refused k x v s t e h r = rw h r
+attribute_refused k x v s t e h r = subst (λ b. Raises (λ _. choose b (raise WrongArgument) (named_only k x v)) s t e) (sym h) r
 
 pub attribute_unnamed : (k : NodeId) (x v : Text) (s t : Store) (e : Failure Value) → is_handler (folded x) ≡ false → is_name x ≡ false
     → Raises (λ _. raise InvalidCharacter) s t e → Raises (λ _. set_attribute k x v) s t e
-attribute_unnamed k x v s t e h g r = rw (h, g) r
+attribute_unnamed k x v s t e h g r =
+    subst (λ b. Raises (λ _. choose b (raise WrongArgument) (named_only k x v)) s t e) (sym h)
+    (subst (λ b. Raises (λ _. choose b (stepped (sets_attribute k x v)) (raise InvalidCharacter)) s t e) (sym g) r)
 
 pub attribute_set : (k : NodeId) (x v : Text) (s : Store) (h : Host) → is_handler (folded x) ≡ false → is_name x ≡ true
     → h ≡ after_host s.host (in_nodes (sets_attribute k x v)) → Does (λ _. set_attribute k x v) s (Val Undefined) (with_host s h)
-attribute_set k x v s h plain named same = rw (plain, named) (record { is = λ c n. rw same refl })
+attribute_set k x v s h plain named same =
+    subst (λ b. Does (λ _. choose b (raise WrongArgument) (named_only k x v)) s (Val Undefined) (with_host s h)) (sym plain)
+    (subst (λ b. Does (λ _. choose b (stepped (sets_attribute k x v)) (raise InvalidCharacter)) s (Val Undefined) (with_host s h)) (sym named)
+    (record { is = λ c n. rw same refl }))
 
 -- ---- values of inputs
 
@@ -166,6 +175,10 @@ way_of_none t k bubbles past = by bubbles
     by false = ap (λ l. path_over l k false) (sym none)
 
 -- ---- timers
+
+pub timer_started : (s : Store) (delay : ℕ) (period : Option ℕ) (f : ObjId) (h : Host) → is_callable_class (class_at s f) ≡ true → h ≡ after_host s.host (starts delay period f)
+    → Does (λ _. changes_host (starts delay period f)) s tt (with_host s h)
+timer_started s delay period f h e same = record { is = λ c n. rw (e, same) refl }
 
 pub is_due_at : {A : Type 0} (o : Option A) (b : Bool) → is_none o ≡ not b → b ≡ is_some o
 is_due_at None true h = cc h

@@ -97,6 +97,7 @@ impl State {
 
     /// Starts a timer and gives its id, or `None` exactly where as many are live as may be. What cannot be called, and a time past those of
     /// the language, counts as want of memory.
+    #[tactic(auto, unfolding(page_host::specs::Steps::time_limit), using(crate::proofs::HostSteps::timer_started))]
     pub fn start_timer(
         &mut self,
         delay: u64,
@@ -147,6 +148,7 @@ impl State {
     }
 }
 
+#[tactic(auto, unfolding(page_host::specs::Steps::time_limit))]
 fn is_period(period: Option<u64>) -> bool
     ensures { result ≡ is_period period }
 {

@@ -20,7 +20,7 @@ ghost use Rattle.page_state.specs.Made.{IsElementMade};
 use crate::fault::Fault;
 use crate::places::NODE_PROTOTYPE;
 use crate::state::State;
-use dom_tree::{DomError, DomFault};
+use dom_tree::{DomError, DomFault, is_name};
 use js_core::{OutOfMemory, Units};
 use js_values::{NodeId, ObjId, Throw, Value};
 use object_heap::Class;
@@ -149,10 +149,12 @@ impl State {
         if folds_to_handler(name) {
             return Err(self.raise(Throw::WrongArgument));
         }
+        if !is_name(name) {
+            return Err(self.raise(Throw::InvalidCharacter));
+        }
         match self.host.set_attribute(node, name, value) {
             Ok(()) => Ok(Value::Undefined),
-            Err(DomFault::Cause(_)) => Err(self.raise(Throw::InvalidCharacter)),
-            Err(DomFault::OutOfMemory) => Err(Fault::OutOfMemory),
+            Err(_) => Err(Fault::OutOfMemory),
         }
     }
 
