@@ -23,6 +23,7 @@ use page_host::{Listener, Phase, Place};
 
 // What stands for stopped propagation in a phase, and for a prevented default.
 const STOPPED: u8 = 4;
+
 const PREVENTED: u8 = 8;
 
 impl State {
@@ -226,7 +227,9 @@ impl State {
     {
         match self.event_parts(at) {
             Some(parts) => self.host.round(self.alloc(), &parts.kind, place),
-            None => self.host.round(self.alloc(), &Units::of(self.alloc(), &[])?, place),
+            None => self
+                .host
+                .round(self.alloc(), &Units::of(self.alloc(), &[])?, place),
         }
     }
 
