@@ -1,5 +1,5 @@
 -- Time passes: timers come due one after another.
-use Rattle.std.proofs.Common.{◌≡◌, refl, sym, ap, ◌∙◌, ℕ, zero, suc, ◌<◌, ◌≤◌, Bool, true, false, [], Option, Some, None, is_some, option_map, arith}
+use Rattle.std.proofs.Common.{◌≡◌, refl, sym, ap, ◌∙◌, ℕ, zero, suc, ◌<◌, ◌≤◌, Bool, true, false, [], Option, Some, None, is_some, option_map, Result, Ok, Err, IfOk, arith}
 use Rattle.js_values.specs.declared.ids.ObjId.{ObjId}
 use Rattle.js_values.specs.declared.value.Value.TheVariants.{Object}
 use Rattle.timer_queue.specs.declared.timer.Live.{Live}
@@ -59,7 +59,7 @@ stopped_in moment f s u v m mid due step depth fire ran next last =
     ∙ rw ran' refl))
 
 -- a timer fires, and what it came to is put out
-pub fires_next : (moment : ℕ) (f : ObjId) (e : End) (on : Bool) (s u v t : Store) (m mid m' : Meter) → Some f ≡ option_map (λ x. x.call) (next_timer s.host moment) → m.steps ≡ suc mid.steps
+fires_next : (moment : ℕ) (f : ObjId) (e : End) (on : Bool) (s u v t : Store) (m mid m' : Meter) → Some f ≡ option_map (λ x. x.call) (next_timer s.host moment) → m.steps ≡ suc mid.steps
     → mid.depth ≡ m.depth → m'.depth ≡ mid.depth → Does (λ _. changes_host (fires moment)) s tt u
     → outcome_of e v m'.steps ≡ ((calls_at mid.depth).call (Object f) (Object window) []).run u mid.steps → EndIsPut e v on t → Fired moment s m on t m'
 fires_next moment f (end.Ended given) true s u v t m mid m' due step depth stays fire ran put =
@@ -74,6 +74,12 @@ fires_next moment f (end.Ended given) false s u v t m mid m' due step depth stay
 fires_next moment f end.Stopped true s u v t m mid m' due step depth stays fire ran put = absurd put
 fires_next moment f end.Stopped false s u v t m mid m' due step depth stays fire ran put =
     rw put (stopped_in moment f s u v m mid (due_timer (next_timer s.host moment) f due) step depth fire ran)
+
+pub fires_if : {E : Type 0} (moment : ℕ) (f : ObjId) (e : End) (r : Result Bool E) (s u v t : Store) (m mid m' : Meter) → Some f ≡ option_map (λ x. x.call) (next_timer s.host moment) → m.steps ≡ suc mid.steps
+    → mid.depth ≡ m.depth → m'.depth ≡ mid.depth → Does (λ _. changes_host (fires moment)) s tt u
+    → outcome_of e v m'.steps ≡ ((calls_at mid.depth).call (Object f) (Object window) []).run u mid.steps → IfOk r (λ on. EndIsPut e v on t) → IfOk r (λ on. Fired moment s m on t m')
+fires_if moment f e (Err x) s u v t m mid m' due step depth stays fire ran put = put
+fires_if moment f e (Ok on) s u v t m mid m' due step depth stays fire ran put = fires_next moment f e on s u v t m mid m' due step depth stays fire ran put
 
 -- ---- from firing to firing
 
