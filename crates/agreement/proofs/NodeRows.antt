@@ -10,7 +10,7 @@ use Rattle.js_values.specs.declared.ids.NodeId.{NodeId}
 use Rattle.js_values.specs.declared.ids.ObjId.{ObjId}
 use Rattle.js_values.specs.declared.throw.Throw.TheVariants.{InvalidCharacter, NotSupported, WrongArgument}
 use Rattle.js_values.specs.declared.value.Value.{Value}
-use Rattle.dom_tree.proofs.Proper.{folded_name}
+use Rattle.dom_tree.proofs.Callers.{folded_name}
 use Rattle.dom_tree.specs.Attributes.{value_of}
 use Rattle.dom_tree.specs.declared.content.Kind.{Kind}
 use Rattle.dom_tree.specs.declared.content.Kind.TheVariants as kind

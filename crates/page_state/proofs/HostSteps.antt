@@ -14,7 +14,7 @@ use Rattle.js_values.specs.declared.value.Value.{Value}
 use Rattle.js_values.specs.declared.value.Value.TheVariants.{Undefined}
 use Rattle.dom_tree.specs.declared.content.Kind.{Kind}
 use Rattle.dom_tree.specs.declared.content.Kind.TheVariants.{Element}
-use Rattle.dom_tree.proofs.Proper.{folded_name}
+use Rattle.dom_tree.proofs.Callers.{folded_name}
 use Rattle.dom_tree.specs.declared.fault.DomError.{DomError}
 use Rattle.dom_tree.specs.Change.{insertion_error, replacement_error}
 use Rattle.dom_tree.specs.Name.{folded, is_name}
