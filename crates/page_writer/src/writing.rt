@@ -23,7 +23,8 @@ use rebuild_plan::{Rebuild, plan};
 use std::alloc::Global;
 
 // The mark of form pages, and the start of the script. `$$` is a list there that no name of a page reaches.
-const HEAD: &[u8] = b"<!--imagen 1--><html><body></body><script>\"use strict\";try{throw[];}catch($$){\n";
+const HEAD: &[u8] =
+    b"<!--imagen 1--><html><body></body><script>\"use strict\";try{throw[];}catch($$){\n";
 
 const TAIL: &[u8] = b"}</script></html>";
 
