@@ -30,15 +30,6 @@ due_timer : (o : Option Live) (f : ObjId) → Some f ≡ option_map (λ t. t.cal
 due_timer None f h = cc
 due_timer (Some t) f h = let same : f ≡ t.call = cc in record { timer = t; there = refl; call = same }
 
--- no step is left for it
-pub no_step : (o : Option Live) (moment : ℕ) (s : Store) (m : Meter) → next_timer s.host moment ≡ o → is_some o ≡ true → m.steps ≡ 0 → Stops moment s m s
-no_step None moment s m is due none = cc
-no_step (Some t) moment s m is due none = λ next last. rw is (rw none refl)
-
-pub none_due : (o : Option Live) → is_some o ≡ true → None ≡ option_map (λ (t : Live). t.call) o → ⊥
-none_due None due h = cc
-none_due (Some t) due h = cc
-
 called_on : (moment : ℕ) (f : ObjId) (given : Signal) (s u v t : Store) (m mid m' : Meter) → IsDue (next_timer s.host moment) f → m.steps ≡ suc mid.steps → mid.depth ≡ m.depth
     → Does (λ _. changes_host (fires moment)) s tt u → Ended given v m'.steps ≡ ((calls_at mid.depth).call (Object f) (Object window) []).run u mid.steps → Does (λ _. put_uncaught given) v tt t
     → (next : Unit {0} → Act) (last : Act) → (fired (calls_at m.depth) moment next last (next_timer s.host moment)).run s m.steps ≡ (next tt).run t m'.steps
@@ -89,32 +80,6 @@ pub record Passes (moment : ℕ) (s : Store) (m : Meter) (d : ℕ) (o : Outcome 
   pub enough : m.steps < turns
   pub depth : m.depth ≡ d
   pub same : (firings turns (calls_at d) moment).run s m.steps ≡ o
-
-pub begins : (moment : ℕ) (s : Store) (m : Meter) → Passes moment s m m.depth ((pass_to (calls_at m.depth) moment).run s m.steps)
-begins moment s m = record { turns = suc m.steps; enough = omega arith; depth = refl; same = refl }
-
--- one that goes on
-turned : (moment : ℕ) (k : ℕ) (s t : Store) (m m' : Meter) (d : ℕ) (o : Outcome Signal) → m.steps < k → m.depth ≡ d → (firings k (calls_at d) moment).run s m.steps ≡ o → GoesOn moment s m t m'
-    → Passes moment t m' d o
-turned moment zero s t m m' d o enough depth same g = absurd (omega (arith, enough))
-turned moment (suc k) s t m m' d o enough depth same g =
-    record {
-      turns = k;
-      enough = omega (arith, enough, g.fewer);
-      depth = g.depth ∙ depth;
-      same = sym (rw depth at (g.same (λ _. firings k (calls_at d) moment) (bind (changes_host (clock_at moment)) (λ _. done)))) ∙ same;
-    }
-
-pub goes_on : (moment : ℕ) (s t : Store) (m m' : Meter) (d : ℕ) (o : Outcome Signal) → Passes moment s m d o → GoesOn moment s m t m' → Passes moment t m' d o
-goes_on moment s t m m' d o p g = turned moment p.turns s t m m' d o p.enough p.depth p.same g
-
--- one that stops
-stopped : (moment : ℕ) (k : ℕ) (s t : Store) (m : Meter) (d : ℕ) (o : Outcome Signal) → m.steps < k → m.depth ≡ d → (firings k (calls_at d) moment).run s m.steps ≡ o → Stops moment s m t → Stopped t ≡ o
-stopped moment zero s t m d o enough depth same g = absurd (omega (arith, enough))
-stopped moment (suc k) s t m d o enough depth same g = sym (rw depth at (g (λ _. firings k (calls_at d) moment) (bind (changes_host (clock_at moment)) (λ _. done)))) ∙ same
-
-pub stops : (moment : ℕ) (s t : Store) (m : Meter) (d : ℕ) (o : Outcome Signal) → Passes moment s m d o → Stops moment s m t → Stopped t ≡ o
-stops moment s t m d o p g = stopped moment p.turns s t m d o p.enough p.depth p.same g
 
 -- none is due any more
 none_left : (moment : ℕ) (k : ℕ) (s t : Store) (n d : ℕ) (o : Outcome Signal) (x : Option Live) → n < k → (firings k (calls_at d) moment).run s n ≡ o → next_timer s.host moment ≡ x → is_some x ≡ false
