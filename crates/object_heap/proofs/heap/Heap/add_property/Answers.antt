@@ -1,4 +1,4 @@
-use Rattle.std.proofs.Common.{◌<◌, ◌≤◌, ap, subst, sym, length, arith}
+use Rattle.std.proofs.Common.{◌<◌, ◌≤◌, ap, sym, length, arith}
 use Rattle.object_heap.specs.Heap.{Contents, add_property, with_added}
 use Rattle.object_heap.proofs.Missing.{object_past}
 use Rattle.object_heap.proofs.Resting.{added_kept}

@@ -1,4 +1,4 @@
-use Rattle.std.proofs.Common.{◌≡◌, ◌∙◌, ap}
+use Rattle.std.proofs.Common.{◌∙◌, ap}
 use Rattle.object_heap.specs.Heap.{Contents, with_objects}
 use Rattle.object_heap.specs.Rest.{all_rested, rested_at}
 use Rattle.object_heap.proofs.Resting.{all_kept, all_rest}
