@@ -11,14 +11,14 @@ use Rattle.page_meaning.specs.Lines.{put_uncaught}
 use Rattle.page_meaning.specs.Places.{window}
 use Rattle.page_meaning.specs.Primitives.{changes_host}
 use Rattle.page_meaning.specs.Store.{Store}
-use Rattle.page_meaning.specs.TimerRows.{fired, firings, pass_to}
+use Rattle.page_meaning.specs.TimerRows.{fired, firings}
 use Rattle.page_frames.specs.declared.meter.Meter.{Meter}
 use Rattle.page_state.specs.Does.{Does}
 use Rattle.step_parts.proofs.Callers.{fewer}
 use Rattle.page_machine.specs.declared.machine.End.{End}
 use Rattle.page_machine.specs.declared.machine.End.TheVariants as end
 use Rattle.page_machine.specs.Ends.{outcome_of}
-use Rattle.page_machine.specs.Firing.{EndIsPut, Fired, GoesOn, Stops}
+use Rattle.page_machine.specs.Firing.{EndIsPut, Fired, Stops}
 
 -- the timer that is due, with its function
 record IsDue (o : Option Live) (f : ObjId) : Type 0 where

@@ -117,10 +117,7 @@ fn fire(
         after_task (Fires kind.now bubbles cancelable k)) state.old) }
 {
     match element(state, at)? {
-        Some(node) => run_task(
-            state,
-            Task::Fires(kind.clone()?, bubbles, cancelable, node),
-        ),
+        Some(node) => run_task(state, Task::Fires(kind.clone()?, bubbles, cancelable, node)),
         None => Ok(()),
     }
 }
