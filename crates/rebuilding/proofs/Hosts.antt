@@ -27,7 +27,7 @@ use Rattle.agreement.specs.Acts.{clocks_of}
 use Rattle.heap_walker.proofs.Callers.{thing_of}
 use Rattle.heap_walker.specs.Bare.{frame_host, frame_nodes, is_ordinary, nth_node}
 use Rattle.heap_walker.specs.Still.{Still}
-use Rattle.heap_walker.specs.Things.{IsWalk, is_in}
+use Rattle.heap_walker.specs.Things.{IsWalk, Reach}
 use Rattle.object_shapes.specs.Links.{is_thing}
 use Rattle.object_shapes.specs.Shapes.{HasShape}
 use Rattle.rebuilding.specs.Rebuilt.{nth}
@@ -111,6 +111,7 @@ module _ (s : Store) (still : Still s) where
       k : ℕ
       k = nth things n
 
+      reach : Reach s k
       reach = walk.sound k (place_in things n below)
 
       high : built_in_count < k
@@ -194,4 +195,4 @@ module _ (s : Store) (h : Contents) (things sites : List ℕ) where
   pub hosts_rel : Still s → HostRel (clocks_of (rebuilt_world s h things sites)) (rebuilt_world s h things sites) s.host frame_host
   hosts_rel still =
       subst (λ (g : Host). HostRel (clocks_of W) W g frame_host) (sym still.bare.host)
-      (frames_rel s.host.clock refl (subst AreTrees (nodes_are s still) still.shaped.host.nodes.trees))
+      (frames_rel s.host.clock refl (subst AreTrees (nodes_are s still) still.shaped.host.sound.nodes.trees))
