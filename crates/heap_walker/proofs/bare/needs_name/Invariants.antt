@@ -1,7 +1,6 @@
 use Rattle.std.proofs.Common.{◌≡◌, length}
 use Rattle.heap_walker.specs.Things.{is_in, needs_links}
 use Rattle.page_meaning.specs.Places.{document}
-
 use Rattle.heap_walker.proofs.bare.needs_name.Given as goal
 
 abbrev pub invariant-loop-rest : goal.invariant-loop-rest
