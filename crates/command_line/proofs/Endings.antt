@@ -143,13 +143,11 @@ pub reading_is_refusal : (p e : List ℕ) (status : Status) (seen : Seen) → En
 reading_is_refusal p e Ok seen (inl h) n = absurd h
 reading_is_refusal p e Ok seen (inr (a, inl h)) n = absurd h
 reading_is_refusal p e Ok seen (inr (a, inr (b, inl h))) n = absurd h
-reading_is_refusal p e Ok seen (inr (a, inr (b, inr (c, inl h)))) n = absurd h
-reading_is_refusal p e Ok seen (inr (a, inr (b, inr (c, inr h)))) n = absurd h.1
+reading_is_refusal p e Ok seen (inr (a, inr (b, inr h))) n = absurd h.1
 reading_is_refusal p e WriteFault seen (inl h) n = absurd h
 reading_is_refusal p e WriteFault seen (inr (a, inl h)) n = absurd h
 reading_is_refusal p e WriteFault seen (inr (a, inr (b, inl h))) n = absurd h
-reading_is_refusal p e WriteFault seen (inr (a, inr (b, inr (c, inl h)))) n = absurd h
-reading_is_refusal p e WriteFault seen (inr (a, inr (b, inr (c, inr h)))) n = absurd h.1
+reading_is_refusal p e WriteFault seen (inr (a, inr (b, inr h))) n = absurd h.1
 reading_is_refusal p e OutOfMemory seen h n = inl n
 reading_is_refusal p e status seen h n = n
 
