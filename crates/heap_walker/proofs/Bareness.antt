@@ -1,12 +1,11 @@
 -- What the tests of a bare page say.
-use Rattle.std.proofs.Common.{◌≡◌, ◌∙◌, refl, sym, ap, subst, arith, ℕ, zero, suc, ◌+◌, ◌<◌, Bool, true, false, ◌||◌, List, [], ◌∷◌, ◌++◌, Option, Some, None, Result, Ok, Err, IfOk, is_some, not, option_map, length, nat_eq}
+use Rattle.std.proofs.Common.{◌≡◌, ◌∙◌, refl, sym, ap, subst, arith, ℕ, zero, suc, ◌+◌, Bool, true, false, List, [], ◌∷◌, ◌++◌, Option, Some, None, Result, Ok, Err, IfOk, is_some, not, option_map, length, nat_eq}
 use Rattle.std.proofs.lemmas.Bool.{eq-eqb, eqb-true}
 use Rattle.std.proofs.lemmas.List.Folds.{list_any-append}
 use Rattle.dom_tree.specs.Content.{new_content}
-use Rattle.dom_tree.specs.Node.{Node, Nodes, children_at, first_of, next_of, no_node, node_at, parent_at, rest_after}
+use Rattle.dom_tree.specs.Node.{Node, Nodes, children_at, first_of, next_of, node_at, parent_at, rest_after}
 use Rattle.dom_tree.specs.declared.content.Content.{Content}
-use Rattle.dom_tree.specs.declared.content.Kind.{Kind}
-use Rattle.dom_tree.specs.declared.content.Kind.TheVariants.{Document, Element}
+use Rattle.dom_tree.specs.declared.content.Kind.TheVariants.{Document}
 use Rattle.js_values.specs.declared.ids.NodeId.{NodeId}
 use Rattle.object_heap.specs.Chain.{object_at}
 use Rattle.page_meaning.specs.Places.{built_in_count, document}

@@ -1,6 +1,6 @@
 -- Which pages can be saved, until nodes, listeners and timers are saved, too: bare ones. They have the nodes of an empty page, as they were
 -- made, no listener and no timer, and nothing that can be reached has to do with a node or an event. This file goes when these are saved.
-use Rattle.std.specs.Prelude.{◌≡◌, ℕ, ◌+◌, ◌<◌, Bool, true, false, List, [], ◌∷◌, ◌++◌, Option, Some, None, codes, length}
+use Rattle.std.specs.Prelude.{◌≡◌, ℕ, ◌+◌, ◌<◌, Bool, true, false, List, [], ◌∷◌, Option, Some, None, codes, length}
 use Rattle.js_values.specs.declared.ids.NodeId.{NodeId}
 use Rattle.dom_tree.specs.Content.{new_content}
 use Rattle.dom_tree.specs.Node.{Node, Nodes, children_at, first_of, next_of, node_at, parent_at}
