@@ -1,4 +1,4 @@
-use Rattle.std.proofs.Common.{◌≡◌, ℕ, List, ◌∙◌, ◌+◌, ◌∷◌, true, drop, sym, ap}
+use Rattle.std.proofs.Common.{ℕ, List, ◌∙◌, ◌+◌, drop, sym, ap}
 use Rattle.object_heap.specs.Chain.{object_at}
 use Rattle.object_heap.specs.Property.{Props}
 use Rattle.object_heap.specs.declared.property.Prop.{Prop}
