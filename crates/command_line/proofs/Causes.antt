@@ -1,5 +1,5 @@
 -- The causes of a command's end exclude each other, and there is always one.
-use Rattle.std.proofs.Common.{◌≡◌, ℕ, ◌<◌, ◌≤◌, Bool, true, false, List, [], ◌∷◌, length, Option, Some, None, Result, Ok, Err, refl, sym, ap, ◌∙◌, subst, inl, inr, arith}
+use Rattle.std.proofs.Common.{◌≡◌, ℕ, ◌<◌, ◌≤◌, List, [], ◌∷◌, length, Option, Some, None, Result, Ok, Err, refl, sym, ap, ◌∙◌, subst, inl, inr, arith}
 use Rattle.std.specs.FinMap.{get}
 use Rattle.std.specs.Prelude.{◌⊎◌, All, IfSome}
 use Rattle.js_core.specs.Text.{utf16_of}
@@ -7,7 +7,6 @@ use Rattle.page_io.specs.Content.{Told}
 use Rattle.page_io.specs.Table.{Table}
 use Rattle.page_check.specs.Accept.{IsRefused}
 use Rattle.page_check.specs.declared.page.Refusal.{Refusal}
-use Rattle.page_check.specs.declared.page.Refusal.TheVariants.{NotPage}
 use Rattle.js_values.specs.declared.event.Event.{Event}
 use Rattle.event_file.specs.Events.{events_of}
 use Rattle.command_line.specs.declared.status.Status.{Status}
@@ -18,7 +17,7 @@ use Rattle.command_line.specs.Page.{page_limit, event_file_limit, Page, IsAccept
 use Rattle.command_line.specs.Parking.{AreUsed, greatest, last_version, listed}
 use Rattle.command_line.specs.Replay.{IsEventFile}
 use Rattle.command_line.specs.Saving.{IsTooLarge, IsMovable}
-use Rattle.command_line.specs.Stages.{Seen, Of, Held, IsNoEventFile, Stage, words, page_file, acceptance, event_file, moving, next_row, one_row, all_rows, Stops, StopsWriting, Passes, PassesAll, EndsAt, EndsBy, IsQuiet, CausesExclude, IsReadOrFailed, names_of, work_of, work_behind, reading, stages_of, SomeCause}
+use Rattle.command_line.specs.Stages.{Seen, Of, Held, IsNoEventFile, Stage, words, page_file, acceptance, event_file, moving, next_row, one_row, all_rows, Stops, Passes, PassesAll, EndsAt, EndsBy, IsQuiet, CausesExclude, IsReadOrFailed, names_of, work_of, work_behind, stages_of, SomeCause}
 use Rattle.command_line.proofs.Moves.{OneAcceptance}
 use Rattle.command_line.proofs.Numbers.{at_most_or_more}
 use Rattle.command_line.proofs.Outcomes.{one_weight, large_or_little, some_outcome}
