@@ -1,4 +1,3 @@
-pub mod Bareness
 pub mod Bindings
 pub mod Callers
 pub mod Joining
