@@ -14,7 +14,7 @@ pub use laws::law_walks_are_same;
 pub use needs::{Needs, needs_of};
 pub use nodes::{children, parent};
 pub use reached::{Walked, walk};
-pub use weight::{Weight, weigh, weight_of};
+pub use weight::{Weight, greatest, weigh, weight_of};
 
 /// How many built-in objects there are, the global object among them. The document is the next one, and all other objects are younger.
 pub const BUILT_IN_COUNT: u64 = 122;

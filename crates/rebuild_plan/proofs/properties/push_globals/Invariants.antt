@@ -4,7 +4,7 @@ use Rattle.page_meaning.specs.Places.{window}
 use Rattle.heap_walker.specs.Things.{globals_of}
 use Rattle.rebuild_plan.specs.Compact.{moved_props}
 use Rattle.rebuild_plan.specs.Plan.{defines}
-use Rattle.rebuild_plan.proofs.planning.push_globals.Given as goal
+use Rattle.rebuild_plan.proofs.properties.push_globals.Given as goal
 
 abbrev pub invariant-loop-name : goal.invariant-loop-name
 invariant-loop-name l =

@@ -2,7 +2,7 @@ use Rattle.std.proofs.Common.{◌≡◌, ◌++◌, ◌-◌, drop, length}
 use Rattle.object_heap.specs.Chain.{object_at}
 use Rattle.rebuild_plan.specs.Compact.{moved_props}
 use Rattle.rebuild_plan.specs.Plan.{defines}
-use Rattle.rebuild_plan.proofs.planning.push_properties.Given as goal
+use Rattle.rebuild_plan.proofs.properties.push_properties.Given as goal
 
 abbrev pub invariant-loop-name : goal.invariant-loop-name
 invariant-loop-name l =

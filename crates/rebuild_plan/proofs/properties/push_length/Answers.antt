@@ -8,7 +8,7 @@ use Rattle.rebuild_plan.specs.Compact.{moved_prop, moved_props}
 use Rattle.rebuild_plan.specs.Plan.{define_length}
 use Rattle.rebuild_plan.specs.declared.statement.Maker.TheVariants.{List as Array}
 use Rattle.rebuild_plan.proofs.Moving.{list_length, own_moved}
-use Rattle.rebuild_plan.proofs.planning.push_length.Goals as goal
+use Rattle.rebuild_plan.proofs.properties.push_length.Goals as goal
 
 pub returns : goal.returns
 returns c =

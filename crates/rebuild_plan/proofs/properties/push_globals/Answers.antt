@@ -7,7 +7,7 @@ use Rattle.page_meaning.specs.Places.{window}
 use Rattle.heap_walker.proofs.Callers.{from_place, past_places}
 use Rattle.rebuild_plan.specs.Compact.{moved_prop, moved_props}
 use Rattle.rebuild_plan.specs.Plan.{define, defines}
-use Rattle.rebuild_plan.proofs.planning.push_globals.Goals as goal
+use Rattle.rebuild_plan.proofs.properties.push_globals.Goals as goal
 
 pub loop-name-preserved : goal.loop-name-preserved
 loop-name-preserved c =

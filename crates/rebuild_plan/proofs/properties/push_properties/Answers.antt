@@ -7,7 +7,7 @@ use Rattle.object_heap.specs.declared.property.Prop.{Prop}
 use Rattle.heap_walker.proofs.Callers.{from_place, past_places}
 use Rattle.rebuild_plan.specs.Compact.{maker_as, moved_prop, moved_props}
 use Rattle.rebuild_plan.specs.Plan.{define, defines, has_length, has_prototype}
-use Rattle.rebuild_plan.proofs.planning.push_properties.Goals as goal
+use Rattle.rebuild_plan.proofs.properties.push_properties.Goals as goal
 
 pub loop-name-preserved : goal.loop-name-preserved
 loop-name-preserved c =
