@@ -1,5 +1,5 @@
 -- The dispatch of events in both pages (DOM Level 2 Events, section 1.2). What is handed on, a path or a round, keeps the naming at which it was read.
-use Rattle.std.proofs.Common.{◌≡◌, refl, ap, subst, ℕ, Bool, not, List, Option}
+use Rattle.std.proofs.Common.{◌≡◌, refl, ap, subst, Bool, not, List, Option}
 use Rattle.js_values.specs.declared.ids.NodeId.{NodeId}
 use Rattle.js_values.specs.declared.ids.ObjId.{ObjId}
 use Rattle.js_values.specs.declared.line.LineKind.TheVariants.{Uncaught}
@@ -11,8 +11,8 @@ use Rattle.page_host.specs.declared.path.Phase.{Phase}
 use Rattle.page_host.specs.declared.path.Place.{Place}
 use Rattle.page_host.specs.Listeners as host_listeners
 use Rattle.page_meaning.specs.Act.{Act, Calls}
-use Rattle.page_meaning.specs.Dispatch.{arrive, deliver, dispatch, dispatch_row, ended, object_of_place, parts_at, parts_or_new, round, run_listener, run_listeners, visit_places}
-use Rattle.page_meaning.specs.Events.{EventStep, arrives, begins, is_prevented, is_stopped, may_begin, rests}
+use Rattle.page_meaning.specs.Dispatch.{arrive, deliver, dispatch, dispatch_row, ended, object_of_place, parts_at, parts_or_new, round, run_listeners, visit_places}
+use Rattle.page_meaning.specs.Events.{arrives, begins, is_prevented, is_stopped, may_begin, rests}
 use Rattle.page_meaning.specs.Lines.{put_uncaught}
 use Rattle.page_meaning.specs.Store.{Store}
 use Rattle.page_meaning.specs.declared.signal.Signal.{Signal}

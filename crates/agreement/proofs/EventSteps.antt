@@ -1,10 +1,9 @@
 -- What is done to the parts of an event in both pages.
-use Rattle.std.proofs.Common.{◌≡◌, inl, refl, ap, ℕ, ◌&&◌, ◌+◌, [], ◌∷◌, Bool, true, false, not, if◌then◌else◌, length, length-set, Option, None, arith}
+use Rattle.std.proofs.Common.{◌≡◌, inl, refl, ap, ℕ, ◌&&◌, ◌+◌, [], ◌∷◌, Bool, true, false, not, if◌then◌else◌, length-set, Option, arith}
 use Rattle.js_core.specs.Text.{Text}
 use Rattle.js_values.specs.declared.ids.ObjId.{ObjId}
 use Rattle.object_heap.proofs.Callers.{kinds_steps}
 use Rattle.object_heap.specs.Chain.{object_at}
-use Rattle.object_heap.specs.Heap.{Contents}
 use Rattle.object_heap.specs.Laws.{IsSameKind, gives_parts}
 use Rattle.object_heap.specs.Laws as heap_laws
 use Rattle.object_heap.specs.Object.{Object, changed_event, with_class}

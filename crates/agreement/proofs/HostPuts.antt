@@ -1,5 +1,5 @@
 -- What a put does in both pages, where a name may be one of the host's (section 8.7.2; DOM Level 2 Core).
-use Rattle.std.proofs.Common.{◌≡◌, refl, subst, ℕ, List, [], ◌∷◌, Option, Some, None, length}
+use Rattle.std.proofs.Common.{refl, subst, ℕ, List, [], ◌∷◌, Option, Some, None, length}
 use Rattle.js_core.specs.Text.{Text}
 use Rattle.js_values.specs.declared.ids.NodeId.{NodeId}
 use Rattle.js_values.specs.declared.ids.ObjId.{ObjId}
@@ -18,7 +18,6 @@ use Rattle.page_meaning.specs.Act.{Calls}
 use Rattle.page_meaning.specs.Convert.{text_in}
 use Rattle.page_meaning.specs.HostNames.{Seen}
 use Rattle.page_meaning.specs.HostPuts.{fill, host_puts, node_puts, put_attribute, put_content, put_member, put_named, put_seen, put_text, stepped, text_or_empty}
-use Rattle.page_meaning.specs.Store.{Store}
 use Rattle.heap_relations.proofs.Callers.{larger_more}
 use Rattle.heap_relations.specs.Naming.{Named, World, named}
 use Rattle.heap_relations.specs.Related.{ClassRel, Maybe, ValueRel, array, bound, event, fault, math, native, node, none, null, num, object, page, plain, some, text, truth, undefined, window}
@@ -26,7 +25,7 @@ use Rattle.host_relations.proofs.Callers as host
 use Rattle.host_relations.proofs.Callers.{linked_up}
 use Rattle.host_relations.specs.Linked.{Linked}
 use Rattle.host_relations.specs.NodeSteps.{NodeStepRel, empties_rel, inserts_rel, sets_attribute_rel, sets_text_rel, sets_value_rel}
-use Rattle.agreement.specs.Acts.{Agrees, Equal, StoreRel}
+use Rattle.agreement.specs.Acts.{Agrees, Equal}
 use Rattle.agreement.proofs.Acts.{also_rel, asking_rel, bind_rel, choose_rel, then_rel}
 use Rattle.agreement.proofs.Heap.{class_rel, named_up, value_up}
 use Rattle.agreement.proofs.HostReads.{SeenRel, has_host_name_same, held_rel, hosted_rel, seen_at_rel}

@@ -1,8 +1,8 @@
 -- What objects that are related have and read of host names.
-use Rattle.std.proofs.Common.{◌≡◌, refl, ap, ◌<◌, ◌||◌, Bool, true, false, nat_lt, List, ℕ, Option, Some, None, length, if◌then◌else◌}
+use Rattle.std.proofs.Common.{◌≡◌, refl, ap, ◌||◌, Bool, true, false, Option, Some, None, length, if◌then◌else◌}
 use Rattle.std.proofs.lemmas.Bool.{lt-ltb}
 use Rattle.std.specs.Option.{option_map}
-use Rattle.std.specs.Prelude.{bytes_eq, Ok}
+use Rattle.std.specs.Prelude.{bytes_eq}
 use Rattle.js_core.specs.Text.{Text}
 use Rattle.js_values.specs.declared.ids.NodeId.{NodeId}
 use Rattle.js_values.specs.declared.ids.ObjId.{ObjId}

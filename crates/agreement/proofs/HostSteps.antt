@@ -1,13 +1,11 @@
 -- What is done to what the hosts of both pages keep.
 use Rattle.std.proofs.Common.{◌≡◌, inl, refl, Bool, true, false, if◌then◌else◌, arith}
 use Rattle.dom_tree.specs.Steps.{NodeStep}
-use Rattle.page_host.specs.Host.{Host}
 use Rattle.page_host.specs.Steps.{HostStep, after_host, in_nodes}
-use Rattle.page_meaning.specs.Act.{Act}
 use Rattle.page_meaning.specs.HostPuts.{stepped}
 use Rattle.page_meaning.specs.Primitives.{changes_host, changes_nodes}
 use Rattle.page_meaning.specs.Steps.{after_step, changed_host, fits_host, in_host}
-use Rattle.page_meaning.specs.Store.{Store, with_host}
+use Rattle.page_meaning.specs.Store.{Store}
 use Rattle.heap_relations.proofs.Callers as heap
 use Rattle.heap_relations.specs.Naming.{Larger, World}
 use Rattle.host_relations.proofs.Callers as host

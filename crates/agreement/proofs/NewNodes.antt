@@ -1,5 +1,5 @@
 -- New nodes and events in both pages.
-use Rattle.std.proofs.Common.{◌≡◌, inl, refl, sym, ◌≤◌, ℕ, Bool, true, if◌then◌else◌, length, Some, None, arith}
+use Rattle.std.proofs.Common.{◌≡◌, inl, refl, ◌≤◌, ℕ, true, if◌then◌else◌, length, Some, arith}
 use Rattle.dom_tree.specs.declared.content.Kind.{Kind}
 use Rattle.js_values.specs.declared.ids.ObjId.{ObjId}
 use Rattle.object_heap.proofs.Callers.{new_fit}
@@ -20,7 +20,7 @@ use Rattle.host_relations.proofs.Callers as host
 use Rattle.host_relations.specs.Joining.{joined}
 use Rattle.host_relations.specs.Linked.{Linked, with_pair}
 use Rattle.object_shapes.proofs.Callers as shapes
-use Rattle.agreement.specs.Acts.{ActRel, AreKept, HasBuiltIns, Ids, OutcomeRel, Relation, StoreRel, clocks_of, ended, stopped}
+use Rattle.agreement.specs.Acts.{ActRel, AreKept, HasBuiltIns, Ids, OutcomeRel, StoreRel, clocks_of, ended, stopped}
 use Rattle.agreement.proofs.Constants.{kept_other, kept_same, older_up, placed_up}
 
 pub node_prototype_there : node_prototype.0 ≤ built_in_count

@@ -1,5 +1,5 @@
 -- What the prototypes of nodes and events hold, in both pages (DOM Level 2 Core and Events).
-use Rattle.std.proofs.Common.{◌≡◌, refl, ap, subst, ℕ, Bool, true, false, not, ◌&&◌, List, Option, Some, None, is_some}
+use Rattle.std.proofs.Common.{◌≡◌, refl, ap, subst, Bool, true, false, not, List, Option, Some, None, is_some}
 use Rattle.std.proofs.lemmas.Bool.{and_from}
 use Rattle.std.specs.Prelude.{bytes_eq}
 use Rattle.std.specs.List.{list_any}
@@ -10,7 +10,7 @@ use Rattle.js_values.specs.declared.ids.NodeId.{NodeId}
 use Rattle.js_values.specs.declared.ids.ObjId.{ObjId}
 use Rattle.js_values.specs.declared.throw.Throw.TheVariants.{InvalidCharacter, NotSupported, WrongArgument}
 use Rattle.js_values.specs.declared.value.Value.{Value}
-use Rattle.dom_tree.proofs.Proper.{folded_name}
+use Rattle.dom_tree.proofs.Callers.{folded_name}
 use Rattle.dom_tree.specs.Attributes.{value_of}
 use Rattle.dom_tree.specs.declared.content.Kind.{Kind}
 use Rattle.dom_tree.specs.declared.content.Kind.TheVariants as kind
@@ -23,14 +23,13 @@ use Rattle.page_host.specs.declared.listener.Listener.{Listener}
 use Rattle.page_host.specs.HostNames.{attribute_at, is_handler, node_value, text_or_null}
 use Rattle.page_host.specs.Steps.{HostStep, forgets, listens, may_be_made}
 use Rattle.whole_ops.specs.Conversions.{is_true}
-use Rattle.page_meaning.specs.Act.{Act, Calls, choose}
+use Rattle.page_meaning.specs.Act.{Calls, choose}
 use Rattle.page_meaning.specs.Errors.{raise}
 use Rattle.page_meaning.specs.Events.{EventStep, initialises, prevents, stops}
-use Rattle.page_meaning.specs.HostPuts.{stepped}
 use Rattle.page_meaning.specs.NodeRows.{change_event, change_listeners, create_element, create_event, document_row, dom_throw, event_row, event_words, get_attribute, get_by_id, has_attribute, has_children, insert, insert_before, listener_of, new_node, node_row, on_node, remove, replace, set_attribute, unless_refused}
 use Rattle.page_meaning.specs.ObjectRows.{argument}
 use Rattle.page_meaning.specs.Store.{Store}
-use Rattle.heap_relations.proofs.Callers.{larger_more, larger_same}
+use Rattle.heap_relations.proofs.Callers.{larger_more}
 use Rattle.heap_relations.specs.Naming.{Larger, Named, World, named}
 use Rattle.heap_relations.specs.Related.{Each, ValueRel, each, no_more, none, null, num, object, some, text, truth, undefined}
 use Rattle.host_relations.proofs.Callers as host
@@ -38,7 +37,7 @@ use Rattle.host_relations.proofs.Callers.{linked_up}
 use Rattle.host_relations.specs.Hosts.{ListenerRel, StepRel, forgets_rel, listens_rel}
 use Rattle.host_relations.specs.Linked.{Linked}
 use Rattle.host_relations.specs.NodeSteps.{NodeStepRel, drops_attribute_rel, inserts_rel, replaces_rel, sets_attribute_rel, takes_out_rel}
-use Rattle.agreement.specs.Acts.{Agrees, Equal, Relation, StoreRel, clocks_of}
+use Rattle.agreement.specs.Acts.{Agrees, Equal, StoreRel, clocks_of}
 use Rattle.agreement.proofs.Acts.{asking_rel, bind_rel, choose_rel}
 use Rattle.agreement.proofs.Called.{is_true_same}
 use Rattle.agreement.proofs.Descriptors.{truth_same}

@@ -1,5 +1,5 @@
 -- What rows on nodes and events test, on values that are related.
-use Rattle.std.proofs.Common.{◌≡◌, refl, ap, subst, ℕ, ◌<◌, Bool, true, List, Option, Some, None}
+use Rattle.std.proofs.Common.{ap, subst, ℕ, Bool, List, Option}
 use Rattle.js_core.specs.Text.{Text}
 use Rattle.js_values.specs.declared.ids.NodeId.{NodeId}
 use Rattle.js_values.specs.declared.ids.ObjId.{ObjId}
@@ -13,7 +13,7 @@ use Rattle.page_meaning.specs.Act.{Act, Calls}
 use Rattle.page_meaning.specs.Convert.{text_in}
 use Rattle.page_meaning.specs.NodeRows.{node_in, object_in, on_event, on_kind, on_node, or_wrong, parts_in, with_callback, with_text}
 use Rattle.page_meaning.specs.Store.{Store}
-use Rattle.heap_relations.proofs.Callers.{larger_more, larger_same}
+use Rattle.heap_relations.proofs.Callers.{larger_more}
 use Rattle.heap_relations.specs.Naming.{Larger, Named, World, named}
 use Rattle.heap_relations.specs.Related.{ClassRel, Each, EventRel, Maybe, ObjectIds, ValueRel, array, bound, event, fault, math, native, node, none, null, num, object, page, plain, some, text, truth, undefined, window}
 use Rattle.host_relations.proofs.Callers as host
@@ -23,7 +23,7 @@ use Rattle.host_relations.specs.Nodes.{NodeIds}
 use Rattle.agreement.specs.Acts.{Agrees, Equal, Relation, StoreRel}
 use Rattle.agreement.proofs.Acts.{also_rel, asking_rel, choose_rel}
 use Rattle.agreement.proofs.Called.{is_callable_same}
-use Rattle.agreement.proofs.Heap.{value_up, values_up}
+use Rattle.agreement.proofs.Heap.{value_up}
 use Rattle.agreement.proofs.HostReads.{both_there}
 use Rattle.agreement.proofs.ObjectRows.{argument_rel}
 use Rattle.agreement.proofs.Properties.{class_of_rel, text_in_same}

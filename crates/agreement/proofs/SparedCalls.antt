@@ -22,7 +22,7 @@ use Rattle.page_meaning.specs.Functions.{function_steps}
 use Rattle.page_meaning.specs.Kept.{Keeps, keeps_all, keeps_on}
 use Rattle.page_meaning.specs.Names.{Here}
 use Rattle.page_meaning.specs.Store.{Store, with_heap}
-use Rattle.page_meaning.proofs.Stepping.{heap_of_steps}
+use Rattle.page_meaning.proofs.Callers.{heap_of_steps}
 use Rattle.page_meaning.specs.declared.signal.Signal.{Signal}
 use Rattle.page_meaning.specs.declared.signal.Signal.TheVariants as signal
 use Rattle.scope_analysis.specs.Names.{own_name}

@@ -1,5 +1,5 @@
 -- Timers in both pages, and time that passes: the clocks are apart, and stay so (HTML, timers).
-use Rattle.std.proofs.Common.{◌≡◌, refl, ap, subst, ℕ, ℤ, zero, suc, ◌+◌, max, List, Option, Some, None, length, nat_le, arith}
+use Rattle.std.proofs.Common.{◌≡◌, refl, ap, subst, ℕ, zero, suc, max, List, Option, Some, None, length, nat_le, arith}
 use Rattle.std.specs.Prelude.{pos}
 use Rattle.js_values.specs.declared.built_in.BuiltIn.{BuiltIn}
 use Rattle.js_values.specs.declared.built_in.BuiltIn.TheVariants as built_in
@@ -20,8 +20,8 @@ use Rattle.heap_relations.specs.Naming.{Larger, Named, World, named}
 use Rattle.heap_relations.specs.Related.{Each, Maybe, ValueRel, no_more, none, null, num, object, some, text, truth, undefined}
 use Rattle.host_relations.proofs.Callers as host
 use Rattle.host_relations.specs.Hosts.{clears_rel, clock_rel, fires_rel, starts_rel}
-use Rattle.host_relations.specs.Timers.{Clocks, MomentRel, TimerRel}
-use Rattle.agreement.specs.Acts.{ActRel, Agrees, CallsRel, Equal, Relation, StoreRel, clocks_of}
+use Rattle.host_relations.specs.Timers.{MomentRel, TimerRel}
+use Rattle.agreement.specs.Acts.{Agrees, CallsRel, Equal, Relation, clocks_of}
 use Rattle.agreement.proofs.Acts.{also_rel, asking_rel, bind_rel, choose_rel, on_built_ins}
 use Rattle.agreement.proofs.Called.{calls_up}
 use Rattle.agreement.proofs.Dispatching.{put_uncaught_rel}

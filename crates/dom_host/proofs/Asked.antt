@@ -1,5 +1,6 @@
 -- Rows ask what `this` and the arguments are, and go on with it, or throw.
 use Rattle.std.proofs.Common.{◌≡◌, refl, sym, ap, subst, ◌∙◌, ℕ, ◌<◌, Bool, true, false, List, Option, Some, None, Result, Ok, Err, length, is_some, if◌then◌else◌}
+use Rattle.std.specs.Prelude.{OnOk}
 use Rattle.std.specs.Result.{IsErr, IsErrAnd}
 use Rattle.std.proofs.lemmas.Bool.{ltb-true}
 use Rattle.std.proofs.lemmas.Option.{same_Some}
@@ -180,3 +181,7 @@ fails act f s t e (Err x) d h = rw (h.1) d
 pub text_same : (v : Value) (s t : Store) (x : Text) → Does (λ c. to_text c v) s (Val (value.Text x)) t → t ≡ s
 text_same (value.Object at) s t x d = cc (d.is (calls_at 0) 0)
 text_same v s t x d = cc (d.is (calls_at 0) 0)
+
+pub texts_same : (v : Value) (s t : Store) (r : Result Text (Failure Value)) → Gives (λ x. value.Text x) (λ c. to_text c v) s t r → OnOk r (t ≡ s)
+texts_same v s t (Ok x) d = text_same v s t x d
+texts_same v s t (Err e) d = tt

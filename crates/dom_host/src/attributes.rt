@@ -8,7 +8,7 @@ ghost use Rattle.page_meaning.specs.NodeRows.{node_row};
 ghost use Rattle.page_state.specs.Does.{Gives, itself};
 ghost use Rattle.dom_host.specs.Rows.{IsThere};
 
-use crate::tests::{found_element, text_argument};
+use crate::judged::{found_element, text_argument};
 use js_core::{OutOfMemory, Units};
 use js_values::{NodeId, Value};
 use page_state::{Fault, State};

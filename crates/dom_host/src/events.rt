@@ -10,7 +10,7 @@ ghost use Rattle.page_host.specs.Steps.{forgets, listens};
 ghost use Rattle.page_meaning.specs.NodeRows.{change_listeners, create_event as spec_create, event_words, node_row};
 ghost use Rattle.page_state.specs.Does.{Gives, itself};
 
-use crate::tests::{found_document, found_event, found_node, text_argument};
+use crate::judged::{found_document, found_event, found_node, text_argument};
 use js_core::{OutOfMemory, Units};
 use js_values::{NodeId, Throw, Value};
 use page_host::Listener;

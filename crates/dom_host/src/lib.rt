@@ -3,8 +3,8 @@
 
 mod attributes;
 mod events;
+mod judged;
 mod nodes;
 mod rows;
-mod tests;
 
 pub use rows::row;

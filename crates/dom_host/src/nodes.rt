@@ -13,7 +13,7 @@ ghost use Rattle.page_meaning.specs.NodeRows.{node_row};
 ghost use Rattle.page_state.specs.Does.{Gives, itself};
 ghost use Rattle.dom_host.specs.Rows.{IsThere, settle_nodes};
 
-use crate::tests::{found_document, found_node, text_argument};
+use crate::judged::{found_document, found_node, text_argument};
 use dom_tree::DomError;
 use js_core::Units;
 use js_values::{NodeId, Throw, Value};
@@ -142,9 +142,18 @@ fn unless_refused(
 {
     match answer {
         Ok(()) => Ok(given),
-        Err(DomError::Hierarchy) => Err(state.raise(Throw::Hierarchy)),
-        Err(DomError::NotFound) => Err(state.raise(Throw::NotFound)),
-        Err(DomError::BadName) => Err(state.raise(Throw::InvalidCharacter)),
+        Err(error) => Err(state.raise(thrown(error))),
+    }
+}
+
+// What is thrown where a change of nodes is refused.
+fn thrown(error: DomError) -> Throw
+    ensures { result ≡ spec.dom_throw error }
+{
+    match error {
+        DomError::Hierarchy => Throw::Hierarchy,
+        DomError::NotFound => Throw::NotFound,
+        DomError::BadName => Throw::InvalidCharacter,
     }
 }
 

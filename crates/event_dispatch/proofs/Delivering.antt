@@ -1,12 +1,11 @@
 -- How a dispatch begins, waits and ends.
-use Rattle.std.proofs.Common.{◌≡◌, refl, sym, ap, ◌∙◌, ℕ, suc, ◌+◌, ◌-◌, ◌*◌, ◌^◌, ◌<◌, ◌≤◌, Bool, true, false, not, List, [], ◌∷◌, length, Option, Some, None, is_some, Result, Ok, Err, IfOk, arith, le_refl}
+use Rattle.std.proofs.Common.{◌≡◌, refl, sym, ap, ◌∙◌, ℕ, suc, ◌+◌, ◌-◌, ◌*◌, ◌^◌, ◌<◌, ◌≤◌, Bool, true, false, not, List, length, Option, Some, None, is_some, Result, Ok, Err, IfOk, arith, le_refl}
 use Rattle.js_values.specs.declared.ids.NodeId.{NodeId}
 use Rattle.js_values.specs.declared.ids.ObjId.{ObjId}
 use Rattle.js_values.specs.declared.throw.Throw.TheVariants.{UnspecifiedEventType, WrongArgument}
 use Rattle.js_values.specs.declared.value.Value.{Value}
-use Rattle.js_values.specs.declared.value.Value.TheVariants.{Bool as Truth, Object}
+use Rattle.js_values.specs.declared.value.Value.TheVariants.{Bool as Truth}
 use Rattle.object_heap.specs.declared.object.EventParts.{EventParts}
-use Rattle.page_host.specs.declared.listener.Listener.{Listener}
 use Rattle.page_host.specs.declared.path.Place.{Place}
 use Rattle.page_host.specs.Paths.{event_path}
 use Rattle.page_meaning.specs.declared.signal.Signal.{Signal}
@@ -23,7 +22,6 @@ use Rattle.page_meaning.specs.NodeRows.{object_in, on_node, or_wrong, parts_in}
 use Rattle.page_meaning.specs.Primitives.{changes_event}
 use Rattle.page_meaning.specs.Store.{Store}
 use Rattle.page_frames.specs.declared.frame.Begin.TheVariants as begin
-use Rattle.page_frames.specs.declared.frame.CallFrame.{CallFrame}
 use Rattle.page_frames.specs.declared.frame.DeliverFrame.{DeliverFrame}
 use Rattle.page_frames.specs.declared.frame.Frame.TheVariants as frame
 use Rattle.page_frames.specs.declared.meter.Meter.{Meter}
@@ -35,20 +33,8 @@ use Rattle.page_frames.specs.Weight.{heavy, load, many}
 use Rattle.page_state.specs.Does.{Does}
 use Rattle.page_state.specs.Finding.{event_of, node_of, object_if}
 use Rattle.step_parts.proofs.Callers.{lowers_as}
-use Rattle.event_dispatch.specs.Turning.{BeginsBelow, Turns, deliver_value, left_at, next_at, weigh_left}
+use Rattle.event_dispatch.specs.Turning.{BeginsBelow, Turns, deliver_value, left_at, weigh_left}
 use Rattle.event_dispatch.proofs.Turning.{does_turn, turns_as}
-
-more_load : (n a b : ℕ) → a ≤ b → load n a ≤ load n b
-more_load n a b h = omega (arith, h)
-
--- ---- a listener
-
--- its call runs, and the dispatch waits for its end
-pub waits : (e : ObjId) (p : Place) (l : Listener) (ls : List Listener) (ps : List Place) (call : CallFrame) (s : Store)
-    → call ≡ record { construct = false; callee = Object l.call; this = Object (object_of_place p.node s); args = Object e ∷ [] }
-    → Turns (weigh_left (l ∷ ls) ps) (next_at e p l ls ps) s (Then (frame.Deliver (record { event = e; place = p; round = ls; later = ps })) (begin.Call call)) s
-waits e p l ls ps call s is m =
-    rw is (record { follows = refl; levels = refl; lighter = more_load m.steps (suc (weigh_left ls ps) + suc 0) (weigh_left (l ∷ ls) ps) (omega arith) })
 
 -- ---- the end
 

@@ -100,6 +100,11 @@ pub stopped_at : {E : Type 0} (e : ObjId) (p : Place) (ps all : List Place) (s t
 stopped_at e p ps all s t r is stopped h =
     turns_as (λ calls. visit_places calls e all) (λ _. ended e) 0 (length all * many) s t r (λ calls n. rw is (rw (← stopped) refl)) (omega arith) h
 
+-- none is left
+pub places_end : {E : Type 0} (e : ObjId) (all : List Place) (s t : Store) (r : Result Next E) → all ≡ [] → IfOk r (λ n. Turns 0 (λ _. ended e) s n t)
+    → IfOk r (λ n. Turns (length all * many) (λ calls. visit_places calls e all) s n t)
+places_end e all s t r is h = turns_as (λ calls. visit_places calls e all) (λ _. ended e) 0 (length all * many) s t r (λ calls n. rw is refl) (omega arith) h
+
 abbrev in_turn : ObjId → Place → List Place → Calls → Act
 in_turn e p ps calls = asking (dispatch.round e p) (run_listeners calls e p (visit_places calls e ps))
 

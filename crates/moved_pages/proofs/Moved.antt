@@ -1,5 +1,5 @@
 -- A moved page behaves as if it had never moved.
-use Rattle.std.proofs.Common.{◌≡◌, ap, ◌∙◌, ℕ, ◌+◌, ◌*◌, ◌<◌, ◌≤◌, List, [], ◌∷◌, drop, length, arith}
+use Rattle.std.proofs.Common.{◌≡◌, ap, ◌∙◌, ℕ, ◌+◌, ◌*◌, ◌<◌, ◌≤◌, List, [], drop, length, arith}
 use Rattle.heap_walker.specs.Weight as weight
 use Rattle.js_core.specs.Tree as tree
 use Rattle.js_print.specs.Lined.{LinedScriptsAreReadAgain}

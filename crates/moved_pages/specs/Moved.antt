@@ -1,5 +1,5 @@
 -- A moved page behaves as if it had never moved.
-use Rattle.std.specs.Prelude.{◌≡◌, ℕ, ◌≤◌, true, List, [], ◌∷◌, length, ◌++◌, ◌+◌, ◌*◌}
+use Rattle.std.specs.Prelude.{◌≡◌, ℕ, ◌≤◌, true, List, [], length, ◌++◌, ◌+◌, ◌*◌}
 use Rattle.std.specs.List.{All, list_all}
 use Rattle.dom_tree.specs.Sound.{IsSound}
 use Rattle.heap_walker.specs.Bare.{IsBare}

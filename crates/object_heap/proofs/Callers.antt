@@ -1,11 +1,10 @@
 -- What other crates cite of the heap's proofs.
-use Rattle.std.proofs.Common.{◌≡◌, refl, sym, ap, ◌∙◌, ℕ, ◌+◌, ◌<◌, ◌≤◌, Bool, true, false, ◌||◌, ◌&&◌, is_some, List, [], ◌∷◌, ◌++◌, Option, Some, None, length, slice_set, nat_lt, bytes_eq, arith}
+use Rattle.std.proofs.Common.{◌≡◌, refl, ap, ◌∙◌, ℕ, ◌+◌, ◌<◌, ◌≤◌, Bool, true, false, List, [], ◌∷◌, ◌++◌, Option, Some, None, length, map, slice_set, nat_lt, bytes_eq}
 use Rattle.std.proofs.Math.ListN.{get_or-append}
 use Rattle.std.proofs.Math.Seq.{get_or-append_seam}
 use Rattle.std.proofs.lemmas.Bool.{cond-false, cond-true, lt-ltb}
 use Rattle.std.proofs.lemmas.List.{get_or-set_same, get_or-set_other}
 use Rattle.std.specs.Option.{ForSome}
-use Rattle.global_names.specs.Names.{names_global}
 use Rattle.js_values.specs.declared.ids.EnvId.{EnvId}
 use Rattle.js_values.specs.declared.ids.ObjId.{ObjId}
 use Rattle.js_values.specs.declared.throw.Throw.TheVariants.{CannotDefine, CannotDelete, CannotSet}
@@ -16,20 +15,22 @@ use Rattle.object_heap.specs.declared.object.EventParts.{EventParts}
 use Rattle.object_heap.specs.declared.property.Change.{Change}
 use Rattle.object_heap.specs.declared.property.Prop.{Prop}
 use Rattle.object_heap.specs.Attempt.{done, throws}
-use Rattle.object_heap.specs.Chain.{AreOlder, can_put, first_found, found, get_property, object_at}
+use Rattle.object_heap.specs.Chain.{AreOlder, first_found, found, get_property, object_at}
 use Rattle.object_heap.specs.Define as object
 use Rattle.object_heap.specs.Define.{array_length, define_ordinary, defined_over, grown, has_writable_length, is_closed_at, length_name, with_length}
-use Rattle.object_heap.specs.Environment.{AreInside, Bound, Environment, environment_at, inside, new_environment, no_environment, value_of, with_bound, with_value_of}
-use Rattle.object_heap.specs.Heap.{Contents, IsFit, IsSound, add_property, at_object, close, define_own, delete, empty, first_bound, lookup, made, new_object, opened, prevent_extensions, put, set, set_dispatch, set_event, with_added, with_new_environment, with_new_object, with_object}
+use Rattle.object_heap.specs.Environment.{AreInside, Bound, Environment, environment_at, inside, no_environment, value_of, with_bound, with_value_of}
+use Rattle.object_heap.specs.Heap.{Contents, IsFit, IsSound, add_property, at_object, close, define_own, delete, empty, first_bound, lookup, made, new_object, opened, prevent_extensions, put, set, set_dispatch, set_event, with_added, with_new_object, with_object}
 use Rattle.object_heap.specs.Index.{index_of}
 use Rattle.object_heap.specs.Laws.{KeepsKinds, NeverFewer, OnlyThere, PutThenGet, StaysSound, adds, closes, defines, deletes, gives_parts, prevents, puts}
 use Rattle.object_heap.specs.Object.{class_at, dispatched, is_list, is_window, no_object, Object, older, settled, target_of, whole_object, with_props}
+use Rattle.object_heap.specs.Rest.{rest_down, rested}
 use Rattle.object_heap.specs.Property.{HasDistinctNames, Props, created, own_property, with_property, without_property}
 use Rattle.object_heap.proofs.Chains as chains
 use Rattle.object_heap.proofs.Distinct as distinct
 use Rattle.object_heap.proofs.Got as got
 use Rattle.object_heap.proofs.Lists as lists
 use Rattle.object_heap.proofs.Missing as missing
+use Rattle.object_heap.proofs.Resting as resting
 use Rattle.object_heap.proofs.Scopes as scopes
 use Rattle.object_heap.proofs.Sound as sound
 use Rattle.object_heap.proofs.Steps as steps
@@ -265,3 +266,9 @@ define_new_at h k name change open_place ordinary fresh extensible =
 -- a whole property is added
 pub added_new : (o : Object) (name : List ℕ) (p : Prop) → is_list o.class ≡ false → own_property o.props name ≡ None → with_added o name p ≡ with_props o (o.props ++ (name, p) ∷ [])
 added_new o name p ordinary fresh = rw ordinary (rw fresh refl)
+
+-- ---- events that rest
+
+-- the objects come to rest from the youngest down
+pub rested_down : (os : List Object) → rest_down (length os) os ≡ map rested os
+rested_down = resting.rested_down

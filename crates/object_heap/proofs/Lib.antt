@@ -14,6 +14,7 @@ pub mod Kept
 pub mod Lists
 pub mod Missing
 pub mod Others
+pub mod Resting
 pub mod Scopes
 pub mod Sound
 pub mod Steps

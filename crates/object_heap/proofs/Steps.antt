@@ -1,5 +1,5 @@
 -- What any steps keep.
-use Rattle.std.proofs.Common.{◌≡◌, ◌⊎◌, inl, inr, refl, sym, ap, subst, ◌∙◌, ℕ, ◌<◌, ◌≤◌, Bool, true, false, IsTrue, List, [], ◌∷◌, ◌++◌, Option, Some, None, length, length-append, length-set, slice_set, bytes_eq, arith}
+use Rattle.std.proofs.Common.{◌≡◌, ◌⊎◌, inl, inr, refl, sym, ap, subst, ◌∙◌, ℕ, ◌<◌, ◌≤◌, Bool, true, false, IsTrue, List, [], ◌∷◌, Some, length, length-append, length-set, slice_set, bytes_eq, arith}
 use Rattle.std.proofs.Math.ListN.{get_or-append}
 use Rattle.std.proofs.lemmas.Bool.{and_parts, cases_eq, ltb-true}
 use Rattle.std.proofs.lemmas.List.{get_or-set_other, get_or-set_same, set-get_or}
@@ -19,7 +19,7 @@ use Rattle.object_heap.specs.Environment.{environment_at, inside, new_environmen
 use Rattle.object_heap.specs.Heap.{Contents, IsSound, add_property, define_own, delete, prevent_extensions, put, set, with_object}
 use Rattle.object_heap.specs.Index.{index_of}
 use Rattle.object_heap.specs.Laws.{FrozenStays, IsFrozen, IsSameKind, KeepsKinds, LengthIsAbove, NeverFewer, OnlyThere, StaysSound, Step, adds, after_step, after_steps, binds, closes, defines, deletes, environment_of, gives_parts, is_tried, makes, object_of, opens, prevents, puts}
-use Rattle.object_heap.specs.Object.{changed_event, is_event, is_list, no_object, Object, settled}
+use Rattle.object_heap.specs.Object.{changed_event, is_event, no_object, Object, settled}
 use Rattle.object_heap.specs.Property.{own_property}
 use Rattle.object_heap.proofs.Frozen.{frozen_define_own, frozen_delete_own, frozen_prevented, frozen_put_own}
 use Rattle.object_heap.proofs.Kept.{Keeps, define_own_keeps, delete_own_keeps, prevented_keeps, put_own_keeps}

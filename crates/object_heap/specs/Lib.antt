@@ -11,3 +11,4 @@ pub mod Laws
 pub mod Object
 pub mod Property
 pub mod Refused
+pub mod Rest

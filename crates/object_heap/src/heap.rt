@@ -1,6 +1,6 @@
 //! The heap: objects and environments by age (ECMA-262 5.1 sections 8.6, 8.12 and 10.2).
 
-ghost use Rattle.std.specs.Prelude.{◌≡◌, ◌<◌, ◌≤◌, IfOk, IfSome, OnOk, OnErr, None, Some, false, length, nat_lt, option_map, slice_get};
+ghost use Rattle.std.specs.Prelude.{◌≡◌, ◌<◌, ◌≤◌, IfOk, IfSome, OnOk, OnErr, None, Some, false, length, nat_lt, not, option_map, slice_get, slice_set, ◌&&◌};
 ghost use Rattle.std.specs.Option.{option_copied};
 ghost use Rattle.std.specs.Map.{keys_of};
 ghost use Rattle.std.specs.Map.Iter.{deref_pair};
@@ -31,6 +31,7 @@ ghost use Rattle.object_heap.specs.Heap.{
   set_dispatch,
   set_event,
 };
+ghost use Rattle.object_heap.specs.Rest.{all_rested, is_resting, noted, rest_event, rested, rested_at, unlisted};
 
 use crate::absent::Absent;
 use crate::array::{length_name, number};
@@ -38,7 +39,7 @@ use crate::chain::{can_put, get_property};
 use crate::environment::{Bindings, Environment, inside, lookup};
 use crate::fault::HeapFault;
 use crate::function::{function_props, prototype_props, push_both};
-use crate::object::{Class, EventParts, Object, class_at, older};
+use crate::object::{Class, EventParts, Object, class_at, older, rests_at};
 use crate::properties::Properties;
 use crate::property::{Change, Prop};
 use js_core::{OutOfMemory, Units};
@@ -54,6 +55,8 @@ pub struct Heap {
     objects: Vec<Object>,
     environments: Vec<Environment>,
     absent: Absent,
+    // Each event that does not rest, and some that do.
+    restless: Vec<ObjId>,
 }
 
 // A function of its own, so that the crates above cite it and do not prove it again.
@@ -63,12 +66,14 @@ impl Drop for Heap {
             objects: _objects,
             environments: _environments,
             absent: _absent,
+            restless: _restless,
         } = self;
     }
 }
 
 impl Model for Heap {
-    ghost use Rattle.object_heap.specs.Heap.{Contents, IsSound};
+    ghost use Rattle.object_heap.specs.Heap.{Contents};
+    ghost use Rattle.object_heap.specs.Rest.{IsKept};
 
     ghost Value = { Contents };
 
@@ -79,8 +84,9 @@ impl Model for Heap {
 
     ghost view = { λ h. record { objects = h.objects.items; environments = h.environments.items } };
 
-    ghost invariant = { λ h. IsSound
-        (record { objects = h.objects.items; environments = h.environments.items }) };
+    ghost invariant = { λ h. IsKept
+        (record { objects = h.objects.items; environments = h.environments.items })
+        h.restless.items };
 }
 
 impl Heap {
@@ -92,6 +98,7 @@ impl Heap {
             objects: Vec::new(alloc),
             environments: Vec::new(alloc),
             absent: Absent::new(),
+            restless: Vec::new(alloc),
         }
     }
 
@@ -155,6 +162,8 @@ impl Heap {
         let function = Object::new(class_at(class, at), older(proto, at), props);
         let props = prototype_props(alloc, ObjId(at))?;
         let prototype = Object::new(Class::Plain, older(above, next), props);
+        let leaves = stirs_new(&function);
+        note(&mut self.restless, ObjId(at), leaves)?;
         push_both(&mut self.objects, function, prototype)?;
         Ok(ObjId(at))
     }
@@ -173,6 +182,8 @@ impl Heap {
     {
         let at = self.objects.len() as u64;
         let object = Object::new(class_at(class, at), older(proto, at), props);
+        let leaves = stirs_new(&object);
+        note(&mut self.restless, ObjId(at), leaves)?;
         self.objects.push(object)?;
         Ok(ObjId(at))
     }
@@ -364,19 +375,24 @@ impl Heap {
         self.objects[at.0 as usize].close();
     }
 
-    /// The event gets these parts. An object that is no event stays as it is. No memory.
-    pub fn set_event(&mut self, at: ObjId, parts: EventParts)
-        ensures { self.new ≡ set_event self.old at.0 parts }
+    /// The event gets these parts. An object that is no event stays as it is. After an error nothing has changed.
+    pub fn set_event(&mut self, at: ObjId, parts: EventParts) -> Result<(), OutOfMemory>
+        ensures ok { OnOk result (self.new ≡ set_event self.old at.0 parts) }
+        ensures err { OnErr result (self.new ≡ self.old) }
     {
         if at.0 as usize >= self.objects.len() {
-            return;
+            return Ok(());
         }
+        let rests = rests_at(parts.current, parts.phase);
+        let leaves = stirs(&self.objects[at.0 as usize], rests);
+        note(&mut self.restless, at, leaves)?;
         self.objects[at.0 as usize].set_event(parts);
+        Ok(())
     }
 
     /// The event gets this state of a dispatch: whether it has begun, its target, the object that it is at, and its phase,
     /// plus 4 after its propagation was stopped, plus 8 after its default was prevented. An object that is no event stays
-    /// as it is. No memory.
+    /// as it is. Memory is wanted where an event that rests does not any more. After an error nothing has changed.
     pub fn set_dispatch(
         &mut self,
         at: ObjId,
@@ -384,13 +400,38 @@ impl Heap {
         target: Option<ObjId>,
         current: Option<ObjId>,
         phase: u8,
-    )
-        ensures { self.new ≡ set_dispatch self.old at.0 sent target current phase }
+    ) -> Result<(), OutOfMemory>
+        ensures ok { OnOk result (self.new
+            ≡ set_dispatch self.old at.0 sent target current phase) }
+        ensures err { OnErr result (self.new ≡ self.old) }
+    {
+        if at.0 as usize >= self.objects.len() {
+            return Ok(());
+        }
+        let rests = rests_at(current, phase);
+        let leaves = stirs(&self.objects[at.0 as usize], rests);
+        note(&mut self.restless, at, leaves)?;
+        self.objects[at.0 as usize].set_dispatch(sent, target, current, phase);
+        Ok(())
+    }
+
+    /// The event is as after a dispatch: at no object and in no phase. An object that is no event stays as it is. No memory.
+    pub fn rest_event(&mut self, at: ObjId)
+        ensures { self.new ≡ rest_event self.old at.0 }
     {
         if at.0 as usize >= self.objects.len() {
             return;
         }
-        self.objects[at.0 as usize].set_dispatch(sent, target, current, phase);
+        self.objects[at.0 as usize].rest();
+        forget(&mut self.restless, at);
+    }
+
+    /// All events are as after a dispatch. Only those that do not rest are looked at. No memory.
+    pub fn rest_events(&mut self)
+        ensures { self.new ≡ all_rested self.old }
+    {
+        rest_each(&mut self.objects, self.restless.as_slice());
+        self.restless.clear();
     }
 
     /// A new environment, the youngest, with these names and values, which are not copied, inside another one, if any. One
@@ -456,6 +497,58 @@ impl Heap {
         }
         self.environments[env.0 as usize].set(name, value);
     }
+}
+
+// Whether the object rests, and does not once it has other parts.
+fn stirs(object: &Object, rests: bool) -> bool
+    ensures { result ≡ (is_resting object.now.class && not rests) }
+{
+    object.is_resting() && !rests
+}
+
+// Whether a new object does not rest.
+fn stirs_new(object: &Object) -> bool
+    ensures { result ≡ not (is_resting object.now.class) }
+{
+    !object.is_resting()
+}
+
+// The event is put on the list, if it is to be.
+fn note(restless: &mut Vec<ObjId>, at: ObjId, leaves: bool) -> Result<(), OutOfMemory>
+    ensures ok { OnOk result (restless.new.items ≡ noted leaves at restless.old.items) }
+    ensures err { OnErr result (restless.new.items ≡ restless.old.items) }
+{
+    if leaves {
+        restless.push(at)?;
+    }
+    Ok(())
+}
+
+// The event is taken off the list.
+fn forget(restless: &mut Vec<ObjId>, at: ObjId)
+    ensures { restless.new.items ≡ unlisted at restless.old.items }
+{
+    restless.retain(|other| other.0 != at.0);
+}
+
+// The objects at the places, one after another, are as after a dispatch.
+#[tactic(auto, using(crate::proofs::Resting::one_rested, crate::proofs::Resting::none_left_to_rest))]
+fn rest_each(objects: &mut Vec<Object>, listed: &[ObjId])
+    ensures { objects.new.items ≡ rested_at listed.now objects.old.items }
+{
+    for at in listed {
+        rest_at(objects, *at);
+    }
+}
+
+fn rest_at(objects: &mut Vec<Object>, at: ObjId)
+    ensures { objects.new.items ≡ slice_set objects.old.items at.0
+        (rested (object_at objects.old.items at.0)) }
+{
+    if at.0 as usize >= objects.len() {
+        return;
+    }
+    objects[at.0 as usize].rest();
 }
 
 // The properties of a new object.

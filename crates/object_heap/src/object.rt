@@ -19,6 +19,7 @@ ghost use Rattle.object_heap.specs.Object.{
   with_props,
 };
 ghost use Rattle.object_heap.specs.Property.{own_property, with_property, without_property};
+ghost use Rattle.object_heap.specs.Rest.{is_resting, rested, rests_at};
 
 use crate::properties::Properties;
 use crate::property::Prop;
@@ -137,6 +138,16 @@ impl Class {
         matches!(self, Class::Window)
     }
 
+    // Whether it is no event, or one that rests.
+    fn is_resting(&self) -> bool
+        ensures { result ≡ is_resting self.now }
+    {
+        match self {
+            Class::Event(parts) => rests_at(parts.current, parts.phase),
+            _ => true,
+        }
+    }
+
     // Whether it is the class of a bound function whose target is not older than the place.
     fn has_no_target(&self, at: u64) -> bool
         ensures { (if result then Plain else self.now) ≡ class_at at self.now }
@@ -146,6 +157,13 @@ impl Class {
             _ => false,
         }
     }
+}
+
+/// Whether an event rests that is at this object and in this phase.
+pub(crate) fn rests_at(current: Option<ObjId>, phase: u8) -> bool
+    ensures { result ≡ rests_at current phase }
+{
+    current.is_none() && phase == 0
 }
 
 /// The class of an object at the place: a bound function whose target is not older is none.
@@ -188,6 +206,13 @@ impl Object {
         ensures { result.now ≡ self.now.class }
     {
         &self.class
+    }
+
+    /// Whether it is no event, or one that rests.
+    pub(crate) fn is_resting(&self) -> bool
+        ensures { result ≡ is_resting self.now.class }
+    {
+        self.class.is_resting()
     }
 
     /// Its prototype.
@@ -301,6 +326,16 @@ impl Object {
             parts.target = target;
             parts.current = current;
             parts.phase = phase;
+        }
+    }
+
+    /// An event is as after a dispatch. Nothing changes where it is none. No memory.
+    pub(crate) fn rest(&mut self)
+        ensures { self.new ≡ rested self.old }
+    {
+        if let Class::Event(parts) = &mut self.class {
+            parts.current = None;
+            parts.phase = 0;
         }
     }
 }

@@ -1,5 +1,5 @@
 -- An opened page puts out the lines of the page.
-use Rattle.std.proofs.Common.{◌≡◌, ◌∙◌, refl, sym, ap, ℕ, List, ◌++◌, drop, length}
+use Rattle.std.proofs.Common.{◌≡◌, ◌∙◌, refl, sym, ap, List, ◌++◌, drop, length}
 use Rattle.dom_tree.specs.Node.{Nodes}
 use Rattle.dom_tree.specs.Sound.{IsSound}
 use Rattle.js_core.specs.Tree as tree

@@ -1,5 +1,5 @@
 -- That the text of a plain page with opened scopes is its own, with its opened scripts.
-use Rattle.std.proofs.Common.{◌≡◌, ◌∙◌, sym, ap, ℕ, List, map, Result, Ok, Err, IfOk}
+use Rattle.std.proofs.Common.{◌≡◌, ◌∙◌, ap, ℕ, List, map, Result, Ok, Err, IfOk}
 use Rattle.std.specs.Prelude.{◌++◌}
 use Rattle.instrumenter.specs.Opening.{open_scripts}
 use Rattle.js_core.specs.Text.{utf16_of}

@@ -12,8 +12,7 @@ use Rattle.dom_tree.specs.Content.{new_content}
 use Rattle.dom_tree.specs.Node.{Nodes, is_document, with_new}
 use Rattle.dom_tree.specs.Sound.{has_folded_name}
 use Rattle.dom_tree.specs.Steps.{NodeStep, after_node}
-use Rattle.timer_queue.proofs.Callers.{is_low, timers_stay_timely}
-use Rattle.timer_queue.proofs.IdLemmas.{keeps_distinct_ids}
+use Rattle.timer_queue.proofs.Callers.{is_low, keeps_distinct_ids, timers_stay_timely}
 use Rattle.timer_queue.specs.Laws.{HasDistinctIds}
 use Rattle.timer_queue.specs.Timely.{AreTimely, IsPeriod}
 use Rattle.timer_queue.specs.Timers.{after_first, timer_limit}

@@ -1,3 +1,4 @@
+pub mod Callers
 pub mod Families
 pub mod Passing
 pub mod Scripts

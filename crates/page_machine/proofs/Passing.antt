@@ -1,5 +1,5 @@
 -- Time passes: timers come due one after another.
-use Rattle.std.proofs.Common.{◌≡◌, refl, sym, ap, ◌∙◌, ℕ, zero, suc, ◌<◌, ◌≤◌, Bool, true, false, [], Option, Some, None, is_some, option_map, arith}
+use Rattle.std.proofs.Common.{◌≡◌, refl, sym, ap, ◌∙◌, ℕ, zero, suc, ◌<◌, ◌≤◌, Bool, true, false, [], Option, Some, None, is_some, option_map, Result, Ok, Err, IfOk, arith}
 use Rattle.js_values.specs.declared.ids.ObjId.{ObjId}
 use Rattle.js_values.specs.declared.value.Value.TheVariants.{Object}
 use Rattle.timer_queue.specs.declared.timer.Live.{Live}
@@ -11,14 +11,14 @@ use Rattle.page_meaning.specs.Lines.{put_uncaught}
 use Rattle.page_meaning.specs.Places.{window}
 use Rattle.page_meaning.specs.Primitives.{changes_host}
 use Rattle.page_meaning.specs.Store.{Store}
-use Rattle.page_meaning.specs.TimerRows.{fired, firings, pass_to}
+use Rattle.page_meaning.specs.TimerRows.{fired, firings}
 use Rattle.page_frames.specs.declared.meter.Meter.{Meter}
 use Rattle.page_state.specs.Does.{Does}
 use Rattle.step_parts.proofs.Callers.{fewer}
 use Rattle.page_machine.specs.declared.machine.End.{End}
 use Rattle.page_machine.specs.declared.machine.End.TheVariants as end
 use Rattle.page_machine.specs.Ends.{outcome_of}
-use Rattle.page_machine.specs.Firing.{EndIsPut, Fired, GoesOn, Stops}
+use Rattle.page_machine.specs.Firing.{EndIsPut, Fired, Stops}
 
 -- the timer that is due, with its function
 record IsDue (o : Option Live) (f : ObjId) : Type 0 where
@@ -29,15 +29,6 @@ record IsDue (o : Option Live) (f : ObjId) : Type 0 where
 due_timer : (o : Option Live) (f : ObjId) → Some f ≡ option_map (λ t. t.call) o → IsDue o f
 due_timer None f h = cc
 due_timer (Some t) f h = let same : f ≡ t.call = cc in record { timer = t; there = refl; call = same }
-
--- no step is left for it
-pub no_step : (o : Option Live) (moment : ℕ) (s : Store) (m : Meter) → next_timer s.host moment ≡ o → is_some o ≡ true → m.steps ≡ 0 → Stops moment s m s
-no_step None moment s m is due none = cc
-no_step (Some t) moment s m is due none = λ next last. rw is (rw none refl)
-
-pub none_due : (o : Option Live) → is_some o ≡ true → None ≡ option_map (λ (t : Live). t.call) o → ⊥
-none_due None due h = cc
-none_due (Some t) due h = cc
 
 called_on : (moment : ℕ) (f : ObjId) (given : Signal) (s u v t : Store) (m mid m' : Meter) → IsDue (next_timer s.host moment) f → m.steps ≡ suc mid.steps → mid.depth ≡ m.depth
     → Does (λ _. changes_host (fires moment)) s tt u → Ended given v m'.steps ≡ ((calls_at mid.depth).call (Object f) (Object window) []).run u mid.steps → Does (λ _. put_uncaught given) v tt t
@@ -59,7 +50,7 @@ stopped_in moment f s u v m mid due step depth fire ran next last =
     ∙ rw ran' refl))
 
 -- a timer fires, and what it came to is put out
-pub fires_next : (moment : ℕ) (f : ObjId) (e : End) (on : Bool) (s u v t : Store) (m mid m' : Meter) → Some f ≡ option_map (λ x. x.call) (next_timer s.host moment) → m.steps ≡ suc mid.steps
+fires_next : (moment : ℕ) (f : ObjId) (e : End) (on : Bool) (s u v t : Store) (m mid m' : Meter) → Some f ≡ option_map (λ x. x.call) (next_timer s.host moment) → m.steps ≡ suc mid.steps
     → mid.depth ≡ m.depth → m'.depth ≡ mid.depth → Does (λ _. changes_host (fires moment)) s tt u
     → outcome_of e v m'.steps ≡ ((calls_at mid.depth).call (Object f) (Object window) []).run u mid.steps → EndIsPut e v on t → Fired moment s m on t m'
 fires_next moment f (end.Ended given) true s u v t m mid m' due step depth stays fire ran put =
@@ -75,6 +66,12 @@ fires_next moment f end.Stopped true s u v t m mid m' due step depth stays fire 
 fires_next moment f end.Stopped false s u v t m mid m' due step depth stays fire ran put =
     rw put (stopped_in moment f s u v m mid (due_timer (next_timer s.host moment) f due) step depth fire ran)
 
+pub fires_if : {E : Type 0} (moment : ℕ) (f : ObjId) (e : End) (r : Result Bool E) (s u v t : Store) (m mid m' : Meter) → Some f ≡ option_map (λ x. x.call) (next_timer s.host moment) → m.steps ≡ suc mid.steps
+    → mid.depth ≡ m.depth → m'.depth ≡ mid.depth → Does (λ _. changes_host (fires moment)) s tt u
+    → outcome_of e v m'.steps ≡ ((calls_at mid.depth).call (Object f) (Object window) []).run u mid.steps → IfOk r (λ on. EndIsPut e v on t) → IfOk r (λ on. Fired moment s m on t m')
+fires_if moment f e (Err x) s u v t m mid m' due step depth stays fire ran put = put
+fires_if moment f e (Ok on) s u v t m mid m' due step depth stays fire ran put = fires_next moment f e on s u v t m mid m' due step depth stays fire ran put
+
 -- ---- from firing to firing
 
 -- there are no more firings than steps are left, and one, and what is left to do has this outcome
@@ -83,32 +80,6 @@ pub record Passes (moment : ℕ) (s : Store) (m : Meter) (d : ℕ) (o : Outcome 
   pub enough : m.steps < turns
   pub depth : m.depth ≡ d
   pub same : (firings turns (calls_at d) moment).run s m.steps ≡ o
-
-pub begins : (moment : ℕ) (s : Store) (m : Meter) → Passes moment s m m.depth ((pass_to (calls_at m.depth) moment).run s m.steps)
-begins moment s m = record { turns = suc m.steps; enough = omega arith; depth = refl; same = refl }
-
--- one that goes on
-turned : (moment : ℕ) (k : ℕ) (s t : Store) (m m' : Meter) (d : ℕ) (o : Outcome Signal) → m.steps < k → m.depth ≡ d → (firings k (calls_at d) moment).run s m.steps ≡ o → GoesOn moment s m t m'
-    → Passes moment t m' d o
-turned moment zero s t m m' d o enough depth same g = absurd (omega (arith, enough))
-turned moment (suc k) s t m m' d o enough depth same g =
-    record {
-      turns = k;
-      enough = omega (arith, enough, g.fewer);
-      depth = g.depth ∙ depth;
-      same = sym (rw depth at (g.same (λ _. firings k (calls_at d) moment) (bind (changes_host (clock_at moment)) (λ _. done)))) ∙ same;
-    }
-
-pub goes_on : (moment : ℕ) (s t : Store) (m m' : Meter) (d : ℕ) (o : Outcome Signal) → Passes moment s m d o → GoesOn moment s m t m' → Passes moment t m' d o
-goes_on moment s t m m' d o p g = turned moment p.turns s t m m' d o p.enough p.depth p.same g
-
--- one that stops
-stopped : (moment : ℕ) (k : ℕ) (s t : Store) (m : Meter) (d : ℕ) (o : Outcome Signal) → m.steps < k → m.depth ≡ d → (firings k (calls_at d) moment).run s m.steps ≡ o → Stops moment s m t → Stopped t ≡ o
-stopped moment zero s t m d o enough depth same g = absurd (omega (arith, enough))
-stopped moment (suc k) s t m d o enough depth same g = sym (rw depth at (g (λ _. firings k (calls_at d) moment) (bind (changes_host (clock_at moment)) (λ _. done)))) ∙ same
-
-pub stops : (moment : ℕ) (s t : Store) (m : Meter) (d : ℕ) (o : Outcome Signal) → Passes moment s m d o → Stops moment s m t → Stopped t ≡ o
-stops moment s t m d o p g = stopped moment p.turns s t m d o p.enough p.depth p.same g
 
 -- none is due any more
 none_left : (moment : ℕ) (k : ℕ) (s t : Store) (n d : ℕ) (o : Outcome Signal) (x : Option Live) → n < k → (firings k (calls_at d) moment).run s n ≡ o → next_timer s.host moment ≡ x → is_some x ≡ false

@@ -99,14 +99,6 @@ pub stopped_told : {E : Type 0} (r : Result (Unit {0}) E) (e : End) (words : Lis
 stopped_told (Err x) e words s u t is w rest h = tt
 stopped_told (Ok o) e words s u t is w rest h = λ n. rw (is, ← w, ← rest) (line_put StoppedLine words u t h)
 
--- any other end is not told
-pub untold : (e : End) (g : Signal) (s u : Store) (n : ℕ) → e ≡ end.Ended g → ((v : Value) → g ≡ Thrown v → ⊥) → u ≡ settled s → u ≡ finished (outcome_of e s n)
-untold e (Thrown v) s u n is h rest = absurd (h v refl)
-untold e (Val v) s u n is h rest = rw is rest
-untold e (Return v) s u n is h rest = rw is rest
-untold e Break s u n is h rest = rw is rest
-untold e Continue s u n is h rest = rw is rest
-
 -- ---- events of the host
 
 pub event_fired : {E : Type 0} (calls : Calls) (x : List ℕ) (bubbles cancelable : Bool) (k : NodeId) (at : ObjId) (s u v t : Store) (n j : ℕ) (r : Result End E) → Does (λ _. make_event) s at u

@@ -1,7 +1,7 @@
 -- A turn of the loop keeps what there is yet to do, and makes it lighter.
-use Rattle.std.proofs.Common.{◌≡◌, ℕ, zero, suc, ◌+◌, ◌<◌, ◌^◌, ◌≤◌, List, [], ◌∷◌, ◌++◌, reverse, refl, sym, ap, ◌∙◌, subst, arith}
+use Rattle.std.proofs.Common.{◌≡◌, ℕ, suc, ◌+◌, ◌<◌, ◌^◌, List, [], ◌∷◌, ◌++◌, reverse, refl, arith}
 use Rattle.page_meaning.specs.declared.signal.Signal.{Signal}
-use Rattle.page_meaning.specs.Act.{Act, Outcome, Ended, Stopped, then_on}
+use Rattle.page_meaning.specs.Act.{Outcome, Ended, Stopped, then_on}
 use Rattle.page_meaning.specs.Calls.{calls_at}
 use Rattle.page_meaning.specs.Store.{Store}
 use Rattle.page_frames.specs.declared.frame.Begin.{Begin}

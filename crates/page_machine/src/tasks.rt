@@ -188,7 +188,12 @@ fn call_timer(state: &mut State, function: ObjId, meter: &mut Meter) -> Result<E
     ensures depth { OnOk result (meter.new.depth ≡ meter.old.depth) }
 {
     let mut own = *meter;
-    let end = call_with(state, Value::Object(function), Value::Object(WINDOW), &mut own)?;
+    let end = call_with(
+        state,
+        Value::Object(function),
+        Value::Object(WINDOW),
+        &mut own,
+    )?;
     meter.steps = own.steps;
     Ok(end)
 }

@@ -1,4 +1,5 @@
 pub mod Ages
 pub mod Beginning
+pub mod Callers
 pub mod Keeping
 pub mod Stepping

@@ -1,7 +1,7 @@
 -- Tables of functions, of which one row after another is used.
-use Rattle.std.proofs.Common.{◌≡◌, refl, sym, ap, subst, ◌∙◌, ℕ, suc, ◌+◌, ◌<◌, Bool, true, false, not, ◌&&◌, List, [], ◌∷◌, ◌++◌, length, drop, get_or, add-one, Option, Some, None, is_some, append_assoc, bytes_eq}
+use Rattle.std.proofs.Common.{◌≡◌, refl, sym, ap, subst, ◌∙◌, ℕ, ◌+◌, ◌<◌, Bool, true, false, not, ◌&&◌, List, [], ◌∷◌, length, drop, get_or, add-one, Option, Some, None, is_some, bytes_eq}
 use Rattle.std.proofs.Math.Seq.{drop-cons}
-use Rattle.std.proofs.lemmas.List.{get_or-map, length-map, length-set, set-get_or, set-set}
+use Rattle.std.proofs.lemmas.List.{length-set, set-get_or, set-set}
 use Rattle.std.specs.Borrow.{Bor}
 use Rattle.std.proofs.lemmas.Bool.{and_parts, cond-false, cond-true, not-true}
 use Rattle.js_values.specs.declared.built_in.BuiltIn.{BuiltIn}
@@ -17,12 +17,11 @@ use Rattle.object_heap.specs.Define.{is_closed_at, length_name}
 use Rattle.object_heap.specs.Heap.{Contents, at_object, define_own, with_object, with_objects}
 use Rattle.object_heap.specs.Index.{index_of}
 use Rattle.object_heap.specs.Object.{Object, is_list, is_window, no_object}
-use Rattle.object_heap.specs.Property.{Props, own_property}
+use Rattle.object_heap.specs.Property.{own_property}
 use Rattle.object_heap.proofs.Callers.{object_set_same, open_at, ordinary_new}
 use Rattle.page_meaning.specs.Places.{function_at}
-use Rattle.page_meaning.specs.Pristine.{method, methods}
 use Rattle.page_meaning.specs.Tables.{Method}
-use Rattle.page_start.specs.BuiltIns.{are_new, hidden_change, method_given, methods_given, rows, takes, takes_all, with_method, with_methods}
+use Rattle.page_start.specs.BuiltIns.{hidden_change, method_given, methods_given, rows, takes, takes_all, with_method, with_methods}
 
 abbrev pub Row : Type 0
 Row = Bor (List ℕ) × BuiltIn × ℕ

@@ -1,5 +1,5 @@
 -- The objects of nodes, which are made one after another.
-use Rattle.std.proofs.Common.{◌≡◌, refl, sym, ap, ◌∙◌, ℕ, suc, ◌+◌, ◌<◌, ◌≤◌, List, [], ◌∷◌, ◌++◌, Some, length, drop, get_or, add-one, append_assoc, arith}
+use Rattle.std.proofs.Common.{◌≡◌, refl, sym, ap, ◌∙◌, ℕ, suc, ◌+◌, ◌<◌, ◌≤◌, List, [], ◌∷◌, ◌++◌, Some, length, drop, add-one, append_assoc, arith}
 use Rattle.std.proofs.Math.Seq.{drop-cons}
 use Rattle.std.proofs.lemmas.List.{append-nil, drop_all, length_push}
 use Rattle.js_values.specs.declared.ids.ObjId.{ObjId}
@@ -8,7 +8,7 @@ use Rattle.object_heap.specs.declared.object.Class.TheVariants.{Node}
 use Rattle.object_heap.specs.Heap.{Contents, empty, first_props, made, new_object, with_new_object, with_objects}
 use Rattle.object_heap.specs.Object.{Object}
 use Rattle.page_host.specs.Host.{Host, new_host}
-use Rattle.page_meaning.specs.Places.{at_place, array_prototype_place, boolean_prototype_place, built_in_count, console_place, error_prototype_place, event_prototype_place, function_place, math_place, node_prototype, node_prototype_place, number_prototype_place, range_error_prototype_place, reference_error_prototype_place, string_prototype_place, type_error_prototype_place}
+use Rattle.page_meaning.specs.Places.{at_place, built_in_count, node_prototype, node_prototype_place}
 use Rattle.page_meaning.specs.Pristine.{built_ins, node_objects, places_from, pristine}
 use Rattle.page_meaning.specs.Store.{Store, silent}
 use Rattle.page_start.specs.BuiltIns.{beside}
@@ -36,7 +36,7 @@ pub making_on : (h0 h h1 : Contents) (ps ps1 : List ObjId) (t : Nodes) (k : ℕ)
     → h1 ≡ made h (new_object (Node (record { 0 = k })) (Some p)) → ps1 ≡ ps ++ at ∷ [] → Making h0 h ps t k → Making h0 h1 ps1 t (k + 1)
 making_on h0 h h1 ps ps1 t k at p there is id m pushed g =
     let new : h1 ≡ with_new_object h (object_of k) = made_node h h1 k p g.room is m in
-    let more : length h1.objects ≡ suc (length h.objects) = ap (λ (c : Contents). length c.objects) new ∙ length_push h.objects (object_of k) ∙ add-one in
+    let more : length h1.objects ≡ suc (length h.objects) = ap (λ (c : Contents). length c.objects) new ∙ length_push h.objects (object_of k) ∙ add-one (length h.objects) in
     let rest = drop (suc k) t in
     let next = drop-cons t k no_node there in
     record {

@@ -2,7 +2,7 @@
 #![tactic(auto)]
 
 mod methods;
-mod pristine;
+mod objects;
 mod tables;
 
-pub use pristine::pristine;
+pub use objects::pristine;

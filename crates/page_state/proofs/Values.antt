@@ -36,6 +36,11 @@ unset calls (Truth b) x w h = refl
 unset calls (Num n) x w h = refl
 unset calls (Text t) x w h = refl
 
+pub unset_raises : (v : Value) (x : List ℕ) (w : Value) (s t : Store) (e : Failure Value) → ((o : ObjId) → v ≡ Object o → ⊥) → Raises (λ _. raise CannotSet) s t e
+    → Raises (λ calls. put_member calls v x w) s t e
+unset_raises (Object o) x w s t e h r = absurd (h o refl)
+unset_raises v x w s t e h r = r
+
 -- a value that has no number
 pub number_raises : (v : Value) (what : Throw) (s t : Store) (e : Failure Value) → Err what ≡ number_of v → Raises (λ _. raise what) s t e → Raises (λ calls. to_number calls v) s t e
 number_raises (Object o) what s t e h r =

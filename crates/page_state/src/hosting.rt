@@ -22,6 +22,7 @@ const TIME_LIMIT: u64 = 9_007_199_254_740_991;
 
 impl State {
     /// The value of the node becomes the text, where it is an input or a textarea.
+    #[tactic(auto, using(crate::proofs::HostSteps::no_input))]
     pub fn set_input(&mut self, node: NodeId, text: Units)
         ensures { self.new ≡ with_input text node self.old }
     {
@@ -43,6 +44,7 @@ impl State {
     }
 
     /// A listener is added, where it is not there yet. What cannot be called is not.
+    #[tactic(auto, using(crate::proofs::HostSteps::none_called, crate::proofs::HostSteps::no_listener, crate::proofs::HostSteps::callable_step))]
     pub fn listen(&mut self, listener: Listener) -> Result<(), OutOfMemory>
         ensures { OnOk result (Does (λ _. changes_host (listens listener)) self.old tt self.new) }
     {
@@ -70,6 +72,7 @@ impl State {
     }
 
     /// The way of an event at the node.
+    #[tactic(auto, using(crate::proofs::HostSteps::way_of_none))]
     pub fn path(&self, node: NodeId, bubbles: bool) -> Result<Vec<Place>, OutOfMemory>
         ensures { IfOk result (λ places. places.items ≡ event_path self.now.host.nodes node
             bubbles) }
@@ -94,6 +97,7 @@ impl State {
 
     /// Starts a timer and gives its id, or `None` exactly where as many are live as may be. What cannot be called, and a time past those of
     /// the language, counts as want of memory.
+    #[tactic(auto, unfolding(page_host::specs::Steps::time_limit), using(crate::proofs::HostSteps::timer_started))]
     pub fn start_timer(
         &mut self,
         delay: u64,
@@ -119,6 +123,7 @@ impl State {
     }
 
     /// Whether a timer is due up to the moment.
+    #[tactic(auto, using(crate::proofs::HostSteps::is_due_at))]
     pub fn is_timer_due(&self, moment: u64) -> bool
         ensures { result ≡ is_some (next_timer self.now.host moment) }
     {
@@ -143,6 +148,7 @@ impl State {
     }
 }
 
+#[tactic(auto, unfolding(page_host::specs::Steps::time_limit))]
 fn is_period(period: Option<u64>) -> bool
     ensures { result ≡ is_period period }
 {

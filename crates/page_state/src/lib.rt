@@ -44,5 +44,5 @@ pub use places::{
 pub use primitives::are_short;
 pub use properties::own_of_text;
 pub use sight::Sight;
-pub use state::{State, is_handler};
+pub use state::State;
 pub use turns::{Halt, take_turn};

@@ -20,7 +20,7 @@ ghost use Rattle.page_state.specs.Made.{IsElementMade};
 use crate::fault::Fault;
 use crate::places::NODE_PROTOTYPE;
 use crate::state::State;
-use dom_tree::{DomError, DomFault};
+use dom_tree::{DomError, DomFault, is_name};
 use js_core::{OutOfMemory, Units};
 use js_values::{NodeId, ObjId, Throw, Value};
 use object_heap::Class;
@@ -28,6 +28,7 @@ use page_host::{HostName, folds_to_handler};
 
 impl State {
     /// A new element, alone, of this name in lower case, and its object; `None` exactly where the name is none.
+    #[tactic(auto, using(crate::proofs::HostSteps::node_made, crate::proofs::HostSteps::element_fits))]
     pub fn make_element(&mut self, name: &Units) -> Result<Option<ObjId>, OutOfMemory>
         ensures { IfOk result (λ made. IsElementMade name.now self.old made self.new) }
     {
@@ -41,6 +42,7 @@ impl State {
     }
 
     /// A new text, alone, and its object.
+    #[tactic(auto, using(crate::proofs::HostSteps::node_made))]
     pub fn make_text(&mut self, text: &Units) -> Result<ObjId, OutOfMemory>
         ensures { IfOk result (λ at. Does (λ _. make_node (kind.Text text.now)) self.old at
             self.new) }
@@ -52,6 +54,7 @@ impl State {
     }
 
     /// A new comment, alone, and its object.
+    #[tactic(auto, using(crate::proofs::HostSteps::node_made))]
     pub fn make_comment(&mut self, text: &Units) -> Result<ObjId, OutOfMemory>
         ensures { IfOk result (λ at. Does (λ _. make_node (kind.Comment text.now)) self.old at
             self.new) }
@@ -73,6 +76,7 @@ impl State {
     }
 
     /// Puts the child under the parent, directly before the reference, or at the end.
+    #[tactic(auto, using(crate::proofs::HostSteps::none_inserted))]
     pub fn insert_before(
         &mut self,
         parent: NodeId,
@@ -92,6 +96,7 @@ impl State {
     }
 
     /// Puts the child under the parent in place of the old one.
+    #[tactic(auto, using(crate::proofs::HostSteps::none_replaced))]
     pub fn replace_child(
         &mut self,
         parent: NodeId,
@@ -130,6 +135,7 @@ impl State {
     }
 
     /// `setAttribute` of an element: a handler is refused before the name is judged.
+    #[tactic(auto, using(crate::proofs::HostSteps::attribute_refused, crate::proofs::HostSteps::attribute_unnamed, crate::proofs::HostSteps::attribute_set))]
     pub fn set_attribute(
         &mut self,
         node: NodeId,
@@ -143,20 +149,17 @@ impl State {
         if folds_to_handler(name) {
             return Err(self.raise(Throw::WrongArgument));
         }
+        if !is_name(name) {
+            return Err(self.raise(Throw::InvalidCharacter));
+        }
         match self.host.set_attribute(node, name, value) {
             Ok(()) => Ok(Value::Undefined),
-            Err(DomFault::Cause(_)) => Err(self.raise(Throw::InvalidCharacter)),
-            Err(DomFault::OutOfMemory) => Err(Fault::OutOfMemory),
+            Err(_) => Err(Fault::OutOfMemory),
         }
     }
 
     /// A text is put at a host name that takes one; an element's `textContent` is filled anew instead.
-    pub fn put_text(
-        &mut self,
-        node: NodeId,
-        name: HostName,
-        text: Units,
-    ) -> Result<(), OutOfMemory>
+    pub fn put_text(&mut self, node: NodeId, name: HostName, text: Units) -> Result<(), OutOfMemory>
         requires there { node.0 < length self.old.host.nodes }
         requires has { node_has (kind_at self.old.host.nodes node.0) name ≡ true }
         ensures { OnOk result (Does (λ _. changes_nodes (text_step node name text)) self.old tt

@@ -9,6 +9,7 @@ ghost use Rattle.page_host.specs.declared.host_name.HostName.TheVariants.{NodeVa
 ghost use Rattle.page_host.specs.HostNames.{has_at_node};
 ghost use Rattle.page_meaning.specs.Act.{Calls, nothing};
 ghost use Rattle.page_meaning.specs.Classes.{class_at};
+ghost use Rattle.page_meaning.specs.Convert.{to_text};
 ghost use Rattle.page_meaning.specs.HostNames.{has_host_name};
 ghost use Rattle.page_meaning.specs.HostPuts as spec;
 ghost use Rattle.page_state.specs.Does.{Does, Gives, itself};
@@ -94,15 +95,7 @@ impl State {
                 let node = *node;
                 self.node_put(node, host, value)
             }
-            Class::Plain
-            | Class::List
-            | Class::Page { .. }
-            | Class::Native(_)
-            | Class::Bound { .. }
-            | Class::Fault
-            | Class::Math
-            | Class::Window
-            | Class::Event(_) => Err(self.raise(Throw::CannotSet)),
+            _ => Err(self.raise(Throw::CannotSet)),
         }
     }
 
@@ -112,8 +105,7 @@ impl State {
         ensures { Gives itself (λ calls. spec.node_puts calls node host value.now
             (kind_at self.old.host.nodes node.0)) self.old self.new result }
     {
-        let kind = &self.host.dom().content(node).kind;
-        match taking_of(host, kind) {
+        match taking_of(host, &self.host().dom().content(node).kind) {
             Taking::Nothing => Ok(Value::Undefined),
             Taking::Refused => Err(self.raise(Throw::CannotSet)),
             Taking::Text => self.put_as_text(node, host, value),
@@ -144,7 +136,7 @@ impl State {
         ensures { Gives itself (λ calls. spec.put_attribute calls node host value.now) self.old
             self.new result }
     {
-        let text = self.to_text(value)?;
+        let text = self.text_put(value)?;
         self.put_text(node, host, text)?;
         Ok(Value::Undefined)
     }
@@ -168,8 +160,16 @@ impl State {
     {
         match value {
             Value::Null => Ok(Units::of(self.alloc(), &[])?),
-            _ => self.to_text(value),
+            _ => self.text_put(value),
         }
+    }
+
+    // The text of what is put. A conversion that ends well changes nothing.
+    fn text_put(&mut self, value: &Value) -> Result<Units, Fault>
+        ensures text { Gives Text (λ calls. to_text calls value.now) self.old self.new result }
+        ensures same { OnOk result (self.new ≡ self.old) }
+    {
+        self.to_text(value)
     }
 
     // A text node for the text becomes the last child; none does for the empty one.
@@ -180,7 +180,7 @@ impl State {
         if text.as_slice().is_empty() {
             return Ok(());
         }
-        let child = NodeId(self.host.dom().count());
+        let child = NodeId(self.host().dom().count());
         self.make_text(text)?;
         let _answer = self.insert_before(node, child, None);
         Ok(())

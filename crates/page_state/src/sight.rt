@@ -1,6 +1,9 @@
 //! What a chain of prototypes shows first of a host name (DOM Level 2 Core and Events).
 
 ghost use Rattle.std.specs.Prelude.{◌≡◌, IfOk, Some, pos, is_some, true};
+ghost use Rattle.object_heap.specs.Chain.{object_at};
+ghost use Rattle.object_heap.specs.Heap.{IsSound};
+ghost use Rattle.object_heap.specs.Property.{own_property};
 ghost use Rattle.page_meaning.specs.Classes.{class_at};
 ghost use Rattle.page_meaning.specs.HostNames.{event_reads, has_host_name, host_reads, object_or_null as spec_object};
 ghost use Rattle.page_meaning.specs.Reading.{seen_at, seen_value};
@@ -29,12 +32,13 @@ impl State {
     pub fn sight(&self, at: ObjId, text: &Units, name: HostName) -> Sight
         ensures { Shows self.now at text.now (seen_at self.now at text.now name) result }
     {
+        self.sound();
         let mut at = at;
         loop {
             if self.has_host_name(at, name) {
                 return Sight::Hosted(at);
             }
-            if self.own(at, text).is_some() {
+            if self.has_own(at, text) {
                 return Sight::Held;
             }
             match self.proto(at) {
@@ -42,6 +46,21 @@ impl State {
                 None => return Sight::Nothing,
             }
         }
+    }
+
+    // What holds of its heap. No cost.
+    fn sound(&self)
+        ensures { IsSound self.now.heap }
+    {
+        self.heap.sound();
+    }
+
+    // Whether an object has the property itself.
+    fn has_own(&self, at: ObjId, name: &Units) -> bool
+        ensures { result ≡ is_some (own_property (object_at self.now.heap.objects at.0).props
+            name.now) }
+    {
+        self.own(at, name).is_some()
     }
 
     /// The value of a host name from the object up, or undefined. Its text may be too long.
@@ -62,11 +81,7 @@ impl State {
     }
 
     /// What an object reads that has the host name itself.
-    pub fn host_read(
-        &self,
-        at: ObjId,
-        name: HostName,
-    ) -> Result<Result<Value, Throw>, OutOfMemory>
+    pub fn host_read(&self, at: ObjId, name: HostName) -> Result<Result<Value, Throw>, OutOfMemory>
         requires { has_host_name self.now.host.nodes (class_at self.now at) name ≡ true }
         ensures { IfOk result (λ read. read ≡ host_reads self.now.host (class_at self.now at)
             name) }

@@ -8,7 +8,7 @@ ghost use Rattle.object_heap.specs.Chain.{get, object_at};
 ghost use Rattle.object_heap.specs.Heap.{look_in, made};
 ghost use Rattle.object_heap.specs.Object.{is_list, whole_object};
 ghost use Rattle.object_heap.specs.Property.{own_property};
-ghost use Rattle.page_host.specs.HostNames.{event_has, host_name, is_handler};
+ghost use Rattle.page_host.specs.HostNames.{host_name};
 ghost use Rattle.page_meaning.specs.Classes.{class_at};
 ghost use Rattle.page_meaning.specs.HostNames.{has_host_name, has_named_host, is_kept};
 ghost use Rattle.page_meaning.specs.Primitives.{
@@ -28,7 +28,7 @@ ghost use Rattle.page_state.specs.Refusals.{Refuses};
 use js_core::{OutOfMemory, Units};
 use js_values::{EnvId, Line, LineKind, ObjId, Throw, Value};
 use object_heap::{Change, Class, Heap, HeapFault, Prop, Properties};
-use page_host::{HostName, PageHost};
+use page_host::{HostName, PageHost, is_handler};
 use std::alloc::Global;
 use std::marker::Model;
 
@@ -208,6 +208,7 @@ impl State {
     }
 
     /// Puts a value to a property, and tells what is thrown, if something is (section 8.12.5).
+    #[tactic(auto, using(crate::proofs::Unkept::put_kept, crate::proofs::Unkept::put_free))]
     pub fn put_at(
         &mut self,
         at: ObjId,
@@ -223,6 +224,7 @@ impl State {
     }
 
     /// Defines a property, and tells what is thrown, if something is (section 8.12.9).
+    #[tactic(auto, using(crate::proofs::Unkept::define_kept, crate::proofs::Unkept::define_free))]
     pub fn define_at(
         &mut self,
         at: ObjId,
@@ -304,14 +306,6 @@ impl State {
         self.lines.push(Line { kind, text })?;
         Ok(())
     }
-}
-
-/// Whether it is the name of a handler: it begins with `on`.
-pub fn is_handler(name: &Units) -> bool
-    ensures { result ≡ is_handler name.now }
-{
-    let units = name.as_slice();
-    units.len() >= 2 && units[0] == 0x6f && units[1] == 0x6e
 }
 
 // What the heap refused.

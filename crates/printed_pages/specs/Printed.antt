@@ -1,6 +1,6 @@
 -- That printed scripts in the places of a page's scripts are accepted, that a script in the frame of a saved page is, and which trees the
 -- scripts of accepted pages are.
-use Rattle.std.specs.Prelude.{◌≡◌, ℕ, true, false, IsTrue, List, [], ◌∷◌, ◌++◌, codes, length, map}
+use Rattle.std.specs.Prelude.{◌≡◌, ℕ, true, IsTrue, List, [], ◌∷◌, ◌++◌, codes, length, map}
 use Rattle.std.specs.List.{All}
 use Rattle.dom_tree.specs.Node.{Nodes}
 use Rattle.js_core.specs.Tree as tree

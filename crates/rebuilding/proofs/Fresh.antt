@@ -28,6 +28,7 @@ use Rattle.rebuild_plan.specs.Compact.{kind_of, maker_as, moved, moved_needs, mo
 use Rattle.rebuild_plan.specs.Stands.{maker_names}
 use Rattle.rebuilding.specs.Rebuilt.{ClassIsRebuilt, bound, fault, list, page, plain}
 use Rattle.rebuilding.specs.Running.{CanMake, IsMade}
+use Rattle.heap_walker.specs.Bare.{is_ordinary}
 use Rattle.rebuilding.specs.Scene.{IsRoundOf, Scene, page_with}
 use Rattle.rebuilding.specs.Sites.{site, sited, sited_proto, sited_values}
 use Rattle.rebuilding.proofs.Placed.{array_low, error_low, function_low, needs_stay, proto_stays}
@@ -162,26 +163,26 @@ module _ (c : Scene) (s : Store) (things : List ℕ) (h i : Contents) (sites : L
     };
   })
 
-  begun : (o made : Object) (a : Class) → HasShape s o a
+  begun : (o made : Object) (a : Class) → is_ordinary a ≡ true → HasShape s o a
       → all_below (built_in_count + length sites) (maker_names (maker_as s things o.proto a)) ≡ true → AreKept s things h sites a
       → IsMade c h i sites place (maker_as s things o.proto a) made → Begun a o made
-  begun o made class.Plain was stands kept is = begun_plain o made stands is
-  begun o made class.List was stands kept is = begun_list o made was.0 is
-  begun o made class.Fault was stands kept is = begun_fault o made was.kind was.is is
-  begun o made (class.Page body env) was stands kept is = begun_page o made body env was.0 stands is
-  begun o made (class.Bound target this args) was stands kept is =
+  begun o made class.Plain free was stands kept is = begun_plain o made stands is
+  begun o made class.List free was stands kept is = begun_list o made was.0 is
+  begun o made class.Fault free was stands kept is = begun_fault o made was.kind was.is is
+  begun o made (class.Page body env) free was stands kept is = begun_page o made body env was.0 stands is
+  begun o made (class.Bound target this args) free was stands kept is =
       begun_bound o made target this args was.0 stands was.1 (kept target (target_in s target this args) was.2 (and_parts _ _ stands).0).length is
-  begun o made (class.Native which) was stands kept is = absurd was
-  begun o made class.Math was stands kept is = absurd was
-  begun o made class.Window was stands kept is = absurd was
-  begun o made (class.Node m) was stands kept is = absurd was
-  begun o made (class.Event parts) was stands kept is = absurd was
+  begun o made (class.Native which) free was stands kept is = absurd was
+  begun o made class.Math free was stands kept is = absurd was
+  begun o made class.Window free was stands kept is = absurd was
+  begun o made (class.Node m) free was stands kept is = cc free
+  begun o made (class.Event parts) free was stands kept is = cc free
 
   -- the thing that was made is as its maker left it
-  pub made_fresh : (o made : Object) → HasShape s o o.class
+  pub made_fresh : (o made : Object) → is_ordinary o.class ≡ true → HasShape s o o.class
       → all_below (built_in_count + length sites) (maker_names (maker_as s things o.proto o.class)) ≡ true
       → AreKept s things h sites o.class → IsMade c h i sites place (maker_as s things o.proto o.class) made
       → IsFresh c i.environments s things after place o made
-  made_fresh o made was stands kept is =
-      let b : Begun o.class o made = begun o made o.class was stands kept is in
+  made_fresh o made free was stands kept is =
+      let b : Begun o.class o made = begun o made o.class free was stands kept is in
       record { class = b.class; proto = b.proto; extensible = b.extensible; closed = b.closed; props = b.props }

@@ -33,7 +33,7 @@ use Rattle.object_shapes.specs.Shapes.{HasShape}
 use Rattle.rebuilding.specs.Rebuilt.{nth}
 use Rattle.rebuilding.specs.Scene.{frame_count}
 use Rattle.rebuilding.proofs.Naming.{IsSame, below_named, built_in_paired, is_same, rebuilt_world}
-use Rattle.rebuilding.proofs.Placed.{place_in}
+use Rattle.rebuilding.proofs.Placed.{node_low, place_in}
 
 -- ---- the objects of the nodes of a bare page
 
@@ -129,8 +129,7 @@ module _ (s : Store) (still : Still s) where
 -- ---- they mean the same
 
 prototype_low : node_prototype.0 < frame_count
-unfolding built_in_count
-prototype_low = omega arith
+prototype_low = omega (arith, node_low)
 
 module _ (s : Store) (h : Contents) (things sites : List ℕ) where
   abbrev W : World

@@ -18,7 +18,7 @@ use Rattle.rebuild_plan.specs.declared.statement.Maker.TheVariants.{Bind}
 use Rattle.rebuilding.specs.Rebuilt.{ClassIsRebuilt, bound, fault, list, page, plain}
 use Rattle.rebuilding.specs.Scene.{IsBinding, IsRoundOf, Scene, bare, named, needed, none_needed}
 use Rattle.rebuilding.specs.Sites.{site, sited, sited_proto, sited_value, sited_values}
-use Rattle.rebuilding.proofs.Placed.{array_low, error_low, function_low, needs_stay, proto_built_in, proto_stays, site_stays, value_stays, values_stay}
+use Rattle.rebuilding.proofs.Placed.{array_low, error_low, event_low, function_low, node_low, needs_stay, proto_built_in, proto_stays, site_stays, value_stays, values_stay}
 use Rattle.rebuilding.proofs.Stages.{IsFresh}
 use Rattle.page_meaning.specs.Places.{built_in_count}
 use Rattle.object_shapes.specs.Links.{value_links, values_links, all_below}
@@ -49,8 +49,10 @@ proto_same s things sites place o (class.Bound target this args) walk made stand
 proto_same s things sites place o (class.Native which) walk made stands = absurd made
 proto_same s things sites place o class.Math walk made stands = absurd made
 proto_same s things sites place o class.Window walk made stands = absurd made
-proto_same s things sites place o (class.Node m) walk made stands = absurd made
-proto_same s things sites place o (class.Event parts) walk made stands = absurd made
+proto_same s things sites place o (class.Node m) walk made stands =
+    proto_is s things (sites ++ place ∷ []) walk o.proto _ made.0 node_low ∙ sym (proto_is s things sites walk o.proto _ made.0 node_low)
+proto_same s things sites place o (class.Event parts) walk made stands =
+    proto_is s things (sites ++ place ∷ []) walk o.proto _ made.0 event_low ∙ sym (proto_is s things sites walk o.proto _ made.0 event_low)
 
 -- ---- classes
 

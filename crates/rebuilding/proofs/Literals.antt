@@ -9,9 +9,9 @@ use Rattle.js_values.specs.declared.ids.ObjId.{ObjId}
 use Rattle.js_values.specs.declared.value.Value.{Value}
 use Rattle.js_values.specs.declared.value.Value.TheVariants as value
 use Rattle.js_values.specs.declared.value.Value.TheVariants.{Object as Reference}
-use Rattle.object_heap.proofs.Callers.{define_new_at, names_last, new_fit, no_names, object_last, ordinary_fit, property_on, two_names}
+use Rattle.object_heap.proofs.Callers.{found_on, define_new_at, names_last, new_fit, no_names, object_last, ordinary_fit, property_on, two_names}
 use Rattle.object_heap.specs.Attempt.{Attempt, done}
-use Rattle.object_heap.specs.Chain.{first_found, get_property, object_at}
+use Rattle.object_heap.specs.Chain.{first_found, found, get_property, object_at}
 use Rattle.object_heap.specs.Define.{is_closed_at, whole_property}
 use Rattle.object_heap.specs.Heap.{Contents, define_own, new_object, with_new_object, with_object, with_objects}
 use Rattle.object_heap.specs.Object.{Object, is_list, whole_object, with_props}
@@ -205,7 +205,7 @@ module _ (c : Scene) (s : Store) (sites : List ℕ) (r : IsRunning c s.heap site
       let lacks = literal_lacks c s.heap sites r props (short_names (sited_value sites v) writable) in
       asked (with_heap s (with_literal s.heap props)) (next_place s.heap) (open_property (sited_value sites v))
       (Some (open_property (value.Bool writable))) None None
-      (value_seen c s sites r props (short_names (sited_value sites v) writable) (open_property (sited_value sites v)) refl) (has (codes "writable")) (lacks (codes "enumerable") refl refl) (lacks (codes "configurable") refl refl)
+      (value_seen props (short_names (sited_value sites v) writable) (open_property (sited_value sites v)) refl) (has (codes "writable")) (lacks (codes "enumerable") refl refl) (lacks (codes "configurable") refl refl)
       (lacks (codes "get") refl refl) (lacks (codes "set") refl refl)
 
   pub whole_asks : (p : Prop)
@@ -218,5 +218,5 @@ module _ (c : Scene) (s : Store) (sites : List ℕ) (r : IsRunning c s.heap site
       asked (with_heap s (with_literal s.heap props)) (next_place s.heap) (open_property (sited_value sites p.value))
       (Some (open_property (value.Bool p.writable)))
       (Some (open_property (value.Bool p.enumerable))) (Some (open_property (value.Bool p.configurable)))
-      (value_seen c s sites r props (whole_names (sited_prop sites p)) (open_property (sited_value sites p.value)) refl) (has (codes "writable")) (has (codes "enumerable")) (has (codes "configurable"))
+      (value_seen props (whole_names (sited_prop sites p)) (open_property (sited_value sites p.value)) refl) (has (codes "writable")) (has (codes "enumerable")) (has (codes "configurable"))
       (lacks (codes "get") refl refl) (lacks (codes "set") refl refl)

@@ -184,6 +184,7 @@ module _ (c : Scene) (s : Store) (things : List ℕ) (known : IsSaved s things) 
     new =
         subst (λ k. Stands k (length sites)) (sym (nth_last sites place))
         (made_fresh c s things h i sites place known.walk (thing (length sites)) (object_at i.objects place)
+        (known.still.bare.things (nth things (length sites)) (known.walk.sound (nth things (length sites)) (place_in things (length sites) few))).ordinary
         (was_made (length sites) few)
         (known.stand (length sites) few) (kept h sites (length sites) few front) made)
 

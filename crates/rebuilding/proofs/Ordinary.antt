@@ -86,14 +86,14 @@ none_is (Some a) h = cc h
 
 own_unhosted : (ps : Props) (x : List ℕ) (p : Prop) → unhosted_props ps ≡ true → own_property ps x ≡ Some p → host_name x ≡ None
 own_unhosted [] x p all h = absurd (none-some p h)
-own_unhosted (e ∷ es) x p all h = by (bytes_eq x e.0) refl
+own_unhosted (e ∷ es) x p all h = by (bytes_eq x e.0) refl (λ g. own_unhosted es x p parts.1 g)
   where
     parts : (is_none (host_name e.0) ≡ true) × (unhosted_props es ≡ true)
     parts = and_parts (is_none (host_name e.0)) (unhosted_props es) all
 
-    by : (b : Bool) → bytes_eq x e.0 ≡ b → host_name x ≡ None
-    by true same = ap host_name ((bytes_eq-Decides x e.0).0 same) ∙ none_is (host_name e.0) parts.0
-    by false far = own_unhosted es x p parts.1 (sym (cond-false (bytes_eq x e.0) _ _ far) ∙ h)
+    by : (b : Bool) → bytes_eq x e.0 ≡ b → (own_property es x ≡ Some p → host_name x ≡ None) → host_name x ≡ None
+    by true same later = ap host_name ((bytes_eq-Decides x e.0).0 same) ∙ none_is (host_name e.0) parts.0
+    by false far later = later (sym (cond-false (bytes_eq x e.0) _ _ far) ∙ h)
 
 pub built_in_unhosted : (k : ℕ) (x : List ℕ) (p : Prop) → own_property (built_in_at k).props x ≡ Some p → host_name x ≡ None
 built_in_unhosted k x p h = own_unhosted (built_in_at k).props x p (at_or unhosted built_ins k all_unhosted refl) h
@@ -103,7 +103,7 @@ built_in_unhosted k x p h = own_unhosted (built_in_at k).props x p (at_or unhost
 same_kind : (c d : Class) → IsSameKind c d → is_ordinary d ≡ true → is_ordinary c ≡ true
 same_kind c d (inl same) free = ap is_ordinary same ∙ free
 same_kind c (class.Event parts) (inr both) free = cc free
-same_kind c d (inr both) free = cc both
+same_kind c d (inr both) free = cc both.1
 
 -- a heap of this object alone
 abbrev alone : Object → Contents

@@ -14,7 +14,7 @@ use Rattle.js_values.specs.declared.value.Value.{Value}
 use Rattle.js_values.specs.declared.value.Value.TheVariants as value
 use Rattle.object_heap.specs.Chain.{object_at}
 use Rattle.object_heap.specs.Object.{Object, no_object}
-use Rattle.page_meaning.specs.Places.{array_prototype_place, error_prototype, error_prototype_place, function_prototype, range_error_prototype_place, reference_error_prototype_place, type_error_prototype_place}
+use Rattle.page_meaning.specs.Places.{array_prototype_place, error_prototype, error_prototype_place, event_prototype, event_prototype_place, function_prototype, node_prototype, node_prototype_place, range_error_prototype_place, reference_error_prototype_place, type_error_prototype_place}
 use Rattle.page_meaning.specs.Store.{Store}
 use Rattle.rebuild_plan.specs.Compact.{moved_proto, place_of, placed}
 use Rattle.heap_walker.proofs.Callers.{thing_of}
@@ -50,6 +50,14 @@ array_low = omega arith
 pub function_low : function_prototype.0 < built_in_count
 unfolding built_in_count
 function_low = omega arith
+
+pub node_low : node_prototype.0 < built_in_count
+unfolding node_prototype_place built_in_count
+node_low = omega arith
+
+pub event_low : event_prototype.0 < built_in_count
+unfolding event_prototype_place built_in_count
+event_low = omega arith
 
 pub error_low : (k : ErrorKind) → (error_prototype k).0 < built_in_count
 unfolding error_prototype_place range_error_prototype_place reference_error_prototype_place type_error_prototype_place built_in_count

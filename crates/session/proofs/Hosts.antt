@@ -1,23 +1,20 @@
 -- What host events do, by what their parts do.
-use Rattle.std.proofs.Common.{◌≡◌, ◌<◌, [], ◌∷◌, length, Some, None, Result, Ok, Err, OnOk, arith}
+use Rattle.std.proofs.Common.{◌≡◌, ℕ, List, [], None, Result, Ok, Err, IfOk, OnOk}
 use Rattle.js_core.specs.Text.{Text}
-use Rattle.js_values.specs.declared.ids.NodeId.{NodeId}
-use Rattle.dom_tree.specs.Node.{Nodes}
-use Rattle.dom_tree.specs.Sound.{IsSound}
-use Rattle.page_meaning.specs.Pages.{on_element}
-use Rattle.page_meaning.specs.Store.{Store}
+use Rattle.js_values.specs.declared.line.LineKind.{LineKind}
+use Rattle.js_values.specs.declared.line.LineKind.TheVariants.{NoElement}
+use Rattle.dom_tree.specs.Trees.{find_id}
+use Rattle.page_meaning.specs.Primitives.{put_line}
+use Rattle.page_meaning.specs.Store.{Store, with_line}
+use Rattle.page_state.specs.Does.{Does}
+use Rattle.page_machine.proofs.Callers.{line_put}
 use Rattle.session.specs.Elements.{IsElement}
 
--- the document is there
-pub document_there : (t : Nodes) → IsSound t → 0 < length t
-document_there [] s = cc (s.document 0)
-document_there (n ∷ t) s = omega arith
+-- a line tells that there is no element
+pub none_told : (x : Text) (words : List ℕ) (s t : Store) → find_id s.host.nodes x ≡ None → words ≡ [] → Does (λ _. put_line NoElement (λ _. words)) s tt t → IsElement x s None t
+none_told x words s t none is d = (none, rw (← is) (line_put NoElement words s t d))
 
--- the element is there, and this is done to it
-pub on_the_element : {E : Type 0} (x : Text) (f : NodeId → Store → Store) (k : NodeId) (s u t : Store) (r : Result (Unit {0}) E) → IsElement x s (Some k) u → OnOk r (t ≡ f k u) → OnOk r (t ≡ on_element x f s)
-on_the_element x f k s u t (Err e) found h = h
-on_the_element x f k s u t (Ok o) found h = rw (found.0) (rw found.1 at h)
-
--- there is none
-pub on_no_element : (x : Text) (f : NodeId → Store → Store) (s t : Store) → IsElement x s None t → t ≡ on_element x f s
-on_no_element x f s t none = rw (none.0) (none.1)
+-- a line tells these words
+pub line_told : {E : Type 0} (kind : LineKind) (words told : List ℕ) (s t : Store) (r : Result (Unit {0}) E) → words ≡ told → IfOk r (λ _. Does (λ _. put_line kind (λ _. words)) s tt t) → OnOk r (t ≡ with_line kind told s)
+line_told kind words told s t (Err e) is h = tt
+line_told kind words told s t (Ok o) is h = rw (← is) (line_put kind words s t h)

@@ -95,12 +95,14 @@ fn act_on(state: &mut State, event: &Event) -> Result<(), OutOfMemory>
 fn element(state: &mut State, id: &Units) -> Result<Option<NodeId>, OutOfMemory>
     ensures { IfOk result (λ found. IsElement id.now state.old found state.new) }
 {
-    let found = state.host().dom().find_id(id);
-    if found.is_none() {
-        let text = Units::of(state.alloc(), &[])?;
-        state.put_line(LineKind::NoElement, text)?;
+    match state.host().dom().find_id(id) {
+        Some(node) => Ok(Some(node)),
+        None => {
+            let text = Units::of(state.alloc(), &[])?;
+            state.put_line(LineKind::NoElement, text)?;
+            Ok(None)
+        }
     }
-    Ok(found)
 }
 
 // An event is dispatched at the element with the id.
@@ -115,10 +117,7 @@ fn fire(
         after_task (Fires kind.now bubbles cancelable k)) state.old) }
 {
     match element(state, at)? {
-        Some(node) => run_task(
-            state,
-            Task::Fires(kind.clone()?, bubbles, cancelable, node),
-        ),
+        Some(node) => run_task(state, Task::Fires(kind.clone()?, bubbles, cancelable, node)),
         None => Ok(()),
     }
 }

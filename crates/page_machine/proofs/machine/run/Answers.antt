@@ -1,9 +1,7 @@
-use Rattle.std.proofs.Common.{reverse, arith}
-use Rattle.page_meaning.specs.Act.{Outcome}
-use Rattle.page_meaning.specs.declared.signal.Signal.{Signal}
+use Rattle.std.proofs.Common.{reverse}
 use Rattle.page_meaning.specs.Calls.{calls_at}
 use Rattle.page_frames.specs.Rest.{mean_of}
-use Rattle.page_machine.proofs.Turning.{begun, enter_turned, go_fits, go_turned, pop_fits, pop_turned, then_turned}
+use Rattle.page_machine.proofs.Turning.{begun, go_fits, go_turned, pop_fits, pop_turned}
 use Rattle.page_machine.proofs.machine.run.Goals as goal
 
 pub loop-next-init : goal.loop-next-init

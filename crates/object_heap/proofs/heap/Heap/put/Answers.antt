@@ -2,14 +2,15 @@ use Rattle.std.proofs.Common.{◌<◌, ◌≤◌, ap, length, arith}
 use Rattle.object_heap.specs.Heap.{Contents}
 use Rattle.js_values.specs.declared.throw.Throw.TheVariants.{CannotSet}
 use Rattle.object_heap.proofs.Missing.{follows, put_absent}
-use Rattle.object_heap.proofs.Sound.{changed, right_there, put_own_stays}
+use Rattle.object_heap.proofs.Resting.{changed_kept}
+use Rattle.object_heap.proofs.Sound.{right_there, put_own_stays}
 use Rattle.object_heap.proofs.heap.Heap.put.Goals as goal
 
 pub invariant_of-self : goal.invariant_of-self
 invariant_of-self c =
     let h : Contents = record { objects = c.self.inside.objects.items; environments = c.self.inside.environments.items } in
     let there : c.args.at.0 < length h.objects = omega (arith, ap (λ (x : Contents). length x.objects) c.self.view_is) in
-    changed h c.args.at.0 _ _ _ _ there c.self.invariant c.index_mut.ensures.value c.put_own.ensures (put_own_stays c.can_put-may_put.result c.index_mut.result.now c.args.name.now c.args.value)
+    changed_kept h c.self.inside.restless.items c.args.at.0 _ _ _ _ there c.self.invariant c.index_mut.ensures.value c.put_own.ensures (put_own_stays c.can_put-may_put.result c.index_mut.result.now c.args.name.now c.args.value)
 
 pub returns-then-at-len : goal.returns-then-at-len
 returns-then-at-len c =
@@ -20,4 +21,4 @@ pub put_own-requires : goal.put_own-requires
 put_own-requires c =
     let h : Contents = record { objects = c.self.inside.objects.items; environments = c.self.inside.environments.items } in
     let there : c.args.at.0 < length h.objects = omega (arith, ap (λ (x : Contents). length x.objects) c.self.view_is) in
-    (right_there h c.args.at.0 c.index_mut.result.now there c.self.invariant c.index_mut.ensures.value).array
+    (right_there h c.args.at.0 c.index_mut.result.now there c.self.invariant.sound c.index_mut.ensures.value).array
