@@ -41,7 +41,7 @@ module _ (calls : Calls) (s : Store) (n : ℕ) where
   node_found : (at : ObjId) (k : NodeId) → class_at s at ≡ class.Node k → is_there s.host.nodes k ≡ true → node_in s.host.nodes (Some (class_at s at)) ≡ Some k
   node_found at k is there = ap (λ c. node_in s.host.nodes (Some c)) is ∙ ap (λ b. if b then Some k else None) there
 
-  on_node_run : (at : ObjId) (k : NodeId) (f : NodeId → Act) → class_at s at ≡ class.Node k → is_there s.host.nodes k ≡ true
+  pub on_node_run : (at : ObjId) (k : NodeId) (f : NodeId → Act) → class_at s at ≡ class.Node k → is_there s.host.nodes k ≡ true
       → (on_node (value.Object at) f).run s n ≡ (f k).run s n
   on_node_run at k f is there = ap (λ o. (or_wrong f o).run s n) (node_found at k is there)
 
