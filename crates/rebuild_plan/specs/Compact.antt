@@ -1,7 +1,7 @@
 -- A page as it is saved: its things by number, each by what makes it and what it has; its globals, its document and its timers. Ids are
 -- places.
 use Rattle.std.specs.Prelude.{ℕ, Bool, List, [], ◌∷◌, Option, Some, None, nat_eq, if◌then◌else◌}
-use Rattle.dom_tree.specs.Node.{kind_at}
+use Rattle.dom_tree.specs.Node.{node_at}
 use Rattle.js_values.specs.declared.ids.ObjId.{ObjId}
 use Rattle.js_values.specs.declared.throw.ErrorKind.{ErrorKind}
 use Rattle.js_values.specs.declared.throw.ErrorKind.TheVariants as kind
@@ -40,7 +40,7 @@ maker_as s things proto class.List = made.List
 maker_as s things proto class.Fault = made.Fault (kind_of proto)
 maker_as s things proto (class.Page c env) = made.Func c (moved_needs things (needs_of s env c))
 maker_as s things proto (class.Bound target this args) = made.Bind (moved things target) (moved_value things this) (moved_values things args)
-maker_as s things proto (class.Node k) = node_maker things proto (kind_at s.host.nodes k.0)
+maker_as s things proto (class.Node k) = node_maker things proto (node_at s.host.nodes k.0).content.kind
 maker_as s things proto (class.Event parts) = made.Event
 maker_as s things proto c = made.Plain (moved_proto things proto)
 
