@@ -1,6 +1,6 @@
 -- Calls of methods of nodes, of events and of the document, and of functions of timers, in statements: each is its row, with a step less
 -- (ECMA-262 5.1 section 11.2.3).
-use Rattle.std.proofs.Common.{◌≡◌, sym, ap, ◌∙◌, ℕ, suc, Bool, false, List, [], ◌∷◌, ◌++◌, Option, Some, None, append-nil, append_assoc}
+use Rattle.std.proofs.Common.{◌≡◌, sym, ap, ◌∙◌, ℕ, suc, List, [], ◌∷◌, ◌++◌, Option, Some, None, append-nil, append_assoc}
 use Rattle.std.specs.Prelude.{unwrap_or}
 use Rattle.js_core.specs.Tree as tree
 use Rattle.js_core.specs.Tree.{call, expr, member, name, no_exprs, then_expr}
@@ -16,8 +16,7 @@ use Rattle.page_host.specs.declared.host_name.HostName.{HostName}
 use Rattle.page_meaning.specs.Act.{Act, Ended, Outcome, also, done, nothing, on_value, then_on}
 use Rattle.page_meaning.specs.Calls.{begin, called, calls_at}
 use Rattle.page_meaning.specs.Errors.{settle}
-use Rattle.page_meaning.specs.Expressions.{assigned, eval, eval_args}
-use Rattle.page_meaning.specs.HostPuts.{put_member}
+use Rattle.page_meaning.specs.Expressions.{eval, eval_args}
 use Rattle.page_meaning.specs.Names.{Here}
 use Rattle.page_meaning.specs.Places.{function_at, function_place}
 use Rattle.page_meaning.specs.Properties.{get_member, is_function}

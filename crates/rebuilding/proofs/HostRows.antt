@@ -12,7 +12,6 @@ use Rattle.dom_tree.specs.Steps.{inserts, is_there, sets_attribute, sets_value, 
 use Rattle.dom_tree.specs.declared.content.Kind.{Kind}
 use Rattle.dom_tree.specs.declared.content.Kind.TheVariants as kind
 use Rattle.dom_tree.specs.declared.fault.DomError.{DomError}
-use Rattle.object_heap.specs.declared.object.Class.{Class}
 use Rattle.object_heap.specs.declared.object.Class.TheVariants as class
 use Rattle.object_heap.specs.declared.object.EventParts.{EventParts}
 use Rattle.page_host.specs.HostNames.{has_at_node, host_name, is_handler}
@@ -25,7 +24,7 @@ use Rattle.page_meaning.specs.Errors.{raise}
 use Rattle.page_meaning.specs.Events.{initialises}
 use Rattle.page_meaning.specs.HostNames.{Seen, has_host_name, hosted}
 use Rattle.page_meaning.specs.HostPuts.{host_puts, put_member, put_named, put_seen, stepped}
-use Rattle.page_meaning.specs.NodeRows.{change_event, change_listeners, create_element, create_event, insert, listener_of, new_node, node_in, node_row, on_kind, on_node, or_wrong, parts_in, remove, set_attribute, unless_refused, with_callback, with_text}
+use Rattle.page_meaning.specs.NodeRows.{change_event, change_listeners, create_element, create_event, insert, listener_of, new_node, node_in, node_row, on_kind, on_node, or_wrong, parts_in, remove, set_attribute, unless_refused, with_text}
 use Rattle.page_meaning.specs.Places.{at_place}
 use Rattle.page_meaning.specs.Primitives.{changes_host}
 use Rattle.page_meaning.specs.Reading.{seen_at}

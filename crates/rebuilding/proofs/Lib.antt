@@ -53,3 +53,8 @@ pub mod WalkedAgain
 pub mod WindowStays
 pub mod WindowsAgree
 pub mod Wrapped
+pub mod HostRows
+pub mod QuietDispatch
+pub mod HostCalls
+pub mod StepStatements
+pub mod HostMethods

@@ -131,9 +131,10 @@ module _ (e : ObjId) where
   changed s g = after_step s (in_event e g)
 
   calm_if : (s : Store) (g : EventStep) (b : Bool) → KeepsLow (after_event g) → IsCalm s → IsCalm (with_heap s (if b then given s.heap e.0 (after_event g) else s.heap))
-  calm_if s g true keeps calm =
-      (given_long s.heap e.0 (after_event g) calm.0,
-      subst (λ c. phase_in c ≤ 3) (sym (given_class s.heap e.0 (after_event g) calm.0)) (low_changed (after_event g) (class_at s e) keeps calm.1))
+  calm_if s g true keeps calm = (
+    given_long s.heap e.0 (after_event g) calm.0,
+    subst (λ c. phase_in c ≤ 3) (sym (given_class s.heap e.0 (after_event g) calm.0)) (low_changed (after_event g) (class_at s e) keeps calm.1),
+  )
   calm_if s g false keeps calm = calm
 
   rest_if : (s : Store) (at : ObjId) (q : Phase) (b : Bool) → IsCalm s

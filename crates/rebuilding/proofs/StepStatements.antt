@@ -1,5 +1,5 @@
 -- Each statement of nodes, events, listeners and timers is one step of the page, where it is not refused.
-use Rattle.std.proofs.Common.{◌≡◌, refl, ap, ◌∙◌, ℕ, suc, max, Bool, true, false, ◌<◌, ◌≤◌, pos, nat_le, List, [], ◌∷◌, Option, Some, None, codes, length}
+use Rattle.std.proofs.Common.{◌≡◌, refl, ap, ◌∙◌, ℕ, suc, max, Bool, true, false, ◌<◌, ◌≤◌, pos, nat_le, List, [], ◌∷◌, Some, None, codes, length}
 use Rattle.js_core.specs.Tree as tree
 use Rattle.js_core.specs.Tree.{assign, bool, call, expr, member, name, no_exprs, num, text, then_expr}
 use Rattle.js_values.specs.declared.built_in.BuiltIn.TheVariants as built_in
