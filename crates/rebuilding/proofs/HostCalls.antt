@@ -1,6 +1,6 @@
 -- Calls of methods of nodes, of events and of the document, and of functions of timers, in statements: each is its row, with a step less
 -- (ECMA-262 5.1 section 11.2.3).
-use Rattle.std.proofs.Common.{◌≡◌, sym, ap, ◌∙◌, ℕ, suc, List, [], ◌∷◌, ◌++◌, Option, Some, None, append-nil, append_assoc}
+use Rattle.std.proofs.Common.{◌≡◌, sym, ap, ◌∙◌, ℕ, suc, false, List, [], ◌∷◌, ◌++◌, Option, Some, None, append-nil, append_assoc}
 use Rattle.std.specs.Prelude.{unwrap_or}
 use Rattle.js_core.specs.Tree as tree
 use Rattle.js_core.specs.Tree.{call, expr, member, name, no_exprs, then_expr}
