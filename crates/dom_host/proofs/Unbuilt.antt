@@ -4,7 +4,6 @@ use Rattle.js_values.specs.declared.built_in.BuiltIn.{BuiltIn}
 use Rattle.js_values.specs.declared.built_in.BuiltIn.TheVariants as built_in
 use Rattle.js_values.specs.declared.throw.Throw.TheVariants.{WrongArgument}
 use Rattle.js_values.specs.declared.value.Value.{Value}
-use Rattle.page_meaning.specs.Act.{Calls}
 use Rattle.page_meaning.specs.Errors.{raise}
 use Rattle.page_meaning.specs.NodeRows.{node_row}
 use Rattle.page_meaning.specs.Store.{Store}

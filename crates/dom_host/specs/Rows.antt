@@ -1,5 +1,5 @@
 -- What rows do once the page was asked: what a change of nodes answered becomes a value or an error.
-use Rattle.std.specs.Prelude.{◌≡◌, ◌<◌, Option, Result, Ok, Err, length}
+use Rattle.std.specs.Prelude.{◌<◌, Result, Ok, Err, length}
 use Rattle.js_values.specs.declared.ids.NodeId.{NodeId}
 use Rattle.js_values.specs.declared.value.Value.{Value}
 use Rattle.dom_tree.specs.declared.fault.DomError.{DomError}

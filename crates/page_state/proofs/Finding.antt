@@ -1,12 +1,12 @@
 -- What rows ask of `this` and of arguments is found, and the row goes on; or it is a wrong argument.
-use Rattle.std.proofs.Common.{◌≡◌, refl, sym, subst, Option, Some, None, Result, Ok, Err}
+use Rattle.std.proofs.Common.{subst, Option, Result, Ok, Err}
 use Rattle.js_core.specs.declared.memory.Failure.{Failure}
 use Rattle.js_core.specs.declared.memory.Failure.TheVariants as fault
 use Rattle.js_values.specs.declared.value.Value.{Value}
 use Rattle.page_meaning.specs.Act.{Act, Calls, asking}
 use Rattle.page_meaning.specs.NodeRows.{or_wrong}
 use Rattle.page_meaning.specs.Store.{Store}
-use Rattle.page_state.specs.Does.{Does, Gives, Raises}
+use Rattle.page_state.specs.Does.{Gives, Raises}
 use Rattle.page_state.specs.Finding.{IsFound, IsWrong}
 
 pub found_gives : {A B : Type 0} (f : B → Value) (o : Store → Option A) (g : Calls → A → Act) (a : A) (s t u : Store) (r : Result B (Failure Value))

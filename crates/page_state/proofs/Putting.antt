@@ -11,18 +11,16 @@ use Rattle.js_values.specs.declared.value.Value.{Value}
 use Rattle.js_values.specs.declared.value.Value.TheVariants as value
 use Rattle.dom_tree.specs.declared.content.Kind.{Kind}
 use Rattle.dom_tree.specs.declared.content.Kind.TheVariants as kind
-use Rattle.dom_tree.specs.Node.{Nodes}
 use Rattle.dom_tree.specs.Steps.{NodeStep, empties, inserts}
 use Rattle.dom_tree.proofs.Callers.{steps_stay_sound}
 use Rattle.object_heap.specs.declared.object.Class.{Class}
 use Rattle.object_heap.specs.declared.object.Class.TheVariants as class
-use Rattle.object_heap.specs.declared.property.Prop.{Prop}
 use Rattle.page_host.specs.declared.host_name.HostName.{HostName}
 use Rattle.page_host.specs.HostNames.{host_name}
 use Rattle.page_host.specs.declared.host_name.HostName.TheVariants.{Id, ClassName, Value as HasValue, Data}
 use Rattle.page_host.specs.Steps.{in_nodes}
 use Rattle.page_meaning.specs.declared.signal.Signal.TheVariants.{Value as Val}
-use Rattle.page_meaning.specs.Act.{Act, ActOf, Calls, Ended, Outcome, Stopped, asking, bind, done, nothing}
+use Rattle.page_meaning.specs.Act.{Act, ActOf, Calls, Ended, Outcome, Stopped, bind, done, nothing}
 use Rattle.page_meaning.specs.Classes.{class_at}
 use Rattle.page_meaning.specs.Convert.{to_text}
 use Rattle.page_meaning.specs.Errors.{raise}
@@ -34,13 +32,13 @@ use Rattle.page_meaning.specs.Reading.{seen_at}
 use Rattle.page_meaning.specs.Steps.{after_step, in_host, makes_node}
 use Rattle.page_meaning.specs.Store.{Store}
 use Rattle.page_state.specs.declared.puts.Taking.{Taking}
-use Rattle.page_state.specs.declared.puts.Taking.TheVariants.{Attribute, Refused, Text}
+use Rattle.page_state.specs.declared.puts.Taking.TheVariants.{Attribute, Text}
 use Rattle.page_state.specs.Does.{Does, Gives, Raises, itself}
 use Rattle.page_state.specs.Puts.{own_puts, takes}
 use Rattle.page_state.specs.Sights.{Shows}
 use Rattle.page_state.specs.declared.sight.Sight.{Sight}
 use Rattle.page_state.specs.declared.sight.Sight.TheVariants as sight
-use Rattle.page_state.proofs.Does.{asked_does, asked_gives, asked_raises, bind_does}
+use Rattle.page_state.proofs.Does.{asked_does, asked_gives, bind_does}
 
 -- ---- an act that is done at once leaves one page
 

@@ -1,5 +1,6 @@
 -- The page that was saved and the one that was rebuilt agree.
 use Rattle.std.proofs.Common.{◌≡◌, ◌⊎◌, inl, inr, refl, sym, subst, ◌∙◌, ℕ, zero, suc, ◌+◌, ◌-◌, ◌<◌, ◌≤◌, true, not, ◌&&◌, nat_eq, nat_le, nat_lt, List, [], ◌∷◌, Option, Some, length, arith}
+use Rattle.std.proofs.lemmas.List.{append-nil}
 use Rattle.std.proofs.lemmas.Bool.{and_parts, cases_lt, leb-true, ltb-true, ne_eqb}
 use Rattle.code_table.specs.Declarations.{name_of}
 use Rattle.js_core.specs.Tree.{Code}
@@ -9,7 +10,6 @@ use Rattle.object_heap.specs.Environment.{Bound}
 use Rattle.object_heap.specs.Heap.{Contents, new_object}
 use Rattle.object_heap.specs.declared.object.Class.{Class}
 use Rattle.object_heap.specs.declared.object.Class.TheVariants as class
-use Rattle.page_meaning.specs.Kept.{none_more}
 use Rattle.page_meaning.specs.Store.{Store}
 use Rattle.heap_relations.specs.Naming.{Base, BaseRel, Frame, In, Named, named, Round, Slot, SlotsRel, World, based, outermost}
 use Rattle.heap_relations.specs.Naming as naming
@@ -202,7 +202,7 @@ module _ (c : Scene) (s : Store) (things : List ℕ) (h : Contents) (sites : Lis
   stores_rel : StoreRel W s (page_with h)
   stores_rel = record {
     heap = record { objects = objects_rel; slots = slots_rel; left = still.sound; right = is.running.sound };
-    lines = record { more = []; one = none_more s.lines; two = refl };
+    lines = record { more = []; one = sym (append-nil s.lines); two = refl };
     host = hosts_rel s h things sites still;
     built_ins = built_ins_named;
     shaped = still.shaped;

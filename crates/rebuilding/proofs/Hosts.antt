@@ -27,7 +27,7 @@ use Rattle.agreement.specs.Acts.{clocks_of}
 use Rattle.heap_walker.proofs.Callers.{thing_of}
 use Rattle.heap_walker.specs.Bare.{frame_host, frame_nodes, is_ordinary, nth_node}
 use Rattle.heap_walker.specs.Still.{Still}
-use Rattle.heap_walker.specs.Things.{IsWalk, is_in}
+use Rattle.heap_walker.specs.Things.{IsWalk, Reach}
 use Rattle.object_shapes.specs.Links.{is_thing}
 use Rattle.object_shapes.specs.Shapes.{HasShape}
 use Rattle.rebuilding.specs.Rebuilt.{nth}
@@ -85,20 +85,16 @@ module _ (s : Store) (still : Still s) where
       → ((object_at s.heap.objects (built_in_count + k)).proto ≡ Some node_prototype) × ((object_at s.heap.objects (built_in_count + k)).closed ≡ false)
   proto_and_closed zero low =
       let same : built_in_count ≡ built_in_count + 0 = omega arith in
-      subst (λ j. ((object_at s.heap.objects j).proto ≡ Some node_prototype) × ((object_at s.heap.objects j).closed ≡ false)) same (
-        shape_proto (object_at s.heap.objects built_in_count) (object_at s.heap.objects built_in_count).class (nth_node 0)
-            (ap (λ j. (object_at s.heap.objects j).class) same ∙ class_is 0 low) still.shaped.document,
-        still.shaped.document_open,
-      )
+      subst (λ j. ((object_at s.heap.objects j).proto ≡ Some node_prototype) × ((object_at s.heap.objects j).closed ≡ false)) same
+      (shape_proto (object_at s.heap.objects built_in_count) (object_at s.heap.objects built_in_count).class (nth_node 0)
+      (ap (λ j. (object_at s.heap.objects j).class) same ∙ class_is 0 low) still.shaped.document, still.shaped.document_open)
   proto_and_closed (suc k) low =
       let j : ℕ = built_in_count + suc k in
       let thing : is_thing s j ≡ true =
       and_from _ _ (lt-ltb built_in_count j (omega arith)) (lt-ltb j (length s.heap.objects) (node_there (suc k) low))
-      in (
-        shape_proto (object_at s.heap.objects j) (object_at s.heap.objects j).class (nth_node (suc k)) (class_is (suc k) low)
-            (still.shaped.made j thing),
-        still.shaped.not_closed j thing,
-      )
+      in
+      (shape_proto (object_at s.heap.objects j) (object_at s.heap.objects j).class (nth_node (suc k)) (class_is (suc k) low)
+      (still.shaped.made j thing), still.shaped.not_closed j thing)
 
   pub node_is : (k : ℕ) → k < 4 → object_at s.heap.objects (built_in_count + k) ≡ new_object (class.Node (nth_node k)) (Some node_prototype)
   node_is k low =
@@ -114,6 +110,8 @@ module _ (s : Store) (still : Still s) where
     where
       k : ℕ
       k = nth things n
+
+      reach : Reach s k
       reach = walk.sound k (place_in things n below)
 
       high : built_in_count < k
@@ -197,4 +195,4 @@ module _ (s : Store) (h : Contents) (things sites : List ℕ) where
   pub hosts_rel : Still s → HostRel (clocks_of (rebuilt_world s h things sites)) (rebuilt_world s h things sites) s.host frame_host
   hosts_rel still =
       subst (λ (g : Host). HostRel (clocks_of W) W g frame_host) (sym still.bare.host)
-      (frames_rel s.host.clock refl (subst AreTrees (nodes_are s still) still.shaped.host.nodes.trees))
+      (frames_rel s.host.clock refl (subst AreTrees (nodes_are s still) still.shaped.host.sound.nodes.trees))

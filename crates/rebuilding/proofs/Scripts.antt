@@ -94,7 +94,7 @@ window_first =
 built_in_kept : (k : ℕ) → k < built_in_count → object_at begun.objects k ≡ built_in_at k
 built_in_kept k low =
     object_before start (list_of []) k (there_at k low)
-    ∙ get_or-append built_ins (node_objects 0 frame_nodes) k no_object (subst (λ n. k < n) (sym built_ins_count) low)
+    ∙ get_or-append built_ins (node_objects 0 frame_nodes) no_object k (subst (λ n. k < n) (sym built_ins_count) low)
 
 nodes_kept : (k : ℕ) → k < 4 → object_at begun.objects (built_in_count + k) ≡ new_object (class.Node (nth_node k)) (Some node_prototype)
 unfolding built_in_count

@@ -1,6 +1,6 @@
 use Rattle.dom_tree.specs.Node.{is_document}
 use Rattle.std.proofs.Common.{sym, ◌∙◌}
-use Rattle.dom_host.proofs.Asked.{of_kind, of_other, wrong_on}
+use Rattle.dom_host.proofs.Asked.{of_other, wrong_on}
 use Rattle.dom_host.proofs.judged.found_document.Goals as goal
 
 pub returns-in_err-found : goal.returns-in_err-found

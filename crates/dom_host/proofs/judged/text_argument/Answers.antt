@@ -1,6 +1,3 @@
-use Rattle.page_meaning.specs.Convert.{to_text}
-use Rattle.page_meaning.specs.ObjectRows.{argument}
-use Rattle.js_values.specs.declared.value.Value.TheVariants.{Text}
 use Rattle.dom_host.proofs.Asked.{texts_same}
 use Rattle.dom_host.proofs.judged.text_argument.Goals as goal
 

@@ -1,4 +1,4 @@
-use Rattle.std.proofs.Common.{◌≡◌, ◌∙◌, ◌<◌, ap, arith, length, nat_eq, sym}
+use Rattle.std.proofs.Common.{◌≡◌, ◌∙◌, ap, arith, length, nat_eq, sym}
 use Rattle.page_host.specs.Host.{Host}
 use Rattle.page_state.proofs.Putting.{filled, text_node_more}
 use Rattle.page_state.proofs.state.State.fill.Goals as goal

@@ -1,4 +1,4 @@
-use Rattle.std.proofs.Common.{Ok, arith}
+use Rattle.std.proofs.Common.{Ok}
 use Rattle.js_values.specs.declared.value.Value.TheVariants.{Undefined, Text}
 use Rattle.dom_tree.specs.Steps.{empties}
 use Rattle.page_meaning.specs.Act.{bind}

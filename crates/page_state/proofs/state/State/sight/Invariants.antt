@@ -1,4 +1,3 @@
-use Rattle.std.proofs.Common.{suc}
 use Rattle.page_state.proofs.Sights.{Climb}
 use Rattle.page_state.proofs.state.State.sight.Given as goal
 
