@@ -85,16 +85,20 @@ module _ (s : Store) (still : Still s) where
       → ((object_at s.heap.objects (built_in_count + k)).proto ≡ Some node_prototype) × ((object_at s.heap.objects (built_in_count + k)).closed ≡ false)
   proto_and_closed zero low =
       let same : built_in_count ≡ built_in_count + 0 = omega arith in
-      subst (λ j. ((object_at s.heap.objects j).proto ≡ Some node_prototype) × ((object_at s.heap.objects j).closed ≡ false)) same
-      (shape_proto (object_at s.heap.objects built_in_count) (object_at s.heap.objects built_in_count).class (nth_node 0)
-      (ap (λ j. (object_at s.heap.objects j).class) same ∙ class_is 0 low) still.shaped.document, still.shaped.document_open)
+      subst (λ j. ((object_at s.heap.objects j).proto ≡ Some node_prototype) × ((object_at s.heap.objects j).closed ≡ false)) same (
+        shape_proto (object_at s.heap.objects built_in_count) (object_at s.heap.objects built_in_count).class (nth_node 0)
+            (ap (λ j. (object_at s.heap.objects j).class) same ∙ class_is 0 low) still.shaped.document,
+        still.shaped.document_open,
+      )
   proto_and_closed (suc k) low =
       let j : ℕ = built_in_count + suc k in
       let thing : is_thing s j ≡ true =
       and_from _ _ (lt-ltb built_in_count j (omega arith)) (lt-ltb j (length s.heap.objects) (node_there (suc k) low))
-      in
-      (shape_proto (object_at s.heap.objects j) (object_at s.heap.objects j).class (nth_node (suc k)) (class_is (suc k) low)
-      (still.shaped.made j thing), still.shaped.not_closed j thing)
+      in (
+        shape_proto (object_at s.heap.objects j) (object_at s.heap.objects j).class (nth_node (suc k)) (class_is (suc k) low)
+            (still.shaped.made j thing),
+        still.shaped.not_closed j thing,
+      )
 
   pub node_is : (k : ℕ) → k < 4 → object_at s.heap.objects (built_in_count + k) ≡ new_object (class.Node (nth_node k)) (Some node_prototype)
   node_is k low =
