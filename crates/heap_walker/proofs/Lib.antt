@@ -5,5 +5,6 @@ pub mod Joining
 pub mod Needing
 pub mod Places
 pub mod Resting
+pub mod Siblings
 pub mod Walks
 pub mod Weights

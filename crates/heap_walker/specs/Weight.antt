@@ -89,16 +89,22 @@ abbrev pub set_load : Option (List ℕ) → Load
 set_load None = load 0 0
 set_load (Some text) = text_load text
 
+abbrev pub attribute_load : List ℕ × List ℕ → Load
+attribute_load a = load 1 (units (length a.0 + length a.1))
+
 abbrev pub attributes_load : Pairs → Load
 attributes_load [] = load 0 0
-attributes_load (a ∷ as') = together (load 1 (units (length a.0 + length a.1))) (attributes_load as')
+attributes_load (a ∷ as') = together (attribute_load a) (attributes_load as')
 
 abbrev pub content_load : Content → Load
 content_load c = together (kind_load c.kind) (together (attributes_load c.attributes) (set_load c.value))
 
+abbrev pub listener_load : Listener → Load
+listener_load l = load 1 (units (length l.kind))
+
 abbrev pub listeners_load : List Listener → Load
 listeners_load [] = load 0 0
-listeners_load (l ∷ ls) = together (load 1 (units (length l.kind))) (listeners_load ls)
+listeners_load (l ∷ ls) = together (listener_load l) (listeners_load ls)
 
 -- a node with its listeners
 abbrev pub node_load : Host → NodeId → Load

@@ -114,13 +114,27 @@ impl Weight {
         self.add(0, length(text));
     }
 
+    // An attribute.
+    fn add_attribute(&mut self, name: &Units, value: &Units)
+        ensures { spec.Adds self.old self.new (spec.attribute_load (name.now, value.now)) }
+    {
+        self.add(1, length(name).saturating_add(length(value)));
+    }
+
+    // A listener.
+    fn add_listener(&mut self, listener: &Listener)
+        ensures { spec.Adds self.old self.new (spec.listener_load listener.now) }
+    {
+        self.add(1, length(&listener.kind));
+    }
+
     // Attributes.
     fn add_attributes(&mut self, attributes: &[(Units, Units)])
         ensures { spec.Adds self.old self.new (spec.attributes_load attributes.now) }
     {
         let mut rest = attributes;
         while let [attribute, after @ ..] = rest {
-            self.add(1, length(&attribute.0).saturating_add(length(&attribute.1)));
+            self.add_attribute(&attribute.0, &attribute.1);
             rest = after;
         }
     }
@@ -160,7 +174,7 @@ impl Weight {
     {
         let mut rest = listeners;
         while let [listener, after @ ..] = rest {
-            self.add(1, length(&listener.kind));
+            self.add_listener(listener);
             rest = after;
         }
     }
