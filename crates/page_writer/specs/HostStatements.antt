@@ -45,7 +45,7 @@ abbrev pub set_value_expr : ObjId → List ℕ → tree.Expr
 set_value_expr node t = assign None (member (reference node) (codes "value")) (text t)
 
 abbrev pub listen_expr : ObjId → List ℕ → ObjId → Bool → tree.Expr
-listen_expr node kind call capture = method node (codes "addEventListener") (three (text kind) (reference call) (bool capture))
+listen_expr node kind f capture = method node (codes "addEventListener") (three (text kind) (reference f) (bool capture))
 
 -- ---- events
 
@@ -67,7 +67,7 @@ abbrev pub clear_expr : ℕ → tree.Expr
 clear_expr id = global_call (codes "clearTimeout") (one (number_expr id))
 
 abbrev pub timeout_expr : ObjId → ℕ → tree.Expr
-timeout_expr call rest = global_call (codes "setTimeout") (two (reference call) (number_expr rest))
+timeout_expr f rest = global_call (codes "setTimeout") (two (reference f) (number_expr rest))
 
 abbrev pub interval_expr : ObjId → ℕ → ℕ → tree.Expr
-interval_expr call rest period = global_call (codes "setIntervalFrom") (three (reference call) (number_expr rest) (number_expr period))
+interval_expr f rest period = global_call (codes "setIntervalFrom") (three (reference f) (number_expr rest) (number_expr period))

@@ -75,14 +75,14 @@ rebuild_expr (Attribute node x v) = attribute_expr node x v
 rebuild_expr (SetValue node t) = set_value_expr node t
 rebuild_expr (Init event kind bubbles cancelable) = init_expr event kind bubbles cancelable
 rebuild_expr (Dispatch target event) = dispatch_expr target event
-rebuild_expr (Listen node kind call capture) = listen_expr node kind call capture
+rebuild_expr (Listen node kind f capture) = listen_expr node kind f capture
 rebuild_expr (Define at x p) = define_expr at x (whole_descriptor p)
 rebuild_expr (DefinePrototype at v writable) = define_expr at (codes "prototype") (short_descriptor v writable)
 rebuild_expr (DefineLength at v writable) = define_expr at (codes "length") (short_descriptor v writable)
 rebuild_expr Filler = filler_expr
 rebuild_expr (Clear id) = clear_expr id
-rebuild_expr (Timeout call rest) = timeout_expr call rest
-rebuild_expr (Interval call rest period) = interval_expr call rest period
+rebuild_expr (Timeout f rest) = timeout_expr f rest
+rebuild_expr (Interval f rest period) = interval_expr f rest period
 rebuild_expr (Prevent at) = call (object_function (codes "preventExtensions")) (then_expr (reference at) no_exprs)
 
 abbrev pub statement : Rebuild → tree.Stmt
