@@ -3,7 +3,7 @@ use Rattle.std.specs.Prelude.{◌≡◌, ℕ, ◌<◌, List, [], ◌∷◌, drop
 use Rattle.agreement.specs.Acts.{StoreRel}
 use Rattle.agreement.specs.Trees.{HasEqualTrees}
 use Rattle.heap_relations.specs.Naming.{World}
-use Rattle.heap_walker.specs.Bare.{frame_nodes}
+use Rattle.page_writer.specs.Frame.{frame_nodes}
 use Rattle.heap_walker.specs.Still.{Still}
 use Rattle.heap_walker.specs.Things.{IsWalk}
 use Rattle.js_core.specs.Tree.{Stmts}
