@@ -54,6 +54,7 @@ pub mod WindowStays
 pub mod WindowsAgree
 pub mod Wrapped
 pub mod HostRows
+pub mod HostRuns
 pub mod QuietDispatch
 pub mod HostCalls
 pub mod StepStatements

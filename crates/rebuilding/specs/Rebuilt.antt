@@ -1,5 +1,5 @@
 -- That the statements of a plan can run one after another, and what they leave: the page that was saved, with its things at their sites.
-use Rattle.std.specs.Prelude.{◌≡◌, ℕ, ◌<◌, true, false, List, [], ◌∷◌, ◌++◌, Option, length, slice_index_or}
+use Rattle.std.specs.Prelude.{◌≡◌, ℕ, ◌<◌, true, false, List, [], ◌∷◌, ◌++◌, Option, Some, length, slice_index_or}
 use Rattle.std.specs.Option.{option_map}
 use Rattle.code_table.specs.Declarations.{name_of}
 use Rattle.heap_walker.specs.Still.{Still}

@@ -1,0 +1,168 @@
+-- Each statement of nodes, events, listeners and timers that can run does, and leaves the page that is wanted.
+use Rattle.std.proofs.Common.{◌≡◌, refl, sym, ap, subst, ◌∙◌, ℕ, suc, ◌+◌, ◌<◌, ◌≤◌, Bool, true, false, length, max, nat_le, List, [], ◌∷◌, Option, Some, None, arith, codes, if◌then◌else◌}
+use Rattle.js_core.specs.Tree.{expr, name}
+use Rattle.js_values.specs.declared.built_in.BuiltIn.{BuiltIn}
+use Rattle.js_values.specs.declared.built_in.BuiltIn.TheVariants as built_in
+use Rattle.js_values.specs.declared.ids.ObjId.{ObjId}
+use Rattle.js_values.specs.declared.value.Value.TheVariants.{Object as Reference}
+use Rattle.dom_tree.specs.Node.{Nodes}
+use Rattle.dom_tree.specs.Steps.{NodeStep, inserts, sets_attribute, sets_value}
+use Rattle.dom_tree.proofs.Callers.{steps_stay_sound}
+use Rattle.object_heap.specs.Chain.{object_at}
+use Rattle.object_heap.specs.Heap.{Contents}
+use Rattle.object_heap.specs.declared.object.Class.TheVariants as class
+use Rattle.page_host.specs.Host.{Host, object_of_node}
+use Rattle.page_host.specs.Steps.{HostStep, after_fit, after_host, clears, in_nodes, is_fit, listens, starts}
+use Rattle.page_host.proofs.Callers.{hosts_stay_sound}
+use Rattle.page_meaning.specs.Act.{Ended, nothing}
+use Rattle.page_meaning.specs.Calls.{calls_at}
+use Rattle.page_meaning.specs.NodeRows.{listener_of}
+use Rattle.page_meaning.specs.Places.{function_at}
+use Rattle.page_meaning.specs.Statements.{exec}
+use Rattle.page_meaning.specs.Steps.{after_step, changed_host, fits_host, in_host}
+use Rattle.page_meaning.specs.Store.{Store, with_both}
+use Rattle.page_writer.specs.Frame.{nth_node}
+use Rattle.page_writer.specs.References.{reference}
+use Rattle.page_writer.specs.Statements.{statement}
+use Rattle.rebuild_plan.specs.declared.statement.Rebuild.{Rebuild}
+use Rattle.rebuild_plan.specs.declared.statement.Rebuild.TheVariants.{Append, Attribute, SetValue, Listen, Filler, Clear, Timeout, Interval}
+use Rattle.rebuilding.specs.Running.{CanAppend, CanListen, CanSetAttribute, CanStart, HasHosted, HasRun, IsNodeHere, Runs, Stand, node_here}
+use Rattle.rebuilding.specs.Scene.{IsHosting, IsRunning, Scene, inside}
+use Rattle.rebuilding.specs.Sites.{site, sited}
+use Rattle.rebuilding.proofs.HostCalls.{Reads}
+use Rattle.rebuilding.proofs.HostMethods as methods
+use Rattle.rebuilding.proofs.StepStatements.{IsNodeAt, append_runs, attribute_runs, clear_runs, interval_runs, listen_runs, timeout_runs}
+
+-- ---- the host keeps what holds of it
+
+-- neither a node nor an object of one comes or goes, and no time passes
+record IsAlike (g j : Host) : Type 0 where
+  nodes : length j.nodes ≡ length g.nodes
+  objects : j.objects ≡ g.objects
+  clock : j.clock ≡ g.clock
+
+data Keeps : HostStep → Type 0 where
+  of_nodes : {s : NodeStep} → Keeps (in_nodes s)
+  of_listeners : {l : _} → Keeps (listens l)
+  of_timers : {n : ℕ} {p : Option ℕ} {f : ObjId} → Keeps (starts n p f)
+  of_clears : {n : ℕ} → Keeps (clears n)
+
+alike_fit : (g : Host) (s : HostStep) → Keeps s → IsAlike g (after_fit g s)
+alike_fit g _ (of_nodes {s = s}) = record { nodes = (steps_stay_sound g.nodes s).long; objects = refl; clock = refl }
+alike_fit g _ of_listeners = record { nodes = refl; objects = refl; clock = refl }
+alike_fit g _ of_timers = record { nodes = refl; objects = refl; clock = refl }
+alike_fit g _ of_clears = record { nodes = refl; objects = refl; clock = refl }
+
+alike : (g : Host) (s : HostStep) → Keeps s → IsAlike g (after_host g s)
+alike g s k = by (is_fit g s)
+  where
+    by : (b : Bool) → IsAlike g (if b then after_fit g s else g)
+    by true = alike_fit g s k
+    by false = record { nodes = refl; objects = refl; clock = refl }
+
+hosting_kept : (h : Contents) (g : Host) (s : HostStep) → Keeps s → IsHosting h g → IsHosting h (after_host g s)
+hosting_kept h g s k is =
+    let a = alike g s k in
+    record {
+      sound = hosts_stay_sound g s is.sound;
+      objects = λ m low. subst (λ os. IsAt m os) (sym a.objects) (is.objects m (subst (λ n. m < n) a.nodes low));
+      nodes = λ m n there e.
+          (subst (λ l. n < l) (sym a.nodes) (is.nodes m n there e).0,
+          ap (λ os. object_of_node os (nth_node n)) a.objects ∙ (is.nodes m n there e).1);
+      clock = a.clock ∙ is.clock;
+    }
+  where
+    IsAt : ℕ → List ObjId → Type 0
+    IsAt m os = (object_at h.objects (object_of_node os (nth_node m)).0).class ≡ class.Node (nth_node m)
+
+greater : (m n : ℕ) → m ≤ n → max m n ≡ n
+greater m n h = omega (arith, h)
+
+-- ---- the statements
+
+module _ (c : Scene) (s : Store) (sites : List ℕ) (r : IsRunning c s.heap sites) (is : IsHosting s.heap s.host) (d n : ℕ)
+    (read : (at : ObjId) → Stand sites (at.0 ∷ []) → Reads (inside c) d s n (reference at) (Reference (sited sites at))) where
+  abbrev RunsSo : Rebuild → Type 0
+  RunsSo q = Runs c s sites q (suc n) ((exec (calls_at (suc d)) (inside c) (statement q)).run s (suc n))
+
+  -- a statement that is one step of the host
+  hosted : (q : Rebuild) (g : HostStep) (left : ℕ) → Keeps g → fits_host s g ≡ true → suc n ≤ left + 1
+      → (exec (calls_at (suc d)) (inside c) (statement q)).run s (suc n) ≡ Ended nothing (after_step s (in_host g)) left
+      → (HasHosted s.heap s.host s.heap (after_host s.host g) sites sites g → HasRun c s.heap s.host s.heap (after_host s.host g) sites sites q) → RunsSo q
+  hosted q g left keeps fits few ran give = record {
+    after = s.heap;
+    host = after_host s.host g;
+    new_sites = sites;
+    left = left;
+    steps = few;
+    ends = ran ∙ ap (λ (b : Bool). Ended nothing (with_both s s.heap (if b then after_host s.host g else s.host)) left) fits;
+    has_run = give (record { same = refl; heap = refl; host = refl });
+    running = r;
+    hosting = hosting_kept s.heap s.host g keeps is;
+  }
+
+  node_is : (at : ObjId) → IsNodeHere s.heap s.host sites at → IsNodeAt s (sited sites at) (node_here s.heap sites at)
+  node_is at i = record { class = i.class; there = i.there }
+
+  pub appended : (at to : ObjId) → CanAppend s.heap s.host sites at to → RunsSo (Append at to)
+  appended at to can =
+      let k = node_here s.heap sites at in
+      let l = node_here s.heap sites to in
+      hosted (Append at to) (in_nodes (inserts k l None)) n of_nodes refl (omega arith)
+      (append_runs (inside c) d s n (reference at) (reference to) (sited sites at) (sited sites to) k l (read at can.parent.stands) (read to can.child.stands)
+      (methods.appends s r.sound.prototypes r.built_ins (sited sites at) can.parent.proto can.lacks)
+      (node_is at can.parent) (node_is to can.child) can.fits)
+      (λ i. i)
+
+  pub attribute_set : (at : ObjId) (x v : List ℕ) → CanSetAttribute s.heap s.host sites at x → RunsSo (Attribute at x v)
+  attribute_set at x v can =
+      let k = node_here s.heap sites at in
+      hosted (Attribute at x v) (in_nodes (sets_attribute k x v)) n of_nodes refl (omega arith)
+      (attribute_runs (inside c) d s n (reference at) (sited sites at) k x v (read at can.is.stands)
+      (methods.sets_attribute s r.sound.prototypes r.built_ins (sited sites at) can.is.proto can.lacks)
+      (node_is at can.is) can.element can.plain can.named)
+      (λ i. i)
+
+  pub listener_added : (at : ObjId) (x : List ℕ) (f : ObjId) (capture : Bool) → CanListen s.heap s.host sites at f → RunsSo (Listen at x f capture)
+  listener_added at x f capture can =
+      let k = node_here s.heap sites at in
+      hosted (Listen at x f capture) (listens (listener_of k x (sited sites f) capture)) n of_listeners can.callable (omega arith)
+      (listen_runs (inside c) d s n (reference at) (reference f) (sited sites at) (sited sites f) k x capture (read at can.is.stands) (read f can.stands)
+      (methods.adds_listener s r.sound.prototypes r.built_ins (sited sites at) can.is.proto can.lacks)
+      (node_is at can.is) can.callable)
+      (λ i. i)
+
+  -- ---- timers
+
+  module _ (timeout : Reads (inside c) d s n (name (codes "setTimeout")) (Reference (function_at built_in.SetTimeout)))
+      (interval : Reads (inside c) d s n (name (codes "setIntervalFrom")) (Reference (function_at built_in.SetIntervalFrom)))
+      (clear : Reads (inside c) d s n (name (codes "clearTimeout")) (Reference (function_at built_in.ClearTimeout)))
+      (object : Reads (inside c) d s n (name (codes "Object")) (Reference (function_at built_in.Object))) where
+    pub filled : CanStart s.heap s.host (function_at built_in.Object).0 0 None → RunsSo Filler
+    filled can =
+        hosted Filler (starts 0 None (function_at built_in.Object)) n of_timers can.callable (omega arith)
+        (timeout_runs (inside c) d s n (name (codes "Object")) (function_at built_in.Object) 0 timeout
+        (methods.is_set_timeout s r.sound.prototypes r.built_ins) object can.callable can.room)
+        (λ i. i)
+
+    pub cleared : (id : ℕ) → RunsSo (Clear id)
+    cleared id =
+        hosted (Clear id) (clears id) n of_clears refl (omega arith)
+        (clear_runs (inside c) d s n id clear (methods.is_clear_timeout s r.sound.prototypes r.built_ins))
+        (λ i. i)
+
+    pub timeout_begun : (f : ObjId) (rest : ℕ) → Stand sites (f.0 ∷ []) → CanStart s.heap s.host (site sites f.0) rest None → RunsSo (Timeout f rest)
+    timeout_begun f rest stands can =
+        hosted (Timeout f rest) (starts rest None (sited sites f)) n of_timers can.callable (omega arith)
+        (timeout_runs (inside c) d s n (reference f) (sited sites f) rest timeout
+        (methods.is_set_timeout s r.sound.prototypes r.built_ins) (read f stands) can.callable can.room)
+        (λ i. i)
+
+    pub interval_begun : (f : ObjId) (rest period : ℕ) → 1 ≤ period → Stand sites (f.0 ∷ []) → CanStart s.heap s.host (site sites f.0) rest (Some period)
+        → RunsSo (Interval f rest period)
+    interval_begun f rest period positive stands can =
+        hosted (Interval f rest period) (starts rest (Some period) (sited sites f)) n of_timers can.callable (omega arith)
+        (interval_runs (inside c) d s n (reference f) (sited sites f) rest period interval
+        (methods.is_set_interval_from s r.sound.prototypes r.built_ins) (read f stands) can.callable can.room
+        ∙ ap (λ (m : ℕ). Ended nothing (after_step s (in_host (starts rest (Some m) (sited sites f)))) n) (greater 1 period positive))
+        (λ i. i)
