@@ -1,5 +1,6 @@
 pub mod Bindings
 pub mod Callers
+pub mod Groups
 pub mod Hosted
 pub mod Joining
 pub mod Needing

@@ -1,12 +1,13 @@
 //! The listeners of each node.
 
-ghost use Rattle.std.specs.Prelude.{◌≡◌, ℕ, [], IfOk, OnOk};
+ghost use Rattle.std.specs.Prelude.{◌≡◌, ◌∷◌, ◌++◌, ℕ, [], IfOk, OnOk};
 ghost use Rattle.heap_walker.specs.Heard as spec;
 ghost use Rattle.heap_walker.specs.Things.{heard_at};
 
 use js_core::OutOfMemory;
 use js_values::NodeId;
 use page_host::Listener;
+use page_state::State;
 use std::alloc::Global;
 use std::marker::Model;
 
@@ -25,6 +26,16 @@ impl Model for Group {
     ghost view = { λ g. g.items.items };
 }
 
+impl Group {
+    // One more, which is the last.
+    fn push(&mut self, listener: Listener) -> Result<(), OutOfMemory>
+        ensures { OnOk result (self.new ≡ self.old ++ listener ∷ []) }
+    {
+        self.items.push(listener)?;
+        Ok(())
+    }
+}
+
 /// The listeners of each node, in the order in which they were added: so each is looked for once, and not for each node again.
 #[derive(Drop)]
 pub struct Heard {
@@ -41,8 +52,15 @@ impl Model for Heard {
 }
 
 impl Heard {
-    /// These listeners by their nodes.
-    pub fn of(alloc: Global, listeners: &[Listener]) -> Result<Heard, OutOfMemory>
+    /// The listeners of a page.
+    pub fn of_page(state: &State) -> Result<Heard, OutOfMemory>
+        ensures { IfOk result (λ heard. spec.AreHeard state.now.host.listeners heard) }
+    {
+        Heard::of(state.alloc(), state.host().listeners())
+    }
+
+    // These listeners by their nodes.
+    fn of(alloc: Global, listeners: &[Listener]) -> Result<Heard, OutOfMemory>
         ensures { IfOk result (λ heard. spec.AreHeard listeners.now heard) }
     {
         let mut heard = Heard {
@@ -62,20 +80,8 @@ impl Heard {
             ≡ spec.with_heard k (spec.group_at self.old k) listener.now) }
     {
         let place = listener.node.0;
-        self.reach(alloc, place)?;
-        self.groups[place as usize].items.push(listener.clone()?)?;
-        Ok(())
-    }
-
-    // There is a list at the place.
-    fn reach(&mut self, alloc: Global, place: u64) -> Result<(), OutOfMemory>
-        ensures { OnOk result (spec.Reaches self.old self.new place) }
-    {
-        while self.groups.len() as u64 <= place {
-            self.groups.push(Group {
-                items: Vec::new(alloc),
-            })?;
-        }
+        reach(alloc, &mut self.groups, place)?;
+        self.groups[place as usize].push(listener.clone()?)?;
         Ok(())
     }
 
@@ -88,4 +94,16 @@ impl Heard {
             None => &[],
         }
     }
+}
+
+// There is a list at the place.
+fn reach(alloc: Global, groups: &mut Vec<Group>, place: u64) -> Result<(), OutOfMemory>
+    ensures { OnOk result (spec.Reaches groups.old.items groups.new.items place) }
+{
+    while groups.len() as u64 <= place {
+        groups.push(Group {
+            items: Vec::new(alloc),
+        })?;
+    }
+    Ok(())
 }

@@ -7,6 +7,7 @@ ghost use Rattle.heap_walker.specs.Heard.{AreHeard};
 ghost use Rattle.heap_walker.specs.Things as spec;
 ghost use Rattle.heap_walker.specs.Walking.{joined};
 ghost use Rattle.object_shapes.specs.Links as shape;
+ghost use Rattle.page_meaning.specs.Places.{document};
 ghost use Rattle.page_meaning.specs.Properties.{class_at};
 
 use crate::heard::Heard;
@@ -275,7 +276,7 @@ pub fn see_links(
 }
 
 // The functions of timers.
-fn see_timers(state: &State, timers: &[Live], seen: &mut IndexSet<u64>) -> Result<(), OutOfMemory>
+fn see_live(state: &State, timers: &[Live], seen: &mut IndexSet<u64>) -> Result<(), OutOfMemory>
     ensures { OnOk result (seen.new.keys
         ≡ joined state.now seen.old.keys (spec.timers_links timers.now)) }
 {
@@ -287,6 +288,13 @@ fn see_timers(state: &State, timers: &[Live], seen: &mut IndexSet<u64>) -> Resul
     Ok(())
 }
 
+fn see_timers(state: &State, seen: &mut IndexSet<u64>) -> Result<(), OutOfMemory>
+    ensures { OnOk result (seen.new.keys
+        ≡ joined state.now seen.old.keys (spec.timers_links state.now.host.timers)) }
+{
+    see_live(state, state.host().timers(), seen)
+}
+
 // What globals refer to.
 #[tactic(auto, unfolding(page_meaning::specs::Pristine::built_in_globals))]
 fn see_globals(state: &State, seen: &mut IndexSet<u64>) -> Result<(), OutOfMemory>
@@ -294,6 +302,15 @@ fn see_globals(state: &State, seen: &mut IndexSet<u64>) -> Result<(), OutOfMemor
         (shape.props_links (spec.globals_of state.now))) }
 {
     see_properties(state, WINDOW, BUILT_IN_GLOBALS, seen)
+}
+
+#[tactic(auto, unfolding(page_meaning::specs::Places::built_in_count))]
+fn see_document(state: &State, heard: &Heard, seen: &mut IndexSet<u64>) -> Result<(), OutOfMemory>
+    requires { AreHeard state.now.host.listeners heard.now }
+    ensures { OnOk result (seen.new.keys
+        ≡ joined state.now seen.old.keys (spec.links state.now document.0)) }
+{
+    see_links(state, heard, DOCUMENT, seen)
 }
 
 /// What globals, the document and timers refer to is seen, as far as it is a thing.
@@ -304,6 +321,6 @@ pub fn see_roots(state: &State, heard: &Heard, seen: &mut IndexSet<u64>) -> Resu
         ≡ joined state.now seen.old.keys (spec.roots state.now)) }
 {
     see_globals(state, seen)?;
-    see_links(state, heard, DOCUMENT, seen)?;
-    see_timers(state, state.host().timers(), seen)
+    see_document(state, heard, seen)?;
+    see_timers(state, seen)
 }

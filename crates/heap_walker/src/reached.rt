@@ -23,7 +23,7 @@ pub struct Walked {
 pub fn walk(state: &State) -> Result<Walked, OutOfMemory>
     ensures { IfOk result (λ walked. IsWalk state.now walked.things.keys) }
 {
-    let heard = Heard::of(state.alloc(), state.host().listeners())?;
+    let heard = Heard::of_page(state)?;
     let mut seen = IndexSet::new(state.alloc());
     see_roots(state, &heard, &mut seen)?;
     see_rest(state, &heard, &mut seen)?;

@@ -1,6 +1,7 @@
 //! What a page weighs that is saved.
 
-ghost use Rattle.std.specs.Prelude.{◌≡◌, ◌∷◌, ◌&&◌, ℕ, List, IfOk, OnOk, bytes_eq, drop, length, max, option_copied};
+ghost use Rattle.std.specs.Prelude.{◌≡◌, ◌∷◌, ◌&&◌, ℕ, List, IfOk, OnOk, bytes_eq, drop, length, max};
+ghost use Rattle.dom_tree.specs.Node.{node_at};
 ghost use Rattle.js_print.specs.Printing.{code_text};
 ghost use Rattle.object_heap.specs.Chain.{object_at};
 ghost use Rattle.object_heap.specs.Define.{length_name};
@@ -16,7 +17,7 @@ use crate::heard::Heard;
 use crate::needs::needs_of;
 use crate::reached::{Walked, walk};
 use code_table::FunctionCode;
-use dom_tree::{Content, Kind};
+use dom_tree::{Content, Dom, Kind};
 use js_core::{OutOfMemory, Units};
 use js_print::{code_length, unnamed_length};
 use js_values::{EnvId, NodeId, ObjId, Value};
@@ -150,8 +151,8 @@ impl Weight {
     }
 
     // The value that was set, if one was.
-    fn add_set(&mut self, value: Option<&Units>)
-        ensures { spec.Adds self.old self.new (spec.set_load (option_copied value)) }
+    fn add_set(&mut self, value: &Option<Units>)
+        ensures { spec.Adds self.old self.new (spec.set_load value.now) }
     {
         match value {
             Some(text) => self.add_text(text),
@@ -165,7 +166,7 @@ impl Weight {
     {
         self.add_kind(&content.kind);
         self.add_attributes(content.attributes.as_slice());
-        self.add_set(content.value.as_ref());
+        self.add_set(&content.value);
     }
 
     // Listeners.
@@ -179,14 +180,23 @@ impl Weight {
         }
     }
 
-    // A node, if it is there, with its listeners.
+    // A node without its listeners, if it is there.
+    fn add_content_of(&mut self, dom: &Dom, node: NodeId)
+        ensures { spec.Adds self.old self.new
+            (spec.content_load (node_at dom.now node.0).content) }
+    {
+        if node.0 >= dom.count() {
+            return;
+        }
+        self.add_content(dom.content(node));
+    }
+
+    // A node with its listeners.
     fn add_node(&mut self, host: &PageHost, heard: &Heard, node: NodeId)
         requires { AreHeard host.now.listeners heard.now }
         ensures { spec.Adds self.old self.new (spec.node_load host.now node) }
     {
-        if node.0 < host.dom().count() {
-            self.add_content(host.dom().content(node));
-        }
+        self.add_content_of(host.dom(), node);
         self.add_listeners(heard.at(node));
     }
 
@@ -264,11 +274,11 @@ pub fn weight_of(state: &State, walked: &Walked) -> Result<Weight, OutOfMemory>
     ensures { IfOk result (λ weight.
         weight ≡ spec.told (spec.load_of state.now walked.now.things.keys)) }
 {
-    let heard = Heard::of(state.alloc(), state.host().listeners())?;
+    let heard = Heard::of_page(state)?;
     let mut weight = Weight { things: 0, text: 0 };
     add_globals(state, &mut weight)?;
-    add_object(state, &heard, DOCUMENT, &mut weight)?;
-    weight.add_timers(state.host().timers());
+    add_document(state, &heard, &mut weight)?;
+    add_timers(state, &mut weight);
     for place in walked.things.as_slice() {
         add_thing(state, &heard, ObjId(*place), &mut weight)?;
     }
@@ -283,6 +293,21 @@ fn add_globals(state: &State, weight: &mut Weight) -> Result<(), OutOfMemory>
     add_properties(state, WINDOW, BUILT_IN_GLOBALS, false, weight)
 }
 
+// The document is no thing, but what it has is saved.
+#[tactic(auto, unfolding(page_meaning::specs::Places::built_in_count))]
+fn add_document(state: &State, heard: &Heard, weight: &mut Weight) -> Result<(), OutOfMemory>
+    requires { AreHeard state.now.host.listeners heard.now }
+    ensures { OnOk result (spec.Adds weight.old weight.new (spec.document_load state.now)) }
+{
+    add_object(state, heard, DOCUMENT, weight)
+}
+
+fn add_timers(state: &State, weight: &mut Weight)
+    ensures { spec.Adds weight.old weight.new (spec.timers_load state.now.host.timers) }
+{
+    weight.add_timers(state.host().timers());
+}
+
 fn add_thing(
     state: &State,
     heard: &Heard,
@@ -294,7 +319,8 @@ fn add_thing(
         (spec.thing_load state.now (object_at state.now.heap.objects at.0))) }
 {
     weight.add(1, 0);
-    add_object(state, heard, at, weight)
+    add_object(state, heard, at, weight)?;
+    Ok(())
 }
 
 // What an object has.

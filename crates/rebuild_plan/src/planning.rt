@@ -23,7 +23,7 @@ pub fn plan(state: &State, walked: &Walked) -> Result<Vec<Rebuild>, OutOfMemory>
     ensures { IfOk result (λ plan.
         plan.items ≡ spec.plan (saved.compact state.now walked.now.things.keys)) }
 {
-    let heard = Heard::of(state.alloc(), state.host().listeners())?;
+    let heard = Heard::of_page(state)?;
     let mut plan = Vec::new(state.alloc());
     push_makes(state, walked, &mut plan)?;
     push_whole(state, &heard, walked, Phase::Children, &mut plan)?;
