@@ -1,6 +1,7 @@
 -- Each statement of nodes, events, listeners and timers that can run does, and leaves the page that is wanted.
 use Rattle.std.proofs.Common.{◌≡◌, refl, sym, ap, subst, ◌∙◌, ℕ, suc, ◌+◌, ◌<◌, ◌≤◌, Bool, true, false, length, max, nat_le, List, [], ◌∷◌, Option, Some, None, arith, codes, if◌then◌else◌}
-use Rattle.js_core.specs.Tree.{expr, name}
+use Rattle.std.specs.Option.{option_map}
+use Rattle.js_core.specs.Tree.{name}
 use Rattle.js_values.specs.declared.built_in.BuiltIn.{BuiltIn}
 use Rattle.js_values.specs.declared.built_in.BuiltIn.TheVariants as built_in
 use Rattle.js_values.specs.declared.ids.ObjId.{ObjId}
@@ -8,16 +9,24 @@ use Rattle.js_values.specs.declared.value.Value.TheVariants.{Object as Reference
 use Rattle.dom_tree.specs.Node.{Nodes}
 use Rattle.dom_tree.specs.Steps.{NodeStep, inserts, sets_attribute, sets_value}
 use Rattle.dom_tree.proofs.Callers.{steps_stay_sound}
-use Rattle.object_heap.specs.Chain.{object_at}
-use Rattle.object_heap.specs.Heap.{Contents}
+use Rattle.object_heap.specs.Chain.{first_found, found, object_at}
+use Rattle.object_heap.specs.Heap.{Contents, with_object}
+use Rattle.object_heap.specs.Object.{Object}
+use Rattle.object_heap.specs.Property.{own_property}
 use Rattle.object_heap.specs.declared.object.Class.TheVariants as class
+use Rattle.object_heap.proofs.Callers.{found_on}
 use Rattle.page_host.specs.Host.{Host, object_of_node}
 use Rattle.page_host.specs.Steps.{HostStep, after_fit, after_host, clears, in_nodes, is_fit, listens, starts}
+use Rattle.page_host.specs.declared.host_name.HostName.TheVariants.{Value as HasValue}
 use Rattle.page_host.proofs.Callers.{hosts_stay_sound}
 use Rattle.page_meaning.specs.Act.{Ended, nothing}
 use Rattle.page_meaning.specs.Calls.{calls_at}
+use Rattle.page_meaning.specs.Events.{after_event, initialises}
+use Rattle.page_meaning.specs.HostNames as seen
+use Rattle.page_meaning.specs.HostNames.{has_host_name, see}
 use Rattle.page_meaning.specs.NodeRows.{listener_of}
 use Rattle.page_meaning.specs.Places.{function_at}
+use Rattle.page_meaning.specs.Reading.{seen_at}
 use Rattle.page_meaning.specs.Statements.{exec}
 use Rattle.page_meaning.specs.Steps.{after_step, changed_host, fits_host, in_host}
 use Rattle.page_meaning.specs.Store.{Store, with_both}
@@ -25,13 +34,13 @@ use Rattle.page_writer.specs.Frame.{nth_node}
 use Rattle.page_writer.specs.References.{reference}
 use Rattle.page_writer.specs.Statements.{statement}
 use Rattle.rebuild_plan.specs.declared.statement.Rebuild.{Rebuild}
-use Rattle.rebuild_plan.specs.declared.statement.Rebuild.TheVariants.{Append, Attribute, SetValue, Listen, Filler, Clear, Timeout, Interval}
-use Rattle.rebuilding.specs.Running.{CanAppend, CanListen, CanSetAttribute, CanStart, HasHosted, HasRun, IsNodeHere, Runs, Stand, node_here}
+use Rattle.rebuild_plan.specs.declared.statement.Rebuild.TheVariants.{Append, Attribute, SetValue, Init, Listen, Filler, Clear, Timeout, Interval}
+use Rattle.rebuilding.specs.Running.{CanAppend, CanInit, CanListen, CanSetAttribute, CanSetValue, CanStart, HasChanged, HasHosted, HasRun, IsNodeHere, Runs, Stand, node_here, object_here, with_parts}
 use Rattle.rebuilding.specs.Scene.{IsHosting, IsRunning, Scene, inside}
 use Rattle.rebuilding.specs.Sites.{site, sited}
 use Rattle.rebuilding.proofs.HostCalls.{Reads}
 use Rattle.rebuilding.proofs.HostMethods as methods
-use Rattle.rebuilding.proofs.StepStatements.{IsNodeAt, append_runs, attribute_runs, clear_runs, interval_runs, listen_runs, timeout_runs}
+use Rattle.rebuilding.proofs.StepStatements.{IsNodeAt, append_runs, attribute_runs, clear_runs, init_runs, interval_runs, listen_runs, timeout_runs, value_runs}
 
 -- ---- the host keeps what holds of it
 
@@ -131,6 +140,49 @@ module _ (c : Scene) (s : Store) (sites : List ℕ) (r : IsRunning c s.heap site
       (methods.adds_listener s r.sound.prototypes r.built_ins (sited sites at) can.is.proto can.lacks)
       (node_is at can.is) can.callable)
       (λ i. i)
+
+  -- the node itself has the name of the host
+  value_seen : (at : ObjId) → CanSetValue s.heap s.host sites at
+      → seen_at s (sited sites at) (codes "value") HasValue ≡ Some (seen.hosted (class.Node (node_here s.heap sites at)))
+  value_seen at can =
+      let k = site sites at.0 in
+      let o = object_at s.heap.objects k in
+      found_on (see s.host.nodes (codes "value") HasValue) s.heap.objects k r.sound.prototypes
+      ∙ ap (λ a. first_found (if has_host_name s.host.nodes a HasValue then Some (seen.hosted a) else option_map seen.held (own_property o.props (codes "value"))) o.proto
+      (λ q. found (see s.host.nodes (codes "value") HasValue) s.heap.objects q)) can.is.class
+      ∙ ap (λ (b : Bool). first_found (if b then Some (seen.hosted (class.Node (node_here s.heap sites at))) else option_map seen.held (own_property o.props (codes "value"))) o.proto
+      (λ q. found (see s.host.nodes (codes "value") HasValue) s.heap.objects q)) can.has
+
+  pub value_set : (at : ObjId) (t : List ℕ) → CanSetValue s.heap s.host sites at → RunsSo (SetValue at t)
+  value_set at t can =
+      let k = node_here s.heap sites at in
+      hosted (SetValue at t) (in_nodes (sets_value k t)) (suc n) of_nodes refl (omega arith)
+      (value_runs (inside c) d s n (reference at) (sited sites at) k t (read at can.is.stands) can.is.class can.has (value_seen at can))
+      (λ i. i)
+
+  -- ---- events
+
+  -- the page with this object in place of the one there is still one on which statements run
+  pub record Takes (k : ℕ) (o : Object) : Type 0 where
+    pub changed : HasChanged s.heap s.host (with_object s.heap k o) s.host sites sites k o
+    pub running : IsRunning c (with_object s.heap k o) sites
+    pub hosting : IsHosting (with_object s.heap k o) s.host
+
+  pub initialised : (at : ObjId) (x : List ℕ) (bubbles cancelable : Bool) → CanInit s.heap sites at
+      → Takes (site sites at.0) (with_parts (object_here s.heap sites at) (after_event (initialises x bubbles cancelable)))
+      → RunsSo (Init at x bubbles cancelable)
+  initialised at x bubbles cancelable can takes = record {
+    after = with_object s.heap (site sites at.0) (with_parts (object_here s.heap sites at) (after_event (initialises x bubbles cancelable)));
+    host = s.host;
+    new_sites = sites;
+    left = n;
+    steps = omega arith;
+    ends = init_runs (inside c) d s n (reference at) (sited sites at) can.parts x bubbles cancelable (read at can.stands)
+        (methods.initialises s r.sound.prototypes r.built_ins (sited sites at) can.proto can.lacks) can.class;
+    has_run = takes.changed;
+    running = takes.running;
+    hosting = takes.hosting;
+  }
 
   -- ---- timers
 
