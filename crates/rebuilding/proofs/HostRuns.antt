@@ -21,7 +21,8 @@ use Rattle.page_host.specs.declared.host_name.HostName.TheVariants.{Value as Has
 use Rattle.page_host.proofs.Callers.{hosts_stay_sound}
 use Rattle.page_meaning.specs.Act.{Ended, nothing}
 use Rattle.page_meaning.specs.Calls.{calls_at}
-use Rattle.page_meaning.specs.Events.{after_event, initialises}
+use Rattle.page_meaning.specs.Classes.{class_at, is_node_class}
+use Rattle.page_meaning.specs.Events.{after_event, begins, initialises, rests}
 use Rattle.page_meaning.specs.HostNames as seen
 use Rattle.page_meaning.specs.HostNames.{has_host_name, see}
 use Rattle.page_meaning.specs.NodeRows.{listener_of}
@@ -29,18 +30,18 @@ use Rattle.page_meaning.specs.Places.{function_at}
 use Rattle.page_meaning.specs.Reading.{seen_at}
 use Rattle.page_meaning.specs.Statements.{exec}
 use Rattle.page_meaning.specs.Steps.{after_step, changed_host, fits_host, in_host}
-use Rattle.page_meaning.specs.Store.{Store, with_both}
+use Rattle.page_meaning.specs.Store.{Store, with_both, with_heap}
 use Rattle.page_writer.specs.Frame.{nth_node}
 use Rattle.page_writer.specs.References.{reference}
 use Rattle.page_writer.specs.Statements.{statement}
 use Rattle.rebuild_plan.specs.declared.statement.Rebuild.{Rebuild}
-use Rattle.rebuild_plan.specs.declared.statement.Rebuild.TheVariants.{Append, Attribute, SetValue, Init, Listen, Filler, Clear, Timeout, Interval}
-use Rattle.rebuilding.specs.Running.{CanAppend, CanInit, CanListen, CanSetAttribute, CanSetValue, CanStart, HasChanged, HasHosted, HasRun, IsNodeHere, Runs, Stand, node_here, object_here, with_parts}
+use Rattle.rebuild_plan.specs.declared.statement.Rebuild.TheVariants.{Append, Attribute, SetValue, Init, Dispatch, Listen, Filler, Clear, Timeout, Interval}
+use Rattle.rebuilding.specs.Running.{CanAppend, CanDispatch, CanInit, CanListen, CanSetAttribute, CanSetValue, CanStart, HasChanged, HasHosted, HasRun, IsNodeHere, Runs, Stand, node_here, object_here, with_parts}
 use Rattle.rebuilding.specs.Scene.{IsHosting, IsRunning, Scene, inside}
 use Rattle.rebuilding.specs.Sites.{site, sited}
 use Rattle.rebuilding.proofs.HostCalls.{Reads}
 use Rattle.rebuilding.proofs.HostMethods as methods
-use Rattle.rebuilding.proofs.StepStatements.{IsNodeAt, append_runs, attribute_runs, clear_runs, init_runs, interval_runs, listen_runs, timeout_runs, value_runs}
+use Rattle.rebuilding.proofs.StepStatements.{IsNodeAt, append_runs, attribute_runs, clear_runs, dispatch_runs, init_runs, interval_runs, listen_runs, timeout_runs, value_runs}
 
 -- ---- the host keeps what holds of it
 
@@ -183,6 +184,29 @@ module _ (c : Scene) (s : Store) (sites : List ℕ) (r : IsRunning c s.heap site
     running = takes.running;
     hosting = takes.hosting;
   }
+
+  pub dispatched : (at event : ObjId) → CanDispatch s.heap s.host sites at event → site sites at.0 < length s.heap.objects → site sites event.0 < length s.heap.objects
+      → Takes (site sites event.0) (with_parts (object_here s.heap sites event) (λ p. after_event rests (after_event (begins (sited sites at)) p)))
+      → RunsSo (Dispatch at event)
+  dispatched at event can at_there event_there takes =
+      let k = node_here s.heap sites at in
+      let same : object_of_node s.host.objects k ≡ sited sites at = (is.nodes (site sites at.0) k.0 at_there can.is.class).1 in
+      let fits : is_node_class s.host.nodes (class_at s (sited sites at)) ≡ true = ap (is_node_class s.host.nodes) can.is.class ∙ can.is.there in
+      record {
+        after = with_object s.heap (site sites event.0) (with_parts (object_here s.heap sites event) (λ p. after_event rests (after_event (begins (sited sites at)) p)));
+        host = s.host;
+        new_sites = sites;
+        left = n;
+        steps = omega arith;
+        ends = dispatch_runs (inside c) d s n (reference at) (reference event) (sited sites at) (sited sites event) k can.parts (read at can.is.stands) (read event can.stands)
+            (methods.dispatches s r.sound.prototypes r.built_ins (sited sites at) can.is.proto can.lacks) (node_is at can.is) can.class can.may can.inside event_there can.silent
+            (subst (λ o. is_node_class s.host.nodes (class_at s o) ≡ true) (sym same) fits)
+            ∙ ap (λ (o : ObjId). Ended nothing (with_heap s (with_object s.heap (site sites event.0)
+            (with_parts (object_here s.heap sites event) (λ p. after_event rests (after_event (begins o) p))))) n) same;
+        has_run = takes.changed;
+        running = takes.running;
+        hosting = takes.hosting;
+      }
 
   -- ---- timers
 
