@@ -1,6 +1,7 @@
 pub mod Compact
 pub mod Count
 pub mod Events
+pub mod Marks
 pub mod Moved
 pub mod Nodes
 pub mod Plan

@@ -50,7 +50,8 @@ fn push_parts(
         ++ spec.dispatch place (saved.event_of walked.now.things.keys parts.now).target)) }
 {
     push_init(parts, place, plan)?;
-    push_dispatch(walked, parts.target, place, plan)
+    push_dispatch(walked, parts.target, place, plan)?;
+    Ok(())
 }
 
 fn push_init(parts: &EventParts, place: ObjId, plan: &mut Vec<Rebuild>) -> Result<(), OutOfMemory>

@@ -4,6 +4,7 @@
 mod events;
 mod laws;
 mod makers;
+mod marks;
 mod moved;
 mod nodes;
 mod phase;

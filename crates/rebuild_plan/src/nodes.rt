@@ -135,7 +135,7 @@ fn push_value(
     plan: &mut Vec<Rebuild>,
 ) -> Result<(), OutOfMemory>
     ensures { OnOk result (plan.new.items ≡ plan.old.items
-        ++ spec.set_value place (option_copied value)) }
+        ++ spec.set_value place (option_copied value.entry)) }
 {
     let Some(text) = value else {
         return Ok(());

@@ -65,7 +65,8 @@ fn push_whole(
         ++ spec.whole phase (saved.compact state.now walked.now.things.keys)) }
 {
     push_statements(state, heard, walked, phase, DOCUMENT, DOCUMENT, plan)?;
-    push_each(state, heard, walked, phase, plan)
+    push_each(state, heard, walked, phase, plan)?;
+    Ok(())
 }
 
 fn push_each(
@@ -81,9 +82,28 @@ fn push_each(
 {
     for number in 0..walked.things.len() {
         let at = ObjId(walked.things.as_slice()[number]);
-        let place = thing_place(number)?;
-        push_statements(state, heard, walked, phase, at, place, plan)?;
+        push_thing(state, heard, walked, phase, at, number, plan)?;
     }
+    Ok(())
+}
+
+// Those of the thing with this number.
+fn push_thing(
+    state: &State,
+    heard: &Heard,
+    walked: &Walked,
+    phase: Phase,
+    at: ObjId,
+    number: usize,
+    plan: &mut Vec<Rebuild>,
+) -> Result<(), OutOfMemory>
+    requires { AreHeard state.now.host.listeners heard.now }
+    ensures { OnOk result (plan.new.items ≡ plan.old.items
+        ++ spec.statements_of phase (spec.thing_place number)
+        (saved.thing_at state.now walked.now.things.keys at.0)) }
+{
+    let place = thing_place(number)?;
+    push_statements(state, heard, walked, phase, at, place, plan)?;
     Ok(())
 }
 

@@ -1,17 +1,15 @@
 //! The timers.
 
-ghost use Rattle.std.specs.Prelude.{◌≡◌, ◌++◌, ◌+◌, ◌-◌, ◌∷◌, [], ℕ, List, OnOk, drop, length};
-ghost use Rattle.heap_walker.specs.Weight.{greatest as spec_greatest};
+ghost use Rattle.std.specs.Prelude.{◌≡◌, ◌++◌, ◌∷◌, [], OnOk};
 ghost use Rattle.rebuild_plan.specs.Plan as spec;
 ghost use Rattle.rebuild_plan.specs.Timers as saved;
-ghost use Rattle.timer_queue.specs.Timers.{is_live};
 
+use crate::marks::push_clears;
 use crate::moved::moved;
 use crate::statement::Rebuild;
 use heap_walker::{Walked, greatest};
 use js_core::OutOfMemory;
 use page_state::State;
-use std::alloc::Global;
 use timer_queue::Live;
 
 /// The timers are started again, with what is left of their times.
@@ -27,7 +25,8 @@ pub fn push_timers(
     let count = greatest(timers);
     push_fillers(count, plan)?;
     push_starts(walked, state.host().clock(), timers, plan)?;
-    push_clears(state.alloc(), count, timers, plan)
+    push_clears(state.alloc(), count, timers, plan)?;
+    Ok(())
 }
 
 // Timers of which the ids are 1, 2 and so on.
@@ -78,45 +77,4 @@ fn push_start(
     };
     plan.push(start)?;
     Ok(())
-}
-
-// The timers that no timer of the page took the place of are cleared.
-fn push_clears(
-    alloc: Global,
-    count: u64,
-    timers: &[Live],
-    plan: &mut Vec<Rebuild>,
-) -> Result<(), OutOfMemory>
-    ensures { OnOk result (plan.new.items ≡ plan.old.items ++ spec.clears count 1 timers.now) }
-{
-    let marks = marked(alloc, count, timers)?;
-    let mut id = 0;
-    for is_live in marks.as_slice() {
-        id += 1;
-        if !is_live {
-            plan.push(Rebuild::Clear { id })?;
-        }
-    }
-    Ok(())
-}
-
-// Whether the id after each place is live.
-fn marked(alloc: Global, count: u64, timers: &[Live]) -> Result<Vec<bool>, OutOfMemory> {
-    let mut marks = Vec::new(alloc);
-    let mut left = count;
-    while left > 0 {
-        marks.push(false)?;
-        left -= 1;
-    }
-    for timer in timers {
-        mark(&mut marks, timer.id);
-    }
-    Ok(marks)
-}
-
-fn mark(marks: &mut Vec<bool>, id: u32) {
-    let place = id as usize;
-    if place > 0 && place <= marks.len() {
-        marks[place - 1] = true;
-    }
 }
