@@ -1,5 +1,5 @@
 -- Lists of listeners by the places of nodes.
-use Rattle.std.proofs.Common.{◌≡◌, refl, sym, ap, ◌∙◌, ℕ, zero, suc, ◌+◌, ◌<◌, Bool, true, false, List, [], ◌∷◌, ◌++◌, append_assoc, length, nat_eq, slice_set, arith}
+use Rattle.std.proofs.Common.{◌≡◌, refl, sym, ap, ◌∙◌, ℕ, zero, suc, ◌<◌, Bool, true, false, List, [], ◌∷◌, ◌++◌, append_assoc, length, nat_eq, slice_set}
 use Rattle.std.proofs.lemmas.Bool.{eq-eqb, eqb-true}
 use Rattle.std.proofs.lemmas.List.{get_or-set_other, get_or-set_same}
 use Rattle.std.specs.Prelude.{if◌then◌else◌}
@@ -20,7 +20,7 @@ group_set gs p k g inside = by (nat_eq k p) refl
   where
     by : (b : Bool) → nat_eq k p ≡ b → group_at (slice_set gs p g) k ≡ (if nat_eq k p then g else group_at gs k)
     by true e = rw e (ap (group_at (slice_set gs p g)) (eqb-true k p e) ∙ get_or-set_same gs p g [] inside)
-    by false e = rw e (get_or-set_other gs p k g [] (λ same. apart e (sym same)))
+    by false e = rw e (get_or-set_other gs p k g [] (apart e))
       where
         apart : nat_eq k p ≡ false → k ≡ p → ⊥
         apart other same = let both : true ≡ false = sym (eq-eqb k p same) ∙ other in cc both
@@ -39,8 +39,8 @@ group_heard old gs l k same inside = group_set gs l.node.0 k (group_at gs l.node
     by false e = rw e (same k)
 
 -- the listeners of a node, of which one may be the next
-pub heard_next : (k : ℕ) {g h : List Listener} {l : Listener} {ls all : List Listener} → h ≡ with_heard k g l → all ≡ l ∷ ls → h ++ heard_at k ls ≡ g ++ heard_at k all
-heard_next k {g} {h} {l} {ls} {all} joined whole = ap (λ x. x ++ heard_at k ls) joined ∙ by (nat_eq k l.node.0) refl ∙ ap (λ r. g ++ heard_at k r) (sym whole)
+pub heard_next : (k : ℕ) (g h : List Listener) (l : Listener) (ls all : List Listener) → h ≡ with_heard k g l → all ≡ l ∷ ls → h ++ heard_at k ls ≡ g ++ heard_at k all
+heard_next k g h l ls all joined whole = ap (λ x. x ++ heard_at k ls) joined ∙ by (nat_eq k l.node.0) refl ∙ ap (λ r. g ++ heard_at k r) (sym whole)
   where
     by : (b : Bool) → nat_eq k l.node.0 ≡ b → with_heard k g l ++ heard_at k ls ≡ g ++ heard_at k (l ∷ ls)
     by true e = rw e (append_assoc g (l ∷ []) (heard_at k ls))

@@ -1,23 +1,21 @@
 -- What nodes, events and timers refer to is there.
-use Rattle.std.proofs.Common.{◌≡◌, ◌⊎◌, inl, inr, refl, sym, ap, subst, ◌∙◌, arith, ℕ, ◌<◌, ◌≤◌, Bool, true, false, List, [], ◌∷◌, ◌++◌, Option, Some, None, length, nat_eq, nat_lt}
+use Rattle.std.proofs.Common.{◌≡◌, ◌⊎◌, inl, inr, refl, sym, ap, ◌∙◌, ℕ, ◌<◌, ◌≤◌, Bool, true, false, List, [], ◌∷◌, ◌++◌, Option, Some, None, length, nat_eq}
 use Rattle.std.proofs.lemmas.Bool.{cases_lt, eq-eqb, lt-ltb}
 use Rattle.std.proofs.lemmas.List.Elements.{All-head, All-tail}
 use Rattle.dom_tree.proofs.Callers.{child_in, parent_in}
-use Rattle.dom_tree.specs.Node.{Nodes, children_at, has, parent_at}
+use Rattle.dom_tree.specs.Node.{children_at, has, parent_at}
 use Rattle.js_values.specs.declared.ids.NodeId.{NodeId}
 use Rattle.js_values.specs.declared.ids.ObjId.{ObjId}
 use Rattle.object_heap.proofs.Callers.{object_absent}
 use Rattle.object_heap.specs.declared.object.Class.{Class}
 use Rattle.object_heap.specs.declared.object.Class.TheVariants as class
-use Rattle.object_heap.specs.declared.object.EventParts.{EventParts}
 use Rattle.object_shapes.proofs.Callers.{below_join, below_parts}
 use Rattle.object_shapes.specs.Hosted.{CallsFunctions, CanBeCalled, IsHosted}
 use Rattle.object_shapes.specs.Links.{all_below, event_links, proto_links}
-use Rattle.page_host.specs.Host.{Host, object_of_node}
+use Rattle.page_host.specs.Host.{object_of_node}
 use Rattle.page_host.specs.declared.listener.Listener.{Listener}
 use Rattle.page_meaning.specs.Classes.{class_at, is_callable_class}
 use Rattle.page_meaning.specs.Store.{Store}
-use Rattle.timer_queue.specs.Timers.{IsIn}
 use Rattle.timer_queue.specs.declared.timer.Live.{Live}
 use Rattle.heap_walker.specs.Things.{calls_links, heard_at, host_links, node_links, nodes_links, parent_links, timers_links}
 

@@ -1,5 +1,5 @@
 -- The names that a function needs, whether its tree has its name or not.
-use Rattle.std.proofs.Common.{◌≡◌, ap, List, ℕ}
+use Rattle.std.proofs.Common.{◌≡◌, ap}
 use Rattle.code_table.specs.Declarations.{name_of, unnamed}
 use Rattle.js_core.specs.Tree as tree
 use Rattle.js_core.specs.Tree.{code}

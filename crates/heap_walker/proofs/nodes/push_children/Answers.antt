@@ -1,4 +1,4 @@
-use Rattle.std.proofs.Common.{◌≡◌, ◌∙◌, ◌∷◌, [], ◌++◌, sym, ap, subst, Some, None}
+use Rattle.std.proofs.Common.{sym, subst}
 use Rattle.dom_tree.specs.Node.{children_at}
 use Rattle.heap_walker.proofs.Siblings.{IsSplit, split_begins, split_ends, split_goes_on, split_there}
 use Rattle.heap_walker.proofs.nodes.push_children.Goals as goal

@@ -10,7 +10,7 @@ use Rattle.heap_walker.proofs.heard.Heard.of.Goals as goal
 pub loop-rest-preserved : goal.loop-rest-preserved
 loop-rest-preserved c k =
     let whole = next_of c.loop-rest.rest.now c.listener-item.result (omega arith) (grind (arith, common_steps)) in
-    heard_next k (c.in_ok-push.ensures k) whole ∙ c.loop-rest.invariant k
+    heard_next k _ _ _ _ _ (c.in_ok-push.ensures k) whole ∙ c.loop-rest.invariant k
 
 pub returns : goal.returns
 returns c k =

@@ -13,4 +13,4 @@ returns c k =
     ap (λ g. group_at (slice_set gs p g) k)
     (c.in_ok-push.ensures ∙ ap (λ x. c.index_mut.result.now ++ x ∷ []) c.in_ok-clone.ensures
     ∙ ap (λ g. g ++ l ∷ []) (c.index_mut.ensures.value ∙ same_place gs p _ [] there))
-    ∙ group_heard c.args.self.now gs l k c.in_ok-reach.ensures.same there
+    ∙ group_heard c.args.self.now gs l k (λ j. c.in_ok-reach.ensures.same j ∙ ap (λ g. group_at g j) c.self.view_is) there
