@@ -37,6 +37,7 @@ use Rattle.rebuilding.proofs.Lasting.{bound_same, proto_is}
 use Rattle.object_shapes.specs.Shapes.{HasBoundLength, HasShape}
 use Rattle.page_meaning.specs.Places.{built_in_count}
 use Rattle.object_shapes.specs.Links.{all_below}
+use Rattle.rebuild_plan.specs.Moved.{first_thing}
 
 -- ---- what is bound
 
@@ -50,7 +51,7 @@ pub record IsKept (s : Store) (things : List ℕ) (h : Contents) (sites : List �
 abbrev pub AreKept : Store → List ℕ → Contents → List ℕ → Class → Type 0
 AreKept s things h sites a =
     (target : ObjId) → is_in target.0 (class_links s a) ≡ true → is_function (Some (class_at s target)) ≡ true → nat_lt (moved things target).0
-    (built_in_count + length sites) ≡ true
+    (first_thing + length sites) ≡ true
     → IsKept s things h sites target
 
 target_in : (s : Store) (target : ObjId) (this : Value) (args : List Value) → is_in target.0 (class_links s (class.Bound target this args)) ≡ true
@@ -59,7 +60,7 @@ target_in s target this args = rw (eq-eqb target.0 target.0 refl) refl
 -- ---- a thing can be made
 
 pub can_make : (s : Store) (things : List ℕ) (h : Contents) (sites : List ℕ) (o : Object) (a : Class) → HasShape s o a
-    → all_below (built_in_count + length sites) (maker_names (maker_as s things o.proto a)) ≡ true → AreKept s things h sites a
+    → all_below (first_thing + length sites) (maker_names (maker_as s things o.proto a)) ≡ true → AreKept s things h sites a
     → CanMake h sites (maker_as s things o.proto a)
 can_make s things h sites o (class.Page body env) made stands kept = tt
 can_make s things h sites o (class.Bound target this args) made stands kept =
@@ -102,7 +103,7 @@ module _ (c : Scene) (s : Store) (things : List ℕ) (h i : Contents) (sites : L
   abbrev Begun : Class → Object → Object → Type 0
   Begun a o made = IsBegun c i.environments s things after place a o made
 
-  begun_plain : (o made : Object) → all_below (built_in_count + length sites) (maker_names (maker_as s things o.proto class.Plain)) ≡ true
+  begun_plain : (o made : Object) → all_below (first_thing + length sites) (maker_names (maker_as s things o.proto class.Plain)) ≡ true
       → made ≡ new_object class.Plain (sited_proto sites (moved_proto things o.proto)) → Begun class.Plain o made
   begun_plain o made stands is = subst (λ m. Begun class.Plain o m) (sym is) (record {
     class = plain;
@@ -133,7 +134,7 @@ module _ (c : Scene) (s : Store) (things : List ℕ) (h i : Contents) (sites : L
   })
 
   begun_page : (o made : Object) (body : Code) (env : Option EnvId) → o.proto ≡ Some function_prototype
-      → all_below (built_in_count + length sites) (maker_names (maker_as s things o.proto (class.Page body env))) ≡ true
+      → all_below (first_thing + length sites) (maker_names (maker_as s things o.proto (class.Page body env))) ≡ true
       → IsMade c h i sites place (maker_as s things o.proto (class.Page body env)) made → Begun (class.Page body env) o made
   begun_page o made body env proto stands is = subst (λ m. Begun (class.Page body env) o m) (sym is.object) (record {
     class = page {env = env} (subst (λ ns. IsRoundOf c i.environments place ns (name_of body) is.round)
@@ -145,7 +146,7 @@ module _ (c : Scene) (s : Store) (things : List ℕ) (h i : Contents) (sites : L
   })
 
   begun_bound : (o made : Object) (target : ObjId) (this : Value) (args : List Value) → o.proto ≡ Some function_prototype
-      → all_below (built_in_count + length sites) (maker_names (maker_as s things o.proto (class.Bound target this args))) ≡ true
+      → all_below (first_thing + length sites) (maker_names (maker_as s things o.proto (class.Bound target this args))) ≡ true
       → HasBoundLength (length_of target s) (length args) o.props
       → length_of (sited sites (moved things target)) (page_with h) ≡ length_of target s
       → IsMade c h i sites place (maker_as s things o.proto (class.Bound target this args)) made → Begun (class.Bound target this args) o made
@@ -164,7 +165,7 @@ module _ (c : Scene) (s : Store) (things : List ℕ) (h i : Contents) (sites : L
   })
 
   begun : (o made : Object) (a : Class) → is_ordinary a ≡ true → HasShape s o a
-      → all_below (built_in_count + length sites) (maker_names (maker_as s things o.proto a)) ≡ true → AreKept s things h sites a
+      → all_below (first_thing + length sites) (maker_names (maker_as s things o.proto a)) ≡ true → AreKept s things h sites a
       → IsMade c h i sites place (maker_as s things o.proto a) made → Begun a o made
   begun o made class.Plain free was stands kept is = begun_plain o made stands is
   begun o made class.List free was stands kept is = begun_list o made was.0 is
@@ -180,7 +181,7 @@ module _ (c : Scene) (s : Store) (things : List ℕ) (h i : Contents) (sites : L
 
   -- the thing that was made is as its maker left it
   pub made_fresh : (o made : Object) → is_ordinary o.class ≡ true → HasShape s o o.class
-      → all_below (built_in_count + length sites) (maker_names (maker_as s things o.proto o.class)) ≡ true
+      → all_below (first_thing + length sites) (maker_names (maker_as s things o.proto o.class)) ≡ true
       → AreKept s things h sites o.class → IsMade c h i sites place (maker_as s things o.proto o.class) made
       → IsFresh c i.environments s things after place o made
   made_fresh o made free was stands kept is =

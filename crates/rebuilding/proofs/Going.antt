@@ -27,6 +27,7 @@ use Rattle.rebuilding.specs.Sites.{site}
 use Rattle.rebuilding.proofs.WindowStays.{is_built}
 use Rattle.page_meaning.specs.Places.{built_in_count}
 use Rattle.object_shapes.specs.Links.{value_links, all_below}
+use Rattle.rebuild_plan.specs.Moved.{first_thing}
 
 -- ---- what statements may name and write
 
@@ -91,7 +92,7 @@ module _ (c : Scene) (End : Contents → List ℕ → Type 0) (sites : List ℕ)
   unfolding is_built
   define_next h at x p rs o next going allowed other own does later = (
     record {
-      stands = (and_parts (all_below (built_in_count + length sites) (at.0 ∷ value_links p.value)) (standing (length sites) rs) allowed.stands).0;
+      stands = (and_parts (all_below (first_thing + length sites) (at.0 ∷ value_links p.value)) (standing (length sites) rs) allowed.stands).0;
       in_range = All-head IsLiteral p.value [] (All-tail IsLiteral (Text x) (p.value ∷ []) (range_first (Define at x p) rs allowed.in_range));
       other = ap (λ (q : Object). is_list q.class && bytes_eq x length_name) going.object ∙ other;
       free = ap (λ (q : Object). is_ordinary q.class) going.object ∙ going.free;
@@ -114,7 +115,7 @@ module _ (c : Scene) (End : Contents → List ℕ → Type 0) (sites : List ℕ)
   unfolding is_built
   prototype_next h at v writable rs o next going allowed ordinary off does later = (
     record {
-      stands = (and_parts (all_below (built_in_count + length sites) (at.0 ∷ value_links v)) (standing (length sites) rs) allowed.stands).0;
+      stands = (and_parts (all_below (first_thing + length sites) (at.0 ∷ value_links v)) (standing (length sites) rs) allowed.stands).0;
       in_range = All-head IsLiteral v [] (range_first (DefinePrototype at v writable) rs allowed.in_range);
       other = ap (λ (q : Object). is_list q.class && bytes_eq prototype_name length_name) going.object
           ∙ ap (λ b. b && bytes_eq prototype_name length_name) ordinary;
@@ -142,7 +143,7 @@ module _ (c : Scene) (End : Contents → List ℕ → Type 0) (sites : List ℕ)
       → Succeeds c End h sites (DefineLength at (number n) writable ∷ rs)
   length_next h at n writable rs o next going allowed does later = (
     record {
-      stands = (and_parts (all_below (built_in_count + length sites) (at.0 ∷ [])) (standing (length sites) rs) allowed.stands).0;
+      stands = (and_parts (all_below (first_thing + length sites) (at.0 ∷ [])) (standing (length sites) rs) allowed.stands).0;
       count = n;
       is = refl;
       in_range = All-head IsLiteral (number n) [] (range_first (DefineLength at (number n) writable) rs allowed.in_range);
@@ -167,7 +168,7 @@ module _ (c : Scene) (End : Contents → List ℕ → Type 0) (sites : List ℕ)
       → Succeeds c End h sites (Prevent at ∷ rs)
   prevent_next h at rs o next going allowed does later = (
     record {
-      stands = (and_parts (all_below (built_in_count + length sites) (at.0 ∷ [])) (standing (length sites) rs) allowed.stands).0;
+      stands = (and_parts (all_below (first_thing + length sites) (at.0 ∷ [])) (standing (length sites) rs) allowed.stands).0;
       done = ap (λ (q : Object). (prevented q).thrown) going.object ∙ ap (λ (a : Attempt Object). a.thrown) does;
     },
     λ i after running ran. subst (λ l. Succeeds c End i l rs) (sym ran.same) (later i

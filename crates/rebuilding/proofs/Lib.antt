@@ -9,6 +9,7 @@ pub mod Changing
 pub mod Closures
 pub mod Counterparts
 pub mod Defining
+pub mod DocumentStays
 pub mod EachThing
 pub mod Entries
 pub mod FillSteps

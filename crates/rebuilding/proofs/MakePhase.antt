@@ -30,6 +30,7 @@ use Rattle.object_shapes.specs.Shapes.{HasShape, built_in_at}
 use Rattle.rebuilding.proofs.Basics.{all_at}
 use Rattle.page_meaning.specs.Places.{built_in_count}
 use Rattle.object_shapes.specs.Links.{proto_links, all_below}
+use Rattle.rebuild_plan.specs.Moved.{first_thing}
 
 -- ---- what holds of each maker
 
@@ -121,7 +122,7 @@ module _ (c : Scene) (s : Store) (things : List ℕ) (known : IsSaved s things) 
   can : (h : Contents) (sites : List ℕ) (n : ℕ) → n ≡ length sites → n < length things → Front c s things h sites
       → CanBeMade h sites n (maker_at s things (nth things n))
   can h sites n next inside front =
-      let stands : all_below (built_in_count + length sites) (maker_names (maker_at s things (nth things n))) ≡ true =
+      let stands : all_below (first_thing + length sites) (maker_names (maker_at s things (nth things n))) ≡ true =
       subst (λ m. all_below (built_in_count + m) (maker_names (maker_at s things (nth things n))) ≡ true) next (known.stand n inside)
       in
       record {
@@ -168,8 +169,8 @@ module _ (c : Scene) (s : Store) (things : List ℕ) (known : IsSaved s things) 
 
     old : (j : ℕ) → j < length sites → Stands (nth after j) j
     old j inside =
-        let stands : all_below (built_in_count + length sites) (maker_names (maker_at s things (nth things j))) ≡ true =
-        below_more (built_in_count + j) (built_in_count + length sites) (maker_names (maker_at s things (nth things j))) (omega (arith, inside))
+        let stands : all_below (first_thing + length sites) (maker_names (maker_at s things (nth things j))) ≡ true =
+        below_more (built_in_count + j) (first_thing + length sites) (maker_names (maker_at s things (nth things j))) (omega (arith, inside))
         (known.stand j (omega (arith, inside, few)))
         in
         let f : IsFresh c i.environments s things after (nth sites j) (thing j) (object_at h.objects (nth sites j)) =

@@ -59,6 +59,7 @@ use Rattle.rebuilding.proofs.Staying.{low_there, made_there, make_run, none_belo
 use Rattle.rebuilding.proofs.Placed.{array_low, error_low, function_low}
 use Rattle.page_meaning.specs.Places.{built_in_count}
 use Rattle.object_shapes.specs.Links.{proto_links, value_links, values_links, all_below}
+use Rattle.rebuild_plan.specs.Moved.{first_thing}
 
 -- ---- what is made
 
@@ -219,7 +220,7 @@ module _ (c : Scene) (s : Store) (sites : List ℕ) (r : IsRunning c s.heap site
         ap (λ (o : Outcome ObjId). then_on o (with_given Undefined))
         (ready_run (new_object class.Plain proto) s n (plain_ready proto there))
 
-    pub plain_made : (proto : Option ObjId) → all_below (built_in_count + length sites) (proto_links proto) ≡ true
+    pub plain_made : (proto : Option ObjId) → all_below (first_thing + length sites) (proto_links proto) ≡ true
         → Makes c s sites (Plain proto) (suc n) ((eval (calls_at (suc d)) (inside c) (maker_expr (Plain proto))).run s (suc n))
     plain_made None stands =
         let there : ForSome None (λ (p : ObjId). p.0 < length s.heap.objects) = none_below (length s.heap.objects) in
@@ -227,7 +228,7 @@ module _ (c : Scene) (s : Store) (sites : List ℕ) (r : IsRunning c s.heap site
         (created null None refl there (plain_run None there)) refl
     plain_made (Some at) stands =
         let p = sited sites at in
-        let below : nat_lt at.0 (built_in_count + length sites) ≡ true = (and_parts (nat_lt at.0 (built_in_count + length sites)) true stands).0 in
+        let below : nat_lt at.0 (first_thing + length sites) ≡ true = (and_parts (nat_lt at.0 (first_thing + length sites)) true stands).0 in
         let there : ForSome (Some p) (λ (q : ObjId). q.0 < length s.heap.objects) = some_below p (length s.heap.objects)
         (site_there c s.heap sites r at.0 below) in
         makes_one c s sites (Plain (Some at)) (suc n) n _ (new_object class.Plain (Some p)) r (plain_ready (Some p) there) (omega arith)
@@ -235,7 +236,7 @@ module _ (c : Scene) (s : Store) (sites : List ℕ) (r : IsRunning c s.heap site
         (plain_run (Some p) there)) refl
 
     pub bound_made : (target : ObjId) (this : Value) (args : List Value)
-        → all_below (built_in_count + length sites) (target.0 ∷ (value_links this ++ values_links args)) ≡ true
+        → all_below (first_thing + length sites) (target.0 ∷ (value_links this ++ values_links args)) ≡ true
         → All IsLiteral (this ∷ args) → CanMake s.heap sites (Bind target this args)
         → Makes c s sites (Bind target this args) (suc n) ((eval (calls_at (suc d)) (inside c) (maker_expr (Bind target this args))).run s (suc n))
     bound_made target this args stands range able =
@@ -245,8 +246,8 @@ module _ (c : Scene) (s : Store) (sites : List ℕ) (r : IsRunning c s.heap site
         let f : Value = Reference (function_at built_in.FunctionPrototypeBind) in
         let vs = sited_values sites (this ∷ args) in
         let o = bound_object at (sited_value sites this) (sited_values sites args) (length_of at s) in
-        let parts = and_parts (nat_lt target.0 (built_in_count + length sites))
-        (all_below (built_in_count + length sites) (value_links this ++ values_links args)) stands in
+        let parts = and_parts (nat_lt target.0 (first_thing + length sites))
+        (all_below (first_thing + length sites) (value_links this ++ values_links args)) stands in
         let ready : IsReady s.heap o = record {
           fit = bound_fit at (sited_value sites this) (sited_values sites args) (length_of at s);
           made = refl;
@@ -255,7 +256,7 @@ module _ (c : Scene) (s : Store) (sites : List ℕ) (r : IsRunning c s.heap site
         } in
         makes_one c s sites (Bind target this args) (suc n) n _ o r ready (omega arith)
         (also_on (λ b. also (get_member b (codes "bind")) (λ g. eval_args calls (inside c) (value_exprs (this ∷ args)) [] (calls.call g b)))
-        (reference_read c s sites r calls (suc n) lead each target (and_from (nat_lt target.0 (built_in_count + length sites)) true parts.0 refl))
+        (reference_read c s sites r calls (suc n) lead each target (and_from (nat_lt target.0 (first_thing + length sites)) true parts.0 refl))
         ∙ also_on (λ g. eval_args calls (inside c) (value_exprs (this ∷ args)) [] (calls.call g base))
         (plain_read c s sites r calls (suc n) at (codes "bind") bind_unhosted ∙ ap (λ (v : Option Value). Ended (Val (unwrap_or v Undefined)) s (suc n)) able.1)
         ∙ arguments_read c s sites r calls (suc n) lead each (this ∷ args) [] (calls.call f base) range parts.1

@@ -35,6 +35,7 @@ use Rattle.rebuilding.proofs.Closures.{Closes, closed_over, function_in, functio
 use Rattle.rebuilding.proofs.Making.{Makes}
 use Rattle.rebuilding.proofs.Reading.{arguments_read}
 use Rattle.rebuilding.proofs.Staying.{stays_on}
+use Rattle.rebuild_plan.specs.Moved.{first_thing}
 
 -- ---- what it needs, as arguments
 
@@ -132,7 +133,7 @@ module _ (c : Scene) (s : Store) (sites : List ℕ) (r : IsRunning c s.heap site
         (ap (λ (o : Object). o.class) (function_is c s.heap sites r round env))
         ∙ entered vs same
 
-    pub needy_function_made : PathsLead → EachHasPath → all_below (built_in_count + length sites) (needs_links needs) ≡ true
+    pub needy_function_made : PathsLead → EachHasPath → all_below (first_thing + length sites) (needs_links needs) ≡ true
         → All IsLiteral (need_values needs)
         → Makes c s sites (Func k needs) (suc n)
         ((eval (calls_at (suc d)) (inside c) (tree.call (func (binder k needs)) (need_exprs needs))).run s (suc n))
@@ -140,7 +141,7 @@ module _ (c : Scene) (s : Store) (sites : List ℕ) (r : IsRunning c s.heap site
         let calls = calls_at (suc d) in
         let f : List Value → Act = calls.call (Reference (at_place place)) Undefined in
         let vs : List Value = sited_values sites (need_values needs) in
-        let stand = subst (λ ks. all_below (built_in_count + length sites) ks ≡ true) (links_same needs) stands in
+        let stand = subst (λ ks. all_below (first_thing + length sites) ks ≡ true) (links_same needs) stands in
         record {
           after = closed.after;
           place = closed.place;

@@ -47,6 +47,7 @@ use Rattle.rebuilding.proofs.Paths.{plain_read, built_in_found, global_read, lis
 use Rattle.object_shapes.specs.Shapes.{built_in_at}
 use Rattle.page_meaning.specs.Places.{built_in_count}
 use Rattle.object_shapes.specs.Links.{value_links, values_links, all_below}
+use Rattle.rebuild_plan.specs.Moved.{first_thing}
 
 -- ---- numbers
 
@@ -116,7 +117,7 @@ module _ (c : Scene) (s : Store) (sites : List ℕ) (r : IsRunning c s.heap site
   -- ---- references
 
   module _ (calls : Calls) (n : ℕ) (lead : PathsLead) (each : EachHasPath) where
-    reference_by : (k : ℕ) (path : Option (List ℕ)) → path_of k ≡ path → k < built_in_count + length sites
+    reference_by : (k : ℕ) (path : Option (List ℕ)) → path_of k ≡ path → k < first_thing + length sites
         → (eval calls (inside c) (reference_over k path)).run s n ≡ Ended (Val (Reference (at_place (site sites k)))) s n
     reference_by k (Some path) is there =
         let low : k < built_in_count = omega (arith, (each k).0 (ap is_some is), built_ins_count) in
@@ -131,13 +132,13 @@ module _ (c : Scene) (s : Store) (sites : List ℕ) (r : IsRunning c s.heap site
             ∙ ap (λ j. Ended (Val (Reference (at_place j))) s n) (sym (thing_sited sites k high))
 
     -- a built-in object or a thing
-    pub reference_read : (at : ObjId) → all_below (built_in_count + length sites) (at.0 ∷ []) ≡ true
+    pub reference_read : (at : ObjId) → all_below (first_thing + length sites) (at.0 ∷ []) ≡ true
         → (eval calls (inside c) (reference at)).run s n ≡ Ended (Val (Reference (sited sites at))) s n
-    reference_read at there = reference_by at.0 (path_of at.0) refl (one_below (built_in_count + length sites) at.0 there)
+    reference_read at there = reference_by at.0 (path_of at.0) refl (one_below (first_thing + length sites) at.0 there)
 
     -- ---- values
 
-    pub value_read : (v : Value) → IsLiteral v → all_below (built_in_count + length sites) (value_links v) ≡ true
+    pub value_read : (v : Value) → IsLiteral v → all_below (first_thing + length sites) (value_links v) ≡ true
         → (eval calls (inside c) (value_expr v)).run s n ≡ Ended (Val (sited_value sites v)) s n
     value_read value.Undefined range there = refl
     value_read value.Null range there = refl
@@ -155,11 +156,11 @@ module _ (c : Scene) (s : Store) (sites : List ℕ) (r : IsRunning c s.heap site
   -- ---- arguments
 
   pub arguments_read : (calls : Calls) (n : ℕ) (lead : PathsLead) (each : EachHasPath) (vs got : List Value) (f : List Value → Act)
-      → All IsLiteral vs → all_below (built_in_count + length sites) (values_links vs) ≡ true
+      → All IsLiteral vs → all_below (first_thing + length sites) (values_links vs) ≡ true
       → (eval_args calls (inside c) (value_exprs vs) got f).run s n ≡ (f (got ++ sited_values sites vs)).run s n
   arguments_read calls n lead each [] got f range there = ap (λ l. (f l).run s n) (sym (append-nil got))
   arguments_read calls n lead each (v ∷ vs) got f range there =
-      let parts = both_below (built_in_count + length sites) (value_links v) (values_links vs) there in
+      let parts = both_below (first_thing + length sites) (value_links v) (values_links vs) there in
       let w = sited_value sites v in
       ap (λ (o : Outcome Signal). then_on o (on_value (λ x. eval_args calls (inside c) (value_exprs vs) (got ++ x ∷ []) f)))
       (value_read calls n lead each v (range 0 v (omega arith)) parts.0)

@@ -36,6 +36,7 @@ use Rattle.rebuilding.proofs.Literals.{with_literal}
 use Rattle.rebuilding.proofs.Reading.{reference_read}
 use Rattle.page_meaning.specs.Places.{built_in_count}
 use Rattle.object_shapes.specs.Links.{all_below}
+use Rattle.rebuild_plan.specs.Moved.{first_thing}
 
 -- ---- definitions
 
@@ -79,7 +80,7 @@ property_defined calls at d x change s i n asks ends =
 -- ---- statements that call such a function
 
 module _ (c : Scene) (s : Store) (sites : List ℕ) (r : IsRunning c s.heap sites) (lead : PathsLead) (each : EachHasPath) (d n : ℕ) (at : ObjId)
-    (stands : all_below (built_in_count + length sites) (at.0 ∷ []) ≡ true) where
+    (stands : all_below (first_thing + length sites) (at.0 ∷ []) ≡ true) where
   -- `Object.defineProperty` with a descriptor that is an object literal
   pub define_ran : (x : List ℕ) (e : tree.Expr) (props : Props) (change : Change) (i : Contents) → IsRunning c (with_literal s.heap props) sites
       → (eval (calls_at (suc d)) (inside c) e).run s (suc n)

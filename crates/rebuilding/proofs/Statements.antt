@@ -55,6 +55,7 @@ use Rattle.rebuilding.proofs.Staying.{all_through, site_stands, site_there, stan
 use Rattle.rebuilding.proofs.WindowStays.{is_built}
 use Rattle.page_meaning.specs.Places.{built_in_count}
 use Rattle.object_shapes.specs.Links.{value_links, all_below}
+use Rattle.rebuild_plan.specs.Moved.{first_thing}
 
 length_not_built : is_built length_name ≡ false
 unfolding is_built
@@ -84,7 +85,7 @@ made_still c h i j sites k o (Bind target this args) same f = f
 module _ (c : Scene) (s : Store) (sites : List ℕ) (r : IsRunning c s.heap sites) (lead : PathsLead) (each : EachHasPath) (d n : ℕ) where
   -- ---- a thing is made
 
-  makes_so : (m : Maker) → all_below (built_in_count + length sites) (maker_names m) ≡ true → CanMake s.heap sites m → All IsLiteral (maker_values m)
+  makes_so : (m : Maker) → all_below (first_thing + length sites) (maker_names m) ≡ true → CanMake s.heap sites m → All IsLiteral (maker_values m)
       → Makes c s sites m (suc n) ((eval (calls_at (suc d)) (inside c) (maker_expr m)).run s (suc n))
   makes_so (Plain proto) stands able range = plain_made c s sites r lead each d n proto stands
   makes_so Array stands able range = array_made c s sites r (suc d) (suc n)
@@ -132,11 +133,11 @@ module _ (c : Scene) (s : Store) (sites : List ℕ) (r : IsRunning c s.heap site
 
   -- `Object.defineProperty` with a descriptor that has these fields and is read as this change
   module _ (at : ObjId) (x : List ℕ) (e : tree.Expr) (props : Props) (change : Change) (names : HasDistinctNames props)
-      (stands : all_below (built_in_count + length sites) (at.0 ∷ []) ≡ true)
+      (stands : all_below (first_thing + length sites) (at.0 ∷ []) ≡ true)
       (own : nat_eq at.0 window.0 && is_built x ≡ false)
       (thrown : (object.define_own (object_at s.heap.objects (site sites at.0)) x change).thrown ≡ None) where
-    below : nat_lt at.0 (built_in_count + length sites) ≡ true
-    below = (and_parts (nat_lt at.0 (built_in_count + length sites)) true stands).0
+    below : nat_lt at.0 (first_thing + length sites) ≡ true
+    below = (and_parts (nat_lt at.0 (first_thing + length sites)) true stands).0
 
     same_object : object_at (with_literal s.heap props).objects (site sites at.0) ≡ object_at s.heap.objects (site sites at.0)
     same_object = object_before s.heap.objects (literal_object props) (site sites at.0) (site_there c s.heap sites r at.0 below)
@@ -178,14 +179,14 @@ module _ (c : Scene) (s : Store) (sites : List ℕ) (r : IsRunning c s.heap site
         }
 
   -- beside the literal the object is what it was
-  free_still : (at : ObjId) (props : Props) → nat_lt at.0 (built_in_count + length sites) ≡ true
+  free_still : (at : ObjId) (props : Props) → nat_lt at.0 (first_thing + length sites) ≡ true
       → is_ordinary (object_at s.heap.objects (site sites at.0)).class ≡ true
       → is_ordinary (class_at (with_heap s (with_literal s.heap props)) (sited sites at)) ≡ true
   free_still at props below free =
       ap (λ (o : Object). is_ordinary o.class)
       (object_before s.heap.objects (literal_object props) (site sites at.0) (site_there c s.heap sites r at.0 below)) ∙ free
 
-  no_length : (at : ObjId) (x : List ℕ) (props : Props) → (nat_lt at.0 (built_in_count + length sites) ≡ true)
+  no_length : (at : ObjId) (x : List ℕ) (props : Props) → (nat_lt at.0 (first_thing + length sites) ≡ true)
       → is_list (object_at s.heap.objects (site sites at.0)).class && bytes_eq x length_name ≡ false
       → is_length_of (with_heap s (with_literal s.heap props)) (sited sites at) x ≡ false
   no_length at x props below other =
@@ -197,11 +198,11 @@ module _ (c : Scene) (s : Store) (sites : List ℕ) (r : IsRunning c s.heap site
       ((exec (calls_at (suc d)) (inside c) (expr (define_expr at x (whole_descriptor p)))).run s (suc n))
   unfolding is_built
   defines_whole at x p can =
-      let parts = and_parts (nat_lt at.0 (built_in_count + length sites))
-      (all_below (built_in_count + length sites) (value_links p.value)) can.stands in
+      let parts = and_parts (nat_lt at.0 (first_thing + length sites))
+      (all_below (first_thing + length sites) (value_links p.value)) can.stands in
       let props = descriptor_props (sited_prop sites p) in
       let change = whole_change sites p in
-      let one = and_from (nat_lt at.0 (built_in_count + length sites)) true parts.0 refl in
+      let one = and_from (nat_lt at.0 (first_thing + length sites)) true parts.0 refl in
       define_runs at x (whole_descriptor p) props change (whole_names (sited_prop sites p)) one can.own can.defined
       (whole_read c s sites r (calls_at (suc d)) (suc n) lead each p can.in_range parts.1) (whole_asks c s sites r p)
       (λ fine. other_defined (sited sites at) x change (with_heap s (with_literal s.heap props)) n (free_still at props parts.0 can.free) (no_length at x props parts.0 can.other) fine)
@@ -212,10 +213,10 @@ module _ (c : Scene) (s : Store) (sites : List ℕ) (r : IsRunning c s.heap site
       ((exec (calls_at (suc d)) (inside c) (expr (define_expr at x (short_descriptor v writable)))).run s (suc n))
   unfolding is_built
   defines_short at x v writable can =
-      let parts = and_parts (nat_lt at.0 (built_in_count + length sites)) (all_below (built_in_count + length sites) (value_links v)) can.stands in
+      let parts = and_parts (nat_lt at.0 (first_thing + length sites)) (all_below (first_thing + length sites) (value_links v)) can.stands in
       let props = short_fields (sited_value sites v) writable in
       let change = short_change sites v writable in
-      let one = and_from (nat_lt at.0 (built_in_count + length sites)) true parts.0 refl in
+      let one = and_from (nat_lt at.0 (first_thing + length sites)) true parts.0 refl in
       define_runs at x (short_descriptor v writable) props change (short_names (sited_value sites v) writable) one can.own can.defined
       (short_read c s sites r (calls_at (suc d)) (suc n) lead each v writable can.in_range parts.1) (short_asks c s sites r v writable)
       (λ fine. other_defined (sited sites at) x change (with_heap s (with_literal s.heap props)) n (free_still at props parts.0 can.free) (no_length at x props parts.0 can.other) fine)
@@ -224,7 +225,7 @@ module _ (c : Scene) (s : Store) (sites : List ℕ) (r : IsRunning c s.heap site
   length_own : (at : ObjId) → nat_eq at.0 window.0 && is_built length_name ≡ false
   length_own at = and_right (nat_eq at.0 window.0) (is_built length_name) length_not_built
 
-  defines_length : (at : ObjId) (count : ℕ) (writable : Bool) → all_below (built_in_count + length sites) (at.0 ∷ []) ≡ true
+  defines_length : (at : ObjId) (count : ℕ) (writable : Bool) → all_below (first_thing + length sites) (at.0 ∷ []) ≡ true
       → IsLiteral (number count) → is_ordinary (object_at s.heap.objects (site sites at.0)).class ≡ true
       → (object.define_own (object_at s.heap.objects (site sites at.0)) length_name (short_change sites (number count) writable)).thrown ≡ None
       → Changes c s sites n (site sites at.0) (object.define_own (object_at s.heap.objects (site sites at.0)) length_name
@@ -237,13 +238,13 @@ module _ (c : Scene) (s : Store) (sites : List ℕ) (r : IsRunning c s.heap site
       (short_read c s sites r (calls_at (suc d)) (suc n) lead each (number count) writable range refl)
       (short_asks c s sites r (number count) writable)
       (λ fine. length_defined (sited sites at) count writable sites (with_heap s (with_literal s.heap props)) n
-      (free_still at props (and_parts (nat_lt at.0 (built_in_count + length sites)) true stands).0 free) fine)
+      (free_still at props (and_parts (nat_lt at.0 (first_thing + length sites)) true stands).0 free) fine)
 
   prevents : (at : ObjId) → CanPrevent s.heap sites at
       → Changes c s sites n (site sites at.0) (prevented (object_at s.heap.objects (site sites at.0))).after
       ((exec (calls_at (suc d)) (inside c) (statement (Prevent at))).run s (suc n))
   prevents at can =
-      let below = (and_parts (nat_lt at.0 (built_in_count + length sites)) true can.stands).0 in
+      let below = (and_parts (nat_lt at.0 (first_thing + length sites)) true can.stands).0 in
       let done = prevented_at c s.heap sites r at.0 below can.done in
       record {
         after = (prevent_extensions s.heap (site sites at.0)).after;

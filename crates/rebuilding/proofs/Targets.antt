@@ -35,6 +35,7 @@ use Rattle.rebuilding.proofs.Stages.{IsFresh, MadeProps}
 use Rattle.rebuilding.proofs.Lasting.{proto_is}
 use Rattle.object_shapes.specs.Shapes.{HasShape, built_in_at}
 use Rattle.page_meaning.specs.Places.{built_in_count}
+use Rattle.rebuild_plan.specs.Moved.{first_thing}
 
 -- ---- a length of its own
 
@@ -130,13 +131,13 @@ module _ (c : Scene) (s : Store) (things : List ℕ) (h : Contents) (sites : Lis
       }
 
   thing_kept : (target : ObjId) → is_function (Some (class_at s target)) ≡ true → is_in target.0 things ≡ true
-      → nat_lt (place_of things target.0) (built_in_count + length sites) ≡ true → IsKept s things h sites target
+      → nat_lt (place_of things target.0) (first_thing + length sites) ≡ true → IsKept s things h sites target
   thing_kept target is found stands = by (number_at things target.0 found)
     where
       by : (i : ℕ) × (place_of things target.0 ≡ built_in_count + i) × (i < length things) × (nth things i ≡ target.0)
           → IsKept s things h sites target
       by (i, place, inside, same) =
-          let below : i < length sites = omega (arith, place, ltb-true (place_of things target.0) (built_in_count + length sites) stands) in
+          let below : i < length sites = omega (arith, place, ltb-true (place_of things target.0) (first_thing + length sites) stands) in
           let o : Object = object_at s.heap.objects target.0 in
           let made : Object = object_at h.objects (nth sites i) in
           let f : IsFresh c h.environments s things sites (nth sites i) o made =
@@ -160,6 +161,6 @@ module _ (c : Scene) (s : Store) (things : List ℕ) (h : Contents) (sites : Lis
 
   -- what is built in, or a thing that stands, is kept
   pub target_kept : (target : ObjId) → (target.0 < built_in_count) ⊎ (is_in target.0 things ≡ true) → is_function (Some (class_at s target)) ≡ true
-      → nat_lt (place_of things target.0) (built_in_count + length sites) ≡ true → IsKept s things h sites target
+      → nat_lt (place_of things target.0) (first_thing + length sites) ≡ true → IsKept s things h sites target
   target_kept target (inl low) is stands = built_in_kept target is low
   target_kept target (inr found) is stands = thing_kept target is found stands
