@@ -84,7 +84,7 @@ many = refl
 
 -- with so few things each place that is named is low
 low_names : (n : ℕ) (ks : List ℕ) → n ≤ 75000 → all_below (built_in_count + n) ks ≡ true → AreLow ks
-low_names n ks few low = below_more (built_in_count + n) 75122 ks (omega (arith, many, few)) low
+low_names n ks few low = below_more (built_in_count + n) 75123 ks (omega (arith, many, few)) low
 
 one_more : (r : Rebuild) (rs : List Rebuild) → length (line r) ≤ most r
     → length (lines rs) ≤ cost rs → length (lines (r ∷ rs)) ≤ cost (r ∷ rs)
