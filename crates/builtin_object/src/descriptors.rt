@@ -61,17 +61,14 @@ fn open_property(value: Value) -> Prop
 
 /// What a value asks for as a descriptor, or why it is none: it is no object, or asks for an accessor (section 8.10.5); or its `value` is
 /// a host name whose text is too long, which is found first.
-pub fn change_in(
-    state: &State,
-    value: &Value,
-) -> Result<Result<Change, Throw>, OutOfMemory>
+pub fn change_in(state: &State, value: &Value) -> Result<Result<Change, Throw>, OutOfMemory>
     ensures { IfOk result (λ change. change ≡ spec.change_in state.now value.now) }
 {
     match value {
         Value::Object(at) => change_at(state, *at),
-        Value::Undefined | Value::Null | Value::Bool(_) | Value::Num(_) | Value::Text(_) => Ok(
-            Err(Throw::WrongArgument),
-        ),
+        Value::Undefined | Value::Null | Value::Bool(_) | Value::Num(_) | Value::Text(_) => Ok(Err(
+            Throw::WrongArgument,
+        )),
     }
 }
 
@@ -100,10 +97,7 @@ fn change_with(
 }
 
 // The field `value`, which may be a host name.
-fn value_field(
-    state: &State,
-    at: ObjId,
-) -> Result<Result<Option<Value>, Throw>, OutOfMemory>
+fn value_field(state: &State, at: ObjId) -> Result<Result<Option<Value>, Throw>, OutOfMemory>
     ensures { IfOk result (λ v. v ≡ spec.value_field state.now at HasValue
         (seen_at state.now at (codes "value") HasValue)) }
 {

@@ -1,13 +1,12 @@
 -- That a command answers as its text and what became of it say.
-use Rattle.std.proofs.Common.{◌≡◌, ℕ, ◌≤◌, List, [], ◌∷◌, Option, Some, None, Result, Ok as Good, Err, Vec, Global, refl, inl, inr, arith}
-use Rattle.std.specs.Prelude.{◌⊎◌}
+use Rattle.std.proofs.Common.{◌≡◌, ℕ, ◌≤◌, List, [], ◌∷◌, None, Result, Ok as Good, Err, Vec, Global, refl, inl, inr, arith}
 use Rattle.page_io.specs.Seen.{FilesSeen, KeeperSeen, SinkSeen}
 use Rattle.command_line.specs.declared.status.Status.{Status}
 use Rattle.command_line.specs.declared.status.Status.TheVariants.{Ok, WriteFault, OutOfMemory}
 use Rattle.command_line.specs.declared.command.Work.TheVariants.{Replay, Save}
 use Rattle.command_line.specs.Command.{Command, check, instrument, session, park, fetch, parked, drop_row}
-use Rattle.command_line.specs.Stages.{Seen, seen_between, unasked, unread, unwritten, Stage, words, page_file, acceptance, event_file, moving, next_row, one_row, all_rows, Stops, StopsWriting, PassesAll, EndsAt, EndsBy, Lasts, work_of}
-use Rattle.command_line.specs.Texts.{Answers, Changes, Gives, HasParked, IsPut, KeepsRows, PutsNothing, PutsText, RowsAfter, TextOf}
+use Rattle.command_line.specs.Stages.{Seen, seen_between, unasked, unread, unwritten, Stage, words, Stops, PassesAll, EndsAt, Lasts, work_of}
+use Rattle.command_line.specs.Texts.{Answers, Changes, Gives, IsPut, KeepsRows, PutsNothing, PutsText, RowsAfter, TextOf}
 
 -- ---- a command that ends at a stage writes nothing
 

@@ -1,5 +1,5 @@
 -- The causes of a command's end exclude each other, and there is always one.
-use Rattle.std.proofs.Common.{◌≡◌, ℕ, ◌<◌, ◌≤◌, Bool, true, false, List, [], ◌∷◌, length, Option, Some, None, Result, Ok, Err, refl, sym, ap, ◌∙◌, subst, inl, inr, arith}
+use Rattle.std.proofs.Common.{◌≡◌, ℕ, ◌<◌, ◌≤◌, List, [], ◌∷◌, length, Option, Some, None, Result, Ok, Err, refl, sym, ap, ◌∙◌, subst, inl, inr, arith}
 use Rattle.std.specs.FinMap.{get}
 use Rattle.std.specs.Prelude.{◌⊎◌, All, IfSome}
 use Rattle.js_core.specs.Text.{utf16_of}
@@ -7,9 +7,8 @@ use Rattle.page_io.specs.Content.{Told}
 use Rattle.page_io.specs.Table.{Table}
 use Rattle.page_check.specs.Accept.{IsRefused}
 use Rattle.page_check.specs.declared.page.Refusal.{Refusal}
-use Rattle.page_check.specs.declared.page.Refusal.TheVariants.{NotPage}
 use Rattle.js_values.specs.declared.event.Event.{Event}
-use Rattle.event_file.specs.Events.{calls_of}
+use Rattle.event_file.specs.Events.{events_of}
 use Rattle.command_line.specs.declared.status.Status.{Status}
 use Rattle.command_line.specs.declared.status.Status.TheVariants as status
 use Rattle.command_line.specs.declared.command.Work.TheVariants.{Replay, Save}
@@ -18,7 +17,7 @@ use Rattle.command_line.specs.Page.{page_limit, event_file_limit, Page, IsAccept
 use Rattle.command_line.specs.Parking.{AreUsed, greatest, last_version, listed}
 use Rattle.command_line.specs.Replay.{IsEventFile}
 use Rattle.command_line.specs.Saving.{IsTooLarge, IsMovable}
-use Rattle.command_line.specs.Stages.{Seen, Of, Held, IsNoEventFile, Stage, words, page_file, acceptance, event_file, moving, next_row, one_row, all_rows, Stops, StopsWriting, Passes, PassesAll, EndsAt, EndsBy, IsQuiet, CausesExclude, IsReadOrFailed, names_of, work_of, work_behind, reading, stages_of, SomeCause}
+use Rattle.command_line.specs.Stages.{Seen, Of, Held, IsNoEventFile, Stage, words, page_file, acceptance, event_file, moving, next_row, one_row, all_rows, Stops, Passes, PassesAll, EndsAt, EndsBy, IsQuiet, CausesExclude, IsReadOrFailed, names_of, work_of, work_behind, stages_of, SomeCause}
 use Rattle.command_line.proofs.Moves.{OneAcceptance}
 use Rattle.command_line.proofs.Numbers.{at_most_or_more}
 use Rattle.command_line.proofs.Outcomes.{one_weight, large_or_little, some_outcome}
@@ -174,7 +173,7 @@ module _ (seen : Seen) (none_neither : NoneNeither) where
       refused : (i : ℕ) → IsNoEventFile held.0 i → ⊥
       refused i h = never (status.EventsRefused i) (λ e. cc) (inl (inl (of_held _ held.0 (λ f. IsNoEventFile f i) held.1 h)))
 
-      by_events : (found : Result (List Event) ℕ) → calls_of held.0 ≡ found → length held.0 ≤ event_file_limit → ⊥
+      by_events : (found : Result (List Event) ℕ) → events_of held.0 ≡ found → length held.0 ≤ event_file_limit → ⊥
       by_events (Ok es) e few =
           let holds : IsEventFile held.0 es = record { fits = few; holds = e } in
           let passes = of_held _ held.0 (λ f. (events : List Event) × IsEventFile f events) held.1 (es, holds) in
@@ -182,7 +181,7 @@ module _ (seen : Seen) (none_neither : NoneNeither) where
       by_events (Err i) e few = refused i (inr (few, e))
 
       by_case : (length held.0 ≤ event_file_limit) ⊎ (event_file_limit < length held.0) → ⊥
-      by_case (inl few) = by_events (calls_of held.0) refl few
+      by_case (inl few) = by_events (events_of held.0) refl few
       by_case (inr many) = refused 0 (inl (many, refl))
 
   behind_moving : (p n bytes file : List ℕ) (gs : List Stage) (page : Page) (events : List Event)

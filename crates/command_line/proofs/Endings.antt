@@ -1,25 +1,22 @@
 -- How commands end, by what their parts answer.
-use Rattle.std.proofs.Common.{◌≡◌, ℕ, ◌≤◌, true, false, List, [], ◌∷◌, ◌++◌, length, Option, Some, None, IfSome, Result, Ok as Good, Err, Vec, Global, refl, sym, ap, ◌∙◌, subst, inl, inr, arith, IfOk, IfErr}
-use Rattle.std.specs.Prelude.{◌⊎◌}
+use Rattle.std.proofs.Common.{◌≡◌, ℕ, ◌≤◌, List, [], ◌∷◌, ◌++◌, length, Option, Some, None, Result, Ok as Good, Err, Vec, Global, refl, ap, subst, inl, inr, arith, IfOk, IfErr}
 use Rattle.page_io.specs.Content.{Told}
 use Rattle.page_io.specs.Faults.{Rose}
-use Rattle.page_io.specs.Seen.{FilesSeen, KeeperSeen, SinkSeen}
-use Rattle.page_io.specs.Taken.{Takes, TakesFront}
 use Rattle.page_check.specs.Accept.{IsRefused}
 use Rattle.page_meaning.specs.Pages.{run_of}
 use Rattle.js_values.specs.declared.event.Event.{Event}
 use Rattle.command_line.specs.declared.status.Status.{Status}
-use Rattle.command_line.specs.declared.status.Status.TheVariants.{Ok, PageRefused, Usage, EventsRefused, ReadFault, WriteFault, TooLarge, OutOfMemory, KeeperFault, NoSession, VersionsUsed}
+use Rattle.command_line.specs.declared.status.Status.TheVariants.{Ok, PageRefused, Usage, EventsRefused, ReadFault, WriteFault, TooLarge, OutOfMemory}
 use Rattle.command_line.specs.declared.command.Work.TheVariants.{Replay, Save}
 use Rattle.command_line.specs.Checking.{Tells}
-use Rattle.command_line.specs.Command.{Command, check, instrument, session, park, fetch, parked, drop_row}
+use Rattle.command_line.specs.Command.{Command, check, instrument, session}
 use Rattle.command_line.specs.Moving.{IsAnswer}
 use Rattle.command_line.specs.Opening.{OpensTo}
 use Rattle.command_line.specs.Page.{page_limit, Page, IsAccepted, IsPage, opened}
 use Rattle.command_line.specs.Reading.{AreRead, StopsAtPage, StopsAtEvents}
 use Rattle.command_line.specs.Replay.{IsEventFile}
-use Rattle.command_line.specs.Stages.{Seen, seen_between, unasked, unread, unwritten, Of, Held, ReadFailed, Stops, StopsWriting, Stage, page_file, acceptance, event_file, moving, next_row, one_row, all_rows, Passes, PassesAll, EndsAt, EndsBy, Lasts, reading, work_of, work_behind, words, Ends}
-use Rattle.command_line.specs.Texts.{Answers, Changes, Gives, IsPut, KeepsRows, PutsNothing, PutsText, Puts, Rows, RowsAfter, TextOf, Writes}
+use Rattle.command_line.specs.Stages.{Seen, Of, Held, ReadFailed, Stage, page_file, acceptance, event_file, moving, next_row, one_row, all_rows, PassesAll, EndsAt, EndsBy, Lasts, reading, work_of, words, Ends}
+use Rattle.command_line.specs.Texts.{Answers, Gives, KeepsRows, PutsNothing, PutsText, Puts, Rows, RowsAfter, TextOf}
 use Rattle.command_line.proofs.Moves.{SavingLaws}
 use Rattle.command_line.proofs.Works.{told_begins, told_large, told_movable, told_saves}
 use Rattle.opened_pages.specs.Opened.{HaveNumbers}
@@ -143,13 +140,11 @@ pub reading_is_refusal : (p e : List ℕ) (status : Status) (seen : Seen) → En
 reading_is_refusal p e Ok seen (inl h) n = absurd h
 reading_is_refusal p e Ok seen (inr (a, inl h)) n = absurd h
 reading_is_refusal p e Ok seen (inr (a, inr (b, inl h))) n = absurd h
-reading_is_refusal p e Ok seen (inr (a, inr (b, inr (c, inl h)))) n = absurd h
-reading_is_refusal p e Ok seen (inr (a, inr (b, inr (c, inr h)))) n = absurd h.1
+reading_is_refusal p e Ok seen (inr (a, inr (b, inr h))) n = absurd h.1
 reading_is_refusal p e WriteFault seen (inl h) n = absurd h
 reading_is_refusal p e WriteFault seen (inr (a, inl h)) n = absurd h
 reading_is_refusal p e WriteFault seen (inr (a, inr (b, inl h))) n = absurd h
-reading_is_refusal p e WriteFault seen (inr (a, inr (b, inr (c, inl h)))) n = absurd h
-reading_is_refusal p e WriteFault seen (inr (a, inr (b, inr (c, inr h)))) n = absurd h.1
+reading_is_refusal p e WriteFault seen (inr (a, inr (b, inr h))) n = absurd h.1
 reading_is_refusal p e OutOfMemory seen h n = inl n
 reading_is_refusal p e status seen h n = n
 

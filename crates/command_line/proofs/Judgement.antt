@@ -1,16 +1,16 @@
 -- What the answer of the writer says of a page that is saved.
-use Rattle.std.proofs.Common.{◌≡◌, ◌⊎◌, inl, inr, ℕ, ◌≤◌, List, Result, Err, sym, ap, subst, arith}
+use Rattle.std.proofs.Common.{◌≡◌, ◌⊎◌, inl, inr, ℕ, ◌≤◌, List, Result, Ok, Err, sym, ap, subst, arith}
 use Rattle.heap_walker.specs.Bare.{IsBare}
 use Rattle.heap_walker.specs.Things.{IsWalk}
 use Rattle.heap_walker.specs.Weight.{load_of, told}
 use Rattle.heap_walker.specs.declared.weight.Weight.{Weight}
 use Rattle.page_io.specs.Faults.{Rose}
 use Rattle.page_io.specs.Seen.{SinkSeen}
-use Rattle.page_io.specs.Taken.{TakesFront}
+use Rattle.page_io.specs.Taken.{Takes, TakesFront}
 use Rattle.page_meaning.specs.Store.{Store}
 use Rattle.page_writer.specs.Literals.{HaveLiterals}
 use Rattle.page_writer.specs.Page.{saved_page}
-use Rattle.page_writer.specs.Sizes.{Judged, many, long, fault, memory, text_limit, things_limit}
+use Rattle.page_writer.specs.Sizes.{Judged, put, many, long, fault, memory, text_limit, things_limit}
 use Rattle.js_core.specs.declared.memory.Failure.{Failure}
 use Rattle.page_writer.specs.declared.save_fault.NotSaved.{NotSaved}
 use Rattle.js_core.specs.declared.memory.Failure.TheVariants.{Cause, OutOfMemory}
@@ -45,6 +45,23 @@ module _ (s : Store) (things : List ℕ) (old new : SinkSeen) where
       },
     ),
   )
+
+  pub answer_put : (r : Result (Unit {0}) (Failure NotSaved)) → IsBare s → IsWalk s things → r ≡ Ok tt → Judged (told (load_of s things)) old new (saved_page s things) r → HaveLiterals (plan (compact s things))
+      → (x : List ℕ) × CanBeSaved s x × Takes old.taken new.taken (saved_page s x)
+  answer_put r bare walk e (put few little whole) literals = (
+    things,
+    record {
+      bare = bare;
+      walked = walk;
+      little = not_much (told (load_of s things)) few little;
+      literals = literals;
+    },
+    whole,
+  )
+  answer_put r bare walk e (many more none) literals = cc e
+  answer_put r bare walk e (long few more none) literals = cc e
+  answer_put r bare walk e (fault few little front rose) literals = cc e
+  answer_put r bare walk e (memory few little front) literals = cc e
 
   pub answer_large : (f : Failure NotSaved) (v : Weight) → IsWalk s things → f ≡ Cause (TooMany v) → WasJudged f
       → (new ≡ old) × ((x : List ℕ) × IsOverweight s x v)

@@ -1,5 +1,5 @@
 -- A saved page is accepted, and goes on as the page that was saved.
-use Rattle.std.proofs.Common.{◌≡◌, ◌⊎◌, inl, inr, ℕ, true, false, ◌≤◌, ◌<◌, List, [], ◌∷◌, min, refl, sym, ap, subst, ◌∙◌, arith, ◌+◌, ◌*◌}
+use Rattle.std.proofs.Common.{◌≡◌, ◌⊎◌, inl, inr, ℕ, true, ◌≤◌, ◌<◌, List, [], ◌∷◌, min, refl, sym, ap, subst, ◌∙◌, arith, ◌+◌, ◌*◌}
 use Rattle.std.specs.List.{list_all}
 use Rattle.std.proofs.lemmas.Bool.{and_from}
 use Rattle.dom_tree.specs.Sound.{IsSound}

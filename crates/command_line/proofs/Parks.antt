@@ -1,5 +1,5 @@
 -- That keeping a page under the next version of a name is one row more.
-use Rattle.std.proofs.Common.{◌≡◌, ℕ, ◌+◌, ◌≤◌, ◌<◌, max, Bool, true, false, cond, if◌then◌else◌, List, [], ◌∷◌, ◌++◌, map, Option, Some, None, IfSome, Result, Ok as Good, Err, Vec, Global, bytes_eq, refl, sym, ap, subst, ◌∙◌, inl, inr, arith, rules}
+use Rattle.std.proofs.Common.{◌≡◌, ℕ, ◌<◌, max, Bool, true, false, cond, if◌then◌else◌, List, [], ◌∷◌, map, Option, Some, None, IfSome, Result, Ok as Good, Err, Vec, Global, bytes_eq, refl, sym, ap, subst, ◌∙◌, inl, inr, arith, rules}
 use Rattle.std.specs.Option.{option_map}
 use Rattle.std.specs.Ordering.{eq_by_cmp}
 use Rattle.std.specs.FinMap.{entries, find, get, insert, get-entries}
@@ -10,18 +10,17 @@ use Rattle.page_io.specs.Table.{Key, Table, key_cmp, kept_name}
 use Rattle.page_io.proofs.Callers.{tied}
 use Rattle.page_meaning.specs.Pages.{run_of}
 use Rattle.opened_pages.specs.Opened.{HaveNumbers}
-use Rattle.page_writer.specs.Page.{saved_page}
 use Rattle.command_line.specs.declared.status.Status.{Status}
 use Rattle.command_line.specs.declared.status.Status.TheVariants.{TooLarge, OutOfMemory}
 use Rattle.command_line.specs.Command.{park}
-use Rattle.command_line.specs.Keeping.{IsKept, IsNextOf, IsOneMore}
+use Rattle.command_line.specs.Keeping.{IsKept, IsNextOf}
 use Rattle.command_line.specs.Moving.{IsNotSaved, IsSaved}
 use Rattle.command_line.specs.Page.{Page, opened}
-use Rattle.command_line.specs.Parking.{AreUsed, greatest, listed, next_version}
+use Rattle.command_line.specs.Parking.{AreUsed, greatest, next_version}
 use Rattle.command_line.specs.Reading.{AreRead}
 use Rattle.command_line.specs.Saving.{Saves}
-use Rattle.command_line.specs.Stages.{Seen, seen_between, unwritten, Of, Held, PassesAll, EndsAt, reading, moving, next_row}
-use Rattle.command_line.specs.Texts.{Gives, HasParked, KeepsRows}
+use Rattle.command_line.specs.Stages.{Seen, seen_between, unwritten, Of, EndsAt, reading, moving, next_row}
+use Rattle.command_line.specs.Texts.{Gives, KeepsRows}
 use Rattle.command_line.proofs.Endings.{ends_behind, ends_within, passes_both, passes_reading}
 use Rattle.command_line.proofs.Moves.{SavingLaws}
 use Rattle.command_line.proofs.Works.{told_large, told_movable, told_saves}

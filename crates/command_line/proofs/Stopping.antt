@@ -1,5 +1,5 @@
 -- With which status a command stops at a stage, where nothing outside failed and memory did not run out.
-use Rattle.std.proofs.Common.{◌≡◌, ℕ, ◌<◌, false, List, length, Option, Some, None, IfSome, refl}
+use Rattle.std.proofs.Common.{◌≡◌, ℕ, ◌<◌, List, length, Option, Some, None, IfSome, refl}
 use Rattle.std.specs.FinMap.{get}
 use Rattle.page_io.specs.Content.{Told}
 use Rattle.heap_walker.specs.declared.weight.Weight.{Weight}

@@ -1,5 +1,5 @@
 -- The rows of parked sessions: which version is the next one of a name, and the lines that commands write of rows.
-use Rattle.std.specs.Prelude.{ℕ, ◌+◌, ◌≤◌, Bool, max, nat_eq, List, [], ◌∷◌, ◌++◌, map, codes, bytes_eq, if◌then◌else◌}
+use Rattle.std.specs.Prelude.{ℕ, ◌+◌, ◌≤◌, Bool, max, nat_eq, List, [], ◌∷◌, ◌++◌, map, bytes_eq, if◌then◌else◌}
 use Rattle.std.specs.List.{list_any}
 use Rattle.std.specs.FinMap.{entries}
 use Rattle.std.specs.Fmt.{decimal}

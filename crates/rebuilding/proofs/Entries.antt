@@ -3,7 +3,7 @@ use Rattle.std.proofs.Common.{◌≡◌, refl, sym, ap, ◌∙◌, ℕ, Bool, tr
 use Rattle.std.proofs.lemmas.Bool.{or_parts}
 use Rattle.std.proofs.lemmas.List.Folds.{list_any-append}
 use Rattle.js_core.specs.Tree as tree
-use Rattle.js_core.specs.Tree.{name, code, var, function, expr, empty, block, if_else, do_while, while, for, for_in, continue, break, return, throw, try, switch, no_stmts, then_stmt, no_body, one_body, no_declarators, then_declarator, no_init, init_var, init_expr, no_catch, one_catch, no_cases, then_case}
+use Rattle.js_core.specs.Tree.{var, function, expr, empty, block, if_else, do_while, while, for, for_in, continue, break, return, throw, try, switch, no_stmts, then_stmt, no_body, one_body, no_catch, one_catch, no_cases, then_case}
 use Rattle.code_table.specs.Declarations as held
 use Rattle.object_heap.specs.Environment.{value_of}
 use Rattle.page_meaning.specs.Functions.{entry_names, function_names, with_arguments, with_names}

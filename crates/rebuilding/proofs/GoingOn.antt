@@ -1,5 +1,5 @@
 -- Under each list of later events a rebuilt page puts out the same lines as the page that was saved.
-use Rattle.std.proofs.Common.{◌≡◌, sym, ap, ◌∙◌, List, [], ◌∷◌, drop, length}
+use Rattle.std.proofs.Common.{◌≡◌, sym, ap, ◌∙◌, List, drop, length}
 use Rattle.js_values.specs.declared.line.Line.{Line}
 use Rattle.page_meaning.specs.Pages.{load_of, run_all}
 use Rattle.page_meaning.specs.Store.{Store}

@@ -1,5 +1,5 @@
 -- The nodes that a bare page and a rebuilt one have, with their objects, mean the same: each names itself.
-use Rattle.std.proofs.Common.{◌≡◌, ◌⊎◌, inl, inr, refl, sym, ap, subst, ◌∙◌, ℕ, zero, suc, ◌+◌, ◌-◌, ◌<◌, ◌≤◌, Bool, true, false, nat_eq, List, [], ◌∷◌, Option, Some, None, length, arith}
+use Rattle.std.proofs.Common.{◌≡◌, ◌⊎◌, inl, inr, refl, sym, ap, subst, ◌∙◌, ℕ, zero, suc, ◌+◌, ◌-◌, ◌<◌, ◌≤◌, true, false, List, Some, length, arith}
 use Rattle.std.proofs.lemmas.Bool.{cases_lt, lt-ltb, ltb-true, and_parts, and_from}
 use Rattle.std.proofs.lemmas.List.Elements.{All-nil}
 use Rattle.js_values.specs.declared.ids.NodeId.{NodeId}
@@ -10,19 +10,16 @@ use Rattle.object_heap.proofs.Callers.{object_absent}
 use Rattle.object_heap.specs.Chain.{object_at}
 use Rattle.object_heap.specs.Heap.{Contents, new_object}
 use Rattle.object_heap.specs.Object.{Object}
-use Rattle.object_heap.specs.Property.{Props}
 use Rattle.object_heap.specs.declared.object.Class.{Class}
 use Rattle.object_heap.specs.declared.object.Class.TheVariants as class
 use Rattle.page_host.specs.Host.{Host, object_of_node, with_clock}
-use Rattle.page_meaning.specs.Classes.{class_at}
-use Rattle.page_meaning.specs.Places.{at_place, built_in_count, node_prototype}
+use Rattle.page_meaning.specs.Places.{built_in_count, node_prototype}
 use Rattle.page_meaning.specs.Store.{Store}
-use Rattle.heap_relations.specs.Naming.{Named, World, In, named}
-use Rattle.heap_relations.specs.Naming as naming
-use Rattle.heap_relations.specs.Related.{Entries, Maybe, ObjectIds, ObjectRel, each, no_entries, no_more, node, none, some}
-use Rattle.host_relations.specs.Hosts.{HostRel, IsOrderly}
+use Rattle.heap_relations.specs.Naming.{Named, World, named}
+use Rattle.heap_relations.specs.Related.{ObjectRel, each, no_entries, no_more, node, none, some}
+use Rattle.host_relations.specs.Hosts.{HostRel}
 use Rattle.host_relations.specs.Linked.{Linked}
-use Rattle.host_relations.specs.Nodes.{NodeIds, NodeRel, NodesRel}
+use Rattle.host_relations.specs.Nodes.{NodeRel, NodesRel}
 use Rattle.agreement.specs.Acts.{clocks_of}
 use Rattle.heap_walker.proofs.Callers.{thing_of}
 use Rattle.heap_walker.specs.Bare.{frame_host, frame_nodes, is_ordinary, nth_node}
@@ -32,7 +29,7 @@ use Rattle.object_shapes.specs.Links.{is_thing}
 use Rattle.object_shapes.specs.Shapes.{HasShape}
 use Rattle.rebuilding.specs.Rebuilt.{nth}
 use Rattle.rebuilding.specs.Scene.{frame_count}
-use Rattle.rebuilding.proofs.Naming.{IsSame, below_named, built_in_paired, is_same, rebuilt_world}
+use Rattle.rebuilding.proofs.Naming.{below_named, built_in_paired, is_same, rebuilt_world}
 use Rattle.rebuilding.proofs.Placed.{node_low, place_in}
 
 -- ---- the objects of the nodes of a bare page

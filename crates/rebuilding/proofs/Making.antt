@@ -6,7 +6,7 @@ use Rattle.std.specs.List.{All}
 use Rattle.std.specs.Option.{ForSome}
 use Rattle.built_in_paths.specs.Laws.{EachHasPath, PathsLead}
 use Rattle.js_core.specs.Tree as tree
-use Rattle.js_core.specs.Tree.{call, construct, list, member, name, no_exprs, no_holes, null, then_expr}
+use Rattle.js_core.specs.Tree.{call, construct, list, name, no_exprs, no_holes, null, then_expr}
 use Rattle.js_values.specs.Throw.{kind_name}
 use Rattle.js_values.specs.declared.built_in.BuiltIn.TheVariants as built_in
 use Rattle.js_values.specs.declared.ids.ObjId.{ObjId}

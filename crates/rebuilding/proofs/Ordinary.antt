@@ -1,18 +1,16 @@
 -- Objects that are neither nodes nor events: nothing may be kept from them, and their names are their properties alone.
-use Rattle.std.proofs.Common.{◌≡◌, inl, inr, refl, sym, ap, ◌∙◌, arith, ℕ, ◌<◌, Bool, true, false, ◌&&◌, not, is_none, List, [], ◌∷◌, ◌++◌, Option, Some, None, bytes_eq, if◌then◌else◌, length}
+use Rattle.std.proofs.Common.{◌≡◌, inl, inr, refl, sym, ap, ◌∙◌, arith, ℕ, ◌<◌, Bool, true, false, is_none, List, [], ◌∷◌, Option, Some, None, bytes_eq}
 use Rattle.std.proofs.lemmas.Bool.{and_parts, cond-false}
 use Rattle.std.proofs.lemmas.Option.{none-some}
 use Rattle.std.proofs.lemmas.Slice.Eq.{bytes_eq-Decides}
 use Rattle.std.specs.Fmt.{decimal}
 use Rattle.std.specs.List.{list_all}
 use Rattle.js_values.specs.declared.ids.ObjId.{ObjId}
-use Rattle.js_values.specs.declared.throw.Throw.{Throw}
 use Rattle.js_values.specs.declared.throw.Throw.TheVariants.{CannotDefine, CannotSet}
 use Rattle.js_values.specs.declared.value.Value.{Value}
 use Rattle.dom_tree.specs.Node.{Nodes}
 use Rattle.object_heap.proofs.Callers.{kinds_steps}
-use Rattle.object_heap.specs.Attempt.{Attempt, throws}
-use Rattle.object_heap.specs.Chain.{object_at}
+use Rattle.object_heap.specs.Attempt.{throws}
 use Rattle.object_heap.specs.Define as object
 use Rattle.object_heap.specs.Heap.{Contents, define_own, prevent_extensions, put}
 use Rattle.object_heap.specs.Index.{index_end, index_of}

@@ -14,7 +14,6 @@ use Rattle.rebuilding.specs.Scene.{IsRunning, Scene, frame_count, is_site}
 use Rattle.rebuilding.proofs.Going.{Going}
 use Rattle.rebuilding.proofs.Basics.{all_at, not_in}
 use Rattle.rebuilding.proofs.Placed.{some_built_in}
-use Rattle.page_meaning.specs.Places.{built_in_count}
 
 -- ---- sites
 

@@ -9,7 +9,7 @@ use Rattle.std.specs.Option.{option_map}
 use Rattle.built_in_paths.specs.Laws.{EachHasPath, PathsLead}
 use Rattle.built_in_paths.specs.Paths.{path_of}
 use Rattle.js_core.specs.Tree as tree
-use Rattle.js_core.specs.Tree.{assign, num}
+use Rattle.js_core.specs.Tree.{assign}
 use Rattle.js_core.specs.Whole.{InRange, is_whole, largest, nan}
 use Rattle.js_values.specs.declared.ids.ObjId.{ObjId}
 use Rattle.js_values.specs.declared.value.Value.{Value}

@@ -1,5 +1,5 @@
 -- What the rows of built-in functions do on a page where the statements of a saved page run: definitions, and the end of extensions.
-use Rattle.std.proofs.Common.{◌≡◌, ap, ◌∙◌, ℕ, suc, ◌+◌, Bool, true, false, List, [], ◌∷◌, Option, Some, None, Result, Ok, codes, length}
+use Rattle.std.proofs.Common.{◌≡◌, ap, ◌∙◌, ℕ, suc, ◌+◌, Bool, true, false, List, [], ◌∷◌, Option, None, Result, Ok, codes, length}
 use Rattle.built_in_paths.specs.Laws.{EachHasPath, PathsLead}
 use Rattle.js_core.specs.Tree as tree
 use Rattle.js_core.specs.Tree.{call, expr, no_exprs, text, then_expr}

@@ -1,5 +1,5 @@
 -- A page that was rebuilt is saved as the one that it was rebuilt from: its plan is the same, and with it the text that is written.
-use Rattle.std.specs.Prelude.{◌≡◌, ℕ, List, [], ◌∷◌}
+use Rattle.std.specs.Prelude.{◌≡◌, ℕ, List}
 use Rattle.heap_walker.specs.Things.{IsWalk}
 use Rattle.page_meaning.specs.Pages.{load_of}
 use Rattle.page_meaning.specs.Store.{Store}

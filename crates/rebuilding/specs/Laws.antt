@@ -1,5 +1,5 @@
 -- A saved page goes on as the page that was saved.
-use Rattle.std.specs.Prelude.{◌≡◌, ℕ, ◌<◌, List, [], ◌∷◌, drop, length, ◌+◌, ◌≤◌}
+use Rattle.std.specs.Prelude.{◌≡◌, ℕ, ◌<◌, List, [], drop, length, ◌+◌, ◌≤◌}
 use Rattle.agreement.specs.Acts.{StoreRel}
 use Rattle.agreement.specs.Trees.{HasEqualTrees}
 use Rattle.heap_relations.specs.Naming.{World}

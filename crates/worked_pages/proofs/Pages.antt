@@ -100,4 +100,3 @@ two_scripts_puts_out = refl
 pub early_stop_puts_out : PutsOutAfterFew 2 early_stop
 unfolding array_prototype_place error_prototype_place type_error_prototype_place range_error_prototype_place reference_error_prototype_place console_place function_place string_prototype_place number_prototype_place boolean_prototype_place math_place node_prototype_place event_prototype_place built_in_count host_name time_limit step_limit depth_limit text_limit global_names digits put define_own delete prevent_extensions lookup can_put get_property set add_property to_whole literal_of decimal_of hexadecimal_of is_decimal goes_on_as_decimal is_exponent trimmed is_white_space is_line_end
 early_stop_puts_out = refl
-

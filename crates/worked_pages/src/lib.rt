@@ -3,4 +3,6 @@
 
 mod laws;
 
-pub use laws::{law_worked_expressions, law_worked_objects, law_worked_pages, law_worked_statements};
+pub use laws::{
+    law_worked_expressions, law_worked_objects, law_worked_pages, law_worked_statements,
+};

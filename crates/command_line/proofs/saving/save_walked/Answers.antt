@@ -1,7 +1,12 @@
-use Rattle.std.proofs.Common.{ap, ◌∙◌}
+use Rattle.std.proofs.Common.{ap, refl, ◌∙◌}
 use Rattle.js_core.specs.declared.memory.Failure.TheVariants.{Cause}
-use Rattle.command_line.proofs.Judgement.{answer_fault, answer_large, answer_long, answer_memory}
+use Rattle.command_line.proofs.Judgement.{answer_fault, answer_large, answer_long, answer_memory, answer_put}
 use Rattle.command_line.proofs.saving.save_walked.Goals as goal
+
+pub returns-in-Ok-clause-answer : goal.returns-in-Ok-clause-answer
+returns-in-Ok-clause-answer g c =
+    answer_put c.args.state.now c.args.walked.now.things.keys (g.O.Sink.seen c.args.out.now) (g.O.Sink.seen c.write_walked.new.out) _ c.requires.bare c.requires.walked refl
+    c.in-Ok.ensures.judged c.in-Ok.ensures.written
 
 pub returns-in-Err-Cause-TooMany-clause-answer : goal.returns-in-Err-Cause-TooMany-clause-answer
 returns-in-Err-Cause-TooMany-clause-answer g c =

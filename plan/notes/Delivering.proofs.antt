@@ -1,9 +1,0 @@
--- The frame of a dispatch matches the meaning by computing.
-use Rattle.std.specs.Prelude.{refl, ℕ, List, ◌∷◌}
-use Rattle.page_meaning.specs.declared.listener.Listener.{Listener}
-use Rattle.page_meaning.specs.Act.{Calls}
-use Rattle.page_meaning.specs.Delivering.{DeliverFrame, RunsInTurn}
-use Rattle.page_meaning.specs.Store.{Store}
-
-pub runs_in_turn : (calls : Calls) (f : DeliverFrame) (l : Listener) (ls : List Listener) (s : Store) (n : ℕ) → RunsInTurn calls f l ls s n
-runs_in_turn calls f l ls s n = record { called = λ there. rw there refl; passed = λ gone. rw gone refl }
