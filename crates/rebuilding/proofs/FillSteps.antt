@@ -18,7 +18,7 @@ use Rattle.rebuild_plan.specs.Compact.{Thing, moved_props}
 use Rattle.rebuild_plan.specs.Plan.{defines, fill, thing_place}
 use Rattle.rebuild_plan.specs.declared.statement.Rebuild.{Rebuild}
 use Rattle.rebuilding.specs.Rebuilt.{ClassIsRebuilt, Succeeds, bound, fault, list, nth, page, plain}
-use Rattle.heap_walker.specs.Bare.{is_ordinary}
+use Rattle.rebuilding.proofs.Ordinary.{is_ordinary}
 use Rattle.rebuilding.specs.Scene.{Scene}
 use Rattle.rebuilding.specs.Sites.{site}
 use Rattle.rebuilding.proofs.Fills.{Later, bound_succeeds, fill_as, list_succeeds, page_succeeds, rest_succeeds}

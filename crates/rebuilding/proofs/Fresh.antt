@@ -28,7 +28,7 @@ use Rattle.rebuild_plan.specs.Compact.{kind_of, maker_as, moved, moved_needs, mo
 use Rattle.rebuild_plan.specs.Stands.{maker_names}
 use Rattle.rebuilding.specs.Rebuilt.{ClassIsRebuilt, bound, fault, list, page, plain}
 use Rattle.rebuilding.specs.Running.{CanMake, IsMade}
-use Rattle.heap_walker.specs.Bare.{is_ordinary}
+use Rattle.rebuilding.proofs.Ordinary.{is_ordinary}
 use Rattle.rebuilding.specs.Scene.{IsRoundOf, Scene, page_with}
 use Rattle.rebuilding.specs.Sites.{site, sited, sited_proto, sited_values}
 use Rattle.rebuilding.proofs.Placed.{array_low, error_low, function_low, needs_stay, proto_stays}

@@ -17,7 +17,7 @@ use Rattle.rebuild_plan.specs.Compact.{moved_props}
 use Rattle.rebuild_plan.specs.Plan.{defines}
 use Rattle.rebuild_plan.specs.declared.statement.Rebuild.{Rebuild}
 use Rattle.rebuilding.specs.Rebuilt.{Succeeds}
-use Rattle.heap_walker.specs.Bare.{is_ordinary}
+use Rattle.rebuilding.proofs.Ordinary.{is_ordinary}
 use Rattle.rebuilding.specs.Scene.{IsRunning, Scene}
 use Rattle.rebuilding.specs.Sites.{site}
 use Rattle.rebuilding.proofs.Defining.{and_props, defines_succeed}

@@ -20,7 +20,7 @@ use Rattle.rebuild_plan.specs.declared.statement.Rebuild.{Rebuild}
 use Rattle.rebuild_plan.specs.declared.statement.Rebuild.TheVariants.{Define, DefineLength, DefinePrototype, Prevent}
 use Rattle.rebuilding.specs.Rebuilt.{Succeeds}
 use Rattle.rebuilding.specs.Running.{HasChanged, Stays, short_change, whole_change}
-use Rattle.heap_walker.specs.Bare.{is_ordinary}
+use Rattle.rebuilding.proofs.Ordinary.{is_ordinary}
 use Rattle.rebuilding.specs.Scene.{IsRunning, Scene}
 use Rattle.rebuilding.proofs.Ordinary.{free_defined, free_prevented}
 use Rattle.rebuilding.specs.Sites.{site}

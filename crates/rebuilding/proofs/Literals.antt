@@ -29,7 +29,7 @@ use Rattle.page_host.specs.declared.host_name.HostName.TheVariants.{Value as Has
 use Rattle.page_meaning.specs.HostNames.{Seen, held, see}
 use Rattle.page_meaning.specs.Reading.{seen_at}
 use Rattle.page_meaning.specs.Store.{Store, with_heap}
-use Rattle.heap_walker.specs.Bare.{is_ordinary}
+use Rattle.rebuilding.proofs.Ordinary.{is_ordinary}
 use Rattle.rebuilding.proofs.Ordinary.{define_free}
 use Rattle.page_meaning.specs.declared.signal.Signal.TheVariants.{Value as Val}
 use Rattle.page_writer.specs.Literals.{IsLiteral}

@@ -40,7 +40,7 @@ use Rattle.page_meaning.specs.Rows.{row_of}
 use Rattle.page_host.specs.HostNames.{host_name}
 use Rattle.page_meaning.specs.Classes.{is_made}
 use Rattle.page_meaning.specs.Store.{Store, with_heap}
-use Rattle.heap_walker.specs.Bare.{is_ordinary}
+use Rattle.rebuilding.proofs.Ordinary.{is_ordinary}
 use Rattle.rebuilding.proofs.Ordinary.{put_free}
 use Rattle.rebuilding.proofs.Paths.{plain_read}
 use Rattle.page_meaning.specs.ValueRows.{silent_error, silent_fit}

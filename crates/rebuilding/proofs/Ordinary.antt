@@ -27,10 +27,15 @@ use Rattle.page_meaning.specs.HostNames.{is_kept}
 use Rattle.page_meaning.specs.Pristine.{built_ins}
 use Rattle.page_meaning.specs.Steps.{define_tried, put_tried}
 use Rattle.page_meaning.specs.Store.{Store}
-use Rattle.heap_walker.specs.Bare.{is_ordinary}
 use Rattle.object_shapes.specs.Shapes.{built_in_at}
 use Rattle.rebuilding.proofs.Indices.{decimal_apart}
 use Rattle.rebuilding.proofs.Placed.{at_or}
+
+-- it is neither a node nor an event
+abbrev pub is_ordinary : Class → Bool
+is_ordinary (class.Node k) = false
+is_ordinary (class.Event parts) = false
+is_ordinary c = true
 
 -- ---- nothing is kept from them
 

@@ -27,7 +27,7 @@ use Rattle.page_meaning.specs.Store.{Store, with_heap}
 use Rattle.page_meaning.specs.declared.signal.Signal.TheVariants.{Value as Val}
 use Rattle.page_writer.specs.Statements.{define_expr, object_function, reference}
 use Rattle.rebuilding.specs.Running.{short_change}
-use Rattle.heap_walker.specs.Bare.{is_ordinary}
+use Rattle.rebuilding.proofs.Ordinary.{is_ordinary}
 use Rattle.rebuilding.proofs.Ordinary.{define_free}
 use Rattle.rebuilding.specs.Scene.{IsRunning, Scene, inside}
 use Rattle.rebuilding.specs.Sites.{sited}

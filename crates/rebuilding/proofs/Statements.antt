@@ -41,7 +41,7 @@ use Rattle.rebuild_plan.specs.declared.statement.Rebuild.{Rebuild}
 use Rattle.rebuild_plan.specs.declared.statement.Rebuild.TheVariants.{Make, Define, DefinePrototype, DefineLength, Prevent}
 use Rattle.rebuilding.specs.Running.{CanBeMade, CanDefine, CanMake, CanPrevent, CanRun, HasChanged, IsMade, Runs, StatementsRun, short_change, whole_change}
 use Rattle.rebuilding.specs.Scene.{IsRoundOf, IsRunning, Scene, frame_count, inside, is_site, list_of}
-use Rattle.heap_walker.specs.Bare.{is_ordinary}
+use Rattle.rebuilding.proofs.Ordinary.{is_ordinary}
 use Rattle.rebuilding.specs.Sites.{site, sited, sited_needs, sited_prop, sited_value}
 use Rattle.rebuilding.proofs.Calling.{also_on}
 use Rattle.rebuilding.proofs.Changing.{IsChanged, defined_at, prevented_at}
