@@ -39,7 +39,7 @@ use Rattle.page_meaning.specs.Properties.{get_member, is_length_of, put_in, stor
 use Rattle.page_meaning.specs.Rows.{row_of}
 use Rattle.page_host.specs.HostNames.{host_name}
 use Rattle.page_meaning.specs.Classes.{is_made}
-use Rattle.page_meaning.specs.Store.{Store, with_heap}
+use Rattle.page_meaning.specs.Store.{Store, with_heap, with_both}
 use Rattle.rebuilding.proofs.Ordinary.{is_ordinary}
 use Rattle.rebuilding.proofs.Ordinary.{put_free}
 use Rattle.rebuilding.proofs.Paths.{plain_read}
@@ -50,7 +50,8 @@ use Rattle.page_writer.specs.Literals.{IsLiteral}
 use Rattle.page_writer.specs.Statements.{maker_expr, object_function, reference, value_exprs}
 use Rattle.rebuild_plan.specs.declared.statement.Maker.{Maker}
 use Rattle.rebuild_plan.specs.declared.statement.Maker.TheVariants.{Bind, Fault, List as Array, Plain}
-use Rattle.rebuilding.specs.Running.{CanMake, IsMade, Stays}
+use Rattle.page_host.specs.Host.{Host}
+use Rattle.rebuilding.specs.Running.{CanMake, IsMade, Stays, made_host}
 use Rattle.rebuilding.specs.Scene.{IsRunning, Scene, inside}
 use Rattle.rebuilding.specs.Sites.{sited, sited_value, sited_values}
 use Rattle.rebuilding.proofs.Calling.{also_on, constructor_class, constructor_named, constructor_of, constructor_read, create_called, is_bind, is_create, native_called, native_constructed}
@@ -66,13 +67,15 @@ use Rattle.rebuild_plan.specs.Moved.{first_thing}
 -- the value of an expression is a fresh object as the maker wants it, after one step at most
 pub record Makes (c : Scene) (s : Store) (sites : List ℕ) (m : Maker) (n : ℕ) (out : Outcome Signal) : Type 0 where
   pub after : Contents
+  pub host : Host
   pub place : ℕ
   pub left : ℕ
   pub steps : n ≤ left + 1
-  pub ends : out ≡ Ended (Val (Reference (at_place place))) (with_heap s after) left
+  pub ends : out ≡ Ended (Val (Reference (at_place place))) (with_both s after host) left
+  pub has_host : host ≡ made_host s.host m place
   pub young : length s.heap.objects ≤ place
   pub there : place < length after.objects
-  pub object : IsMade c s.heap after sites place m (object_at after.objects place)
+  pub object : IsMade c s.heap s.host after sites place m (object_at after.objects place)
   pub stays : Stays s.heap after []
   pub running : IsRunning c after sites
 
@@ -87,17 +90,20 @@ pub record IsReady (h : Contents) (o : Object) : Type 0 where
 pub makes_one : (c : Scene) (s : Store) (sites : List ℕ) (m : Maker) (n left : ℕ) (out : Outcome Signal) (o : Object) → IsRunning c s.heap sites
     → IsReady s.heap o → n ≤ left + 1
     → out ≡ Ended (Val (Reference (next_place s.heap))) (with_heap s (with_new_object s.heap o)) left
-    → IsMade c s.heap (with_new_object s.heap o) sites (length s.heap.objects) m o
+    → IsMade c s.heap s.host (with_new_object s.heap o) sites (length s.heap.objects) m o
+    → s.host ≡ made_host s.host m (length s.heap.objects)
     → Makes c s sites m n out
-makes_one c s sites m n left out o r ready steps ends made = record {
+makes_one c s sites m n left out o r ready steps ends made same = record {
   after = with_new_object s.heap o;
+  host = s.host;
+  has_host = same;
   place = length s.heap.objects;
   left = left;
   steps = steps;
   ends = ends;
   young = le_refl (length s.heap.objects);
   there = made_there s.heap o;
-  object = subst (λ p. IsMade c s.heap (with_new_object s.heap o) sites (length s.heap.objects) m p) (sym (object_last s.heap.objects o)) made;
+  object = subst (λ p. IsMade c s.heap s.host (with_new_object s.heap o) sites (length s.heap.objects) m p) (sym (object_last s.heap.objects o)) made;
   stays = stays_made s.heap o;
   running = running_made c s.heap sites o r ready.fit ready.proto ready.target;
 }
@@ -162,7 +168,7 @@ module _ (c : Scene) (s : Store) (sites : List ℕ) (r : IsRunning c s.heap site
   array_made d n =
       makes_one c s sites Array n n _ new_array r array_ready (omega arith)
       (ap (λ (o : Outcome ObjId). then_on o (λ a. eval_holes (calls_at d) (inside c) no_holes a 0)) (ready_run new_array s n array_ready)
-      ∙ also_on (λ _. give (Reference (next_place s.heap))) (length_put s s.heap n)) refl
+      ∙ also_on (λ _. give (Reference (next_place s.heap))) (length_put s s.heap n)) refl refl
 
   plain_ready : (proto : Option ObjId) → ForSome proto (λ p. p.0 < length s.heap.objects) → IsReady s.heap (new_object class.Plain proto)
   plain_ready proto there = record { fit = new_fit class.Plain proto; made = refl; proto = there; target = none_below (length s.heap.objects) }
@@ -193,7 +199,7 @@ module _ (c : Scene) (s : Store) (sites : List ℕ) (r : IsRunning c s.heap site
       (also_on (λ f. eval_args calls (inside c) no_exprs [] (calls.construct f))
       (constructor_read c s sites r calls (suc n) (kind_name k) (constructor_of k) (constructor_named k))
       ∙ native_constructed d (constructor_of k) (function_place (constructor_of k)) [] s n (constructor_class c s sites r k) (error_constructs k)
-      ∙ error_row d n k) refl
+      ∙ error_row d n k) refl refl
 
   module _ (lead : PathsLead) (each : EachHasPath) (d n : ℕ) where
     -- `Object.create`, where the prototype is this value
@@ -225,7 +231,7 @@ module _ (c : Scene) (s : Store) (sites : List ℕ) (r : IsRunning c s.heap site
     plain_made None stands =
         let there : ForSome None (λ (p : ObjId). p.0 < length s.heap.objects) = none_below (length s.heap.objects) in
         makes_one c s sites (Plain None) (suc n) n _ (new_object class.Plain None) r (plain_ready None there) (omega arith)
-        (created null None refl there (plain_run None there)) refl
+        (created null None refl there (plain_run None there)) refl refl
     plain_made (Some at) stands =
         let p = sited sites at in
         let below : nat_lt at.0 (first_thing + length sites) ≡ true = (and_parts (nat_lt at.0 (first_thing + length sites)) true stands).0 in
@@ -233,7 +239,7 @@ module _ (c : Scene) (s : Store) (sites : List ℕ) (r : IsRunning c s.heap site
         (site_there c s.heap sites r at.0 below) in
         makes_one c s sites (Plain (Some at)) (suc n) n _ (new_object class.Plain (Some p)) r (plain_ready (Some p) there) (omega arith)
         (created (reference at) (Some p) (reference_read c s sites r (calls_at (suc d)) (suc n) lead each at stands) there
-        (plain_run (Some p) there)) refl
+        (plain_run (Some p) there)) refl refl
 
     pub bound_made : (target : ObjId) (this : Value) (args : List Value)
         → all_below (first_thing + length sites) (target.0 ∷ (value_links this ++ values_links args)) ≡ true
@@ -262,4 +268,4 @@ module _ (c : Scene) (s : Store) (sites : List ℕ) (r : IsRunning c s.heap site
         ∙ arguments_read c s sites r calls (suc n) lead each (this ∷ args) [] (calls.call f base) range parts.1
         ∙ native_called d built_in.FunctionPrototypeBind (function_place built_in.FunctionPrototypeBind) base vs s n (is_bind c s sites r)
         ∙ ap (λ b. (choose b (bind_to at (sited_value sites this) (sited_values sites args)) (raise WrongArgument)).run s n) able.0
-        ∙ ap (λ (x : Outcome ObjId). then_on x object_of) (ready_run o s n ready)) refl
+        ∙ ap (λ (x : Outcome ObjId). then_on x object_of) (ready_run o s n ready)) refl refl

@@ -76,11 +76,14 @@ module _ (c : Scene) (h : Contents) (sites : List ℕ) (r : IsRunning c h sites)
       by true e = rw e (inl (ltb-true k first_thing e))
       by false e = inr (site_thing k below e)
 
-  pub low_there : (k : ℕ) → k < first_thing → k < length h.objects
-  low_there k low = omega (arith, low, r.list_young, r.list_there)
+  pub begun_there : (k : ℕ) → k < first_thing → k < length h.objects
+  begun_there k low = omega (arith, low, r.list_young, r.list_there)
+
+  pub low_there : (k : ℕ) → k < built_in_count → k < length h.objects
+  low_there k low = begun_there k (omega (arith, low))
 
   pub place_there : (k : ℕ) → (k < first_thing) ⊎ Stands c h k → k < length h.objects
-  place_there k (inl low) = low_there k low
+  place_there k (inl low) = begun_there k low
   place_there k (inr s) = s.there
 
   pub place_other : (k : ℕ) → (k < first_thing) ⊎ Stands c h k → k ≡ c.list → ⊥
@@ -129,14 +132,14 @@ unfolding built_in_count
 positive = omega arith
 
 document_there : (c : Scene) (h : Contents) (sites : List ℕ) → IsRunning c h sites → document.0 < length h.objects
-document_there c h sites r = low_there c h sites r document.0 (omega arith)
+document_there c h sites r = begun_there c h sites r document.0 (omega arith)
 
 pub running_on : (c : Scene) (h i : Contents) (sites but : List ℕ) → IsRunning c h sites → IsSound i → Stays h i but
     → IsWindow (object_at i.objects window.0) → IsDocument (object_at i.objects document.0)
     → ((k : ℕ) → 0 < k → k < built_in_count → is_in k but ≡ false) → is_in c.list but ≡ false → IsRunning c i sites
 running_on c h i sites but r sound stays rest first low other = record {
   sound = sound;
-  built_ins = λ k some below. stays.objects k (low_there c h sites r k (omega (arith, below))) (low k some below) ∙ r.built_ins k some below;
+  built_ins = λ k some below. stays.objects k (low_there c h sites r k below) (low k some below) ∙ r.built_ins k some below;
   document = first;
   window = rest;
   list = stays.objects c.list r.list_there other ∙ r.list;
