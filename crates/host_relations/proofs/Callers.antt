@@ -38,7 +38,7 @@ pub use Rattle.host_relations.proofs.NodePairs.{made_nodes_agree, new_nodes_agre
 pub use Rattle.host_relations.proofs.NodeReads.{nodes_agree}
 pub use Rattle.host_relations.proofs.NodeSteps.{node_steps_keep}
 pub use Rattle.host_relations.proofs.Rehearing.{listeners_are_rebuilt}
-pub use Rattle.host_relations.proofs.Restarts.{rebuilt_timers_agree, timers_are_rebuilt}
+pub use Rattle.host_relations.proofs.Restarts.{AreAll, again_is, all_again, all_filled, none_yet, rebuilt_timers_agree, timers_are_rebuilt}
 pub use Rattle.host_relations.proofs.Steps.{steps_keep}
 pub use Rattle.host_relations.proofs.TimersKept.{timers_keep_agreement}
 

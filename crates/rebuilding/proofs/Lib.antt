@@ -20,6 +20,11 @@ pub mod Globals
 pub mod Going
 pub mod GoingOn
 pub mod Held
+pub mod HostCalls
+pub mod HostMethods
+pub mod HostPhase
+pub mod HostRows
+pub mod HostRuns
 pub mod Hosts
 pub mod InOrder
 pub mod Indices
@@ -39,6 +44,7 @@ pub mod Placed
 pub mod Plans
 pub mod Prevents
 pub mod PropertyNames
+pub mod QuietDispatch
 pub mod Reading
 pub mod Rebuilds
 pub mod Rounds
@@ -48,15 +54,11 @@ pub mod Settling
 pub mod Stages
 pub mod Statements
 pub mod Staying
+pub mod StepStatements
 pub mod Targets
+pub mod TimerPhase
 pub mod Uses
 pub mod WalkedAgain
 pub mod WindowStays
 pub mod WindowsAgree
 pub mod Wrapped
-pub mod HostRows
-pub mod HostRuns
-pub mod QuietDispatch
-pub mod HostCalls
-pub mod StepStatements
-pub mod HostMethods
