@@ -10,6 +10,7 @@ pub mod Closures
 pub mod Counterparts
 pub mod Defining
 pub mod DocumentStays
+pub mod EachHost
 pub mod EachThing
 pub mod Entries
 pub mod FillSteps
@@ -36,6 +37,7 @@ pub mod MakePhase
 pub mod Making
 pub mod Naming
 pub mod Needs
+pub mod NodePhase
 pub mod Ordinary
 pub mod Paths
 pub mod Phase
@@ -51,6 +53,7 @@ pub mod Rounds
 pub mod Rows
 pub mod Scripts
 pub mod Settling
+pub mod SitesApart
 pub mod Stages
 pub mod Statements
 pub mod Staying
