@@ -31,6 +31,7 @@ pub mod InOrder
 pub mod Indices
 pub mod Lasting
 pub mod List
+pub mod ListenPhase
 pub mod Literals
 pub mod Loading
 pub mod MakePhase
@@ -38,6 +39,7 @@ pub mod Making
 pub mod Naming
 pub mod Needs
 pub mod NodePhase
+pub mod NodesAt
 pub mod Ordinary
 pub mod Paths
 pub mod Phase
