@@ -65,22 +65,26 @@ length_not_built = refl
 record Changes (c : Scene) (s : Store) (sites : List ℕ) (n k : ℕ) (o : Object) (out : Outcome Signal) : Type 0 where
   after : Contents
   ends : out ≡ Ended nothing (with_heap s after) n
-  changed : HasChanged s.heap after sites sites k o
+  changed : (g : Host) → HasChanged s.heap g after g sites sites k o
   running : IsRunning c after sites
 
 -- what was made is so in a heap with the same environments
-made_still : (c : Scene) (h i j : Contents) (sites : List ℕ) (k : ℕ) (o : Object) (m : Maker) → i.environments ≡ j.environments
-    → IsMade c h i sites k m o → IsMade c h j sites k m o
-made_still c h i j sites k o (Plain proto) same f = f
-made_still c h i j sites k o Array same f = f
-made_still c h i j sites k o (Fault kind) same f = f
-made_still c h i j sites p o (Func k needs) same f = record {
+made_still : (c : Scene) (h : Contents) (g : Host) (i j : Contents) (sites : List ℕ) (k : ℕ) (o : Object) (m : Maker) → i.environments ≡ j.environments
+    → IsMade c h g i sites k m o → IsMade c h g j sites k m o
+made_still c h g i j sites k o (Plain proto) same f = f
+made_still c h g i j sites k o Array same f = f
+made_still c h g i j sites k o (Fault kind) same f = f
+made_still c h g i j sites p o (Func k needs) same f = record {
   round = f.round;
   prototype = f.prototype;
   object = f.object;
   is_round = subst (λ es. IsRoundOf c es p (sited_needs sites needs) (name_of k) f.round) same f.is_round;
 }
-made_still c h i j sites k o (Bind target this args) same f = f
+made_still c h g i j sites k o (Bind target this args) same f = f
+made_still c h g i j sites k o (Element x) same f = f
+made_still c h g i j sites k o (Text x) same f = f
+made_still c h g i j sites k o (Comment x) same f = f
+made_still c h g i j sites k o Event same f = f
 
 module _ (c : Scene) (s : Store) (sites : List ℕ) (r : IsRunning c s.heap sites) (lead : PathsLead) (each : EachHasPath) (d n : ℕ) where
   -- ---- a thing is made
@@ -169,11 +173,12 @@ module _ (c : Scene) (s : Store) (sites : List ℕ) (r : IsRunning c s.heap site
           after = i;
           ends = define_ran c s sites r lead each d n at stands x e props change i (literal_running c s.heap sites r props names) read asks
               (ends done.thrown);
-          changed = record {
+          changed = λ a. record {
             same = refl;
-            object = done.changed.object;
+            host = refl;
+            object = (done.changed a).object;
             stays = stays_on s.heap g i (k ∷ [])
-                (stays_made s.heap (literal_object props)) done.changed.stays;
+                (stays_made s.heap (literal_object props)) (done.changed a).stays;
           };
           running = done.running;
         }
