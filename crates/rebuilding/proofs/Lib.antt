@@ -67,10 +67,4 @@ pub mod WalkedAgain
 pub mod WindowStays
 pub mod WindowsAgree
 pub mod Wrapped
-pub mod HostRows
-pub mod HostRuns
 pub mod NodeMakes
-pub mod QuietDispatch
-pub mod HostCalls
-pub mod StepStatements
-pub mod HostMethods
