@@ -1,6 +1,6 @@
 -- The children of the document and of the things are nodes among the things, each once: there are no more of them than of those nodes.
-use Rattle.std.proofs.Common.{◌≡◌, ◌⊎◌, inl, inr, refl, sym, ap, subst, ◌∙◌, arith, ℕ, zero, suc, ◌<◌, ◌≤◌, Bool, true, false, ◌&&◌, ◌||◌, not, nat_eq, nat_lt, List, [], ◌∷◌, ◌++◌, None, Some, get_or, length}
-use Rattle.std.proofs.lemmas.Bool.{and_from, and_parts, cases_eq, cases_lt, eq-eqb, eqb-true, ltb-true, not-true, or_cases, or_left, or_right}
+use Rattle.std.proofs.Common.{◌≡◌, ◌⊎◌, inl, inr, refl, sym, ap, ◌∙◌, arith, ℕ, zero, suc, ◌<◌, ◌≤◌, Bool, true, false, ◌&&◌, ◌||◌, not, nat_eq, nat_lt, List, [], ◌∷◌, ◌++◌, None, Some, get_or, length}
+use Rattle.std.proofs.lemmas.Bool.{and_from, and_parts, cases_lt, eq-eqb, eqb-true, ltb-true, not-true, or_cases, or_left, or_right}
 use Rattle.std.proofs.lemmas.Cmp.{nat_eq_equiv}
 use Rattle.std.proofs.lemmas.List.Folds.{list_any-append}
 use Rattle.std.proofs.lemmas.List.Kept.{AllPairs-from_increasing}
@@ -16,10 +16,9 @@ use Rattle.object_heap.specs.Chain.{object_at}
 use Rattle.object_heap.specs.Object.{Object}
 use Rattle.object_heap.specs.declared.object.Class.{Class}
 use Rattle.object_heap.specs.declared.object.Class.TheVariants as class
-use Rattle.object_shapes.specs.Shapes.{built_in_at}
-use Rattle.page_host.specs.Host.{document_of, object_of_node}
+use Rattle.page_host.specs.Host.{object_of_node}
 use Rattle.page_meaning.specs.Classes.{class_at, is_made}
-use Rattle.page_meaning.specs.Places.{built_in_count, document, window}
+use Rattle.page_meaning.specs.Places.{built_in_count, document}
 use Rattle.page_meaning.specs.Pristine.{built_ins}
 use Rattle.page_meaning.specs.Store.{Store}
 use Rattle.heap_walker.specs.Still.{Still}

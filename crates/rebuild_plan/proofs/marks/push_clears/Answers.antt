@@ -1,4 +1,4 @@
-use Rattle.std.proofs.Common.{◌≡◌, ◌∙◌, ◌++◌, ap, subst}
+use Rattle.std.proofs.Common.{◌∙◌, ◌++◌, ap, subst}
 use Rattle.rebuild_plan.specs.Marks.{AreSet, clear_all, no_marks}
 use Rattle.rebuild_plan.proofs.Marking.{all_cleared}
 use Rattle.rebuild_plan.proofs.marks.push_clears.Goals as goal
