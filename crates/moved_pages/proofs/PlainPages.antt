@@ -47,11 +47,11 @@ folded_again (u ∷ us) =
     ap (λ v. v ∷ folded (folded us)) (lower_again u) ∙ ap (λ l. to_ascii_lowercase u ∷ l) (folded_again us)
 
 -- each name is folded
-AreFolded : Pairs → Type 0
+abbrev AreFolded : Pairs → Type 0
 AreFolded [] = Unit {0}
 AreFolded (a ∷ as') = (folded a.0 ≡ a.0) × AreFolded as'
 
-attributes_of : PageToken → Pairs
+abbrev attributes_of : PageToken → Pairs
 attributes_of (token.StartTag tag) = tag.attributes
 attributes_of (token.Raw tag raw) = tag.attributes
 attributes_of t = []
@@ -69,7 +69,7 @@ token_folded (tokens.end_tag us name rest o d) = tt
 token_folded (tokens.start_tag us rest tag at plain) = attributes_folded at.attributes
 token_folded (tokens.raw us content inner rest tag at raw is) = attributes_folded at.attributes
 
-AllFolded : List PageToken → Type 0
+abbrev AllFolded : List PageToken → Type 0
 AllFolded [] = Unit {0}
 AllFolded (t ∷ ts) = AreFolded (attributes_of t) × AllFolded ts
 
@@ -120,17 +120,17 @@ names_plain (a ∷ as') h f =
 
 allowed_plain : (tag : Tag) → is_allowed tag ≡ true → AreFolded tag.attributes → PlainTag tag.attributes
 unfolding is_allowed
-allowed_plain tag h f = names_plain tag.attributes (by (is_name tag.name) (not (list_any (bytes_eq tag.name) refused_names)) (list_all is_attribute tag.attributes) _ h) f
+allowed_plain tag h f = names_plain tag.attributes (by (is_name tag.name) (not (list_any (bytes_eq tag.name) refused_names)) (list_all is_attribute tag.attributes) _ _ h) f
   where
-    by : (a b c d : Bool) → (a && (b && (c && d))) ≡ true → c ≡ true
-    by true true true d e = refl
-    by true true false d e = cc e
-    by true false c d e = cc e
-    by false b c d e = cc e
+    by : (a b c d e : Bool) → ((((a && b) && c) && d) && e) ≡ true → c ≡ true
+    by a b true d e g = refl
+    by true true false d e g = cc g
+    by true false false d e g = cc g
+    by false b false d e g = cc g
 
 -- ---- trees
 
-PlainForest : Forest → Type 0
+abbrev PlainForest : Forest → Type 0
 PlainForest no_trees = Unit {0}
 PlainForest (element tag inner others) = PlainTag tag.attributes × PlainForest inner × PlainForest others
 PlainForest (text v others) = PlainForest others
