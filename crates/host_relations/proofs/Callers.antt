@@ -28,7 +28,7 @@ use Rattle.host_relations.specs.Paths.{PlaceRel}
 use Rattle.host_relations.specs.Timers.{Clocks, TimerRel, MomentRel}
 -- the theorems as they stand
 pub use Rattle.host_relations.proofs.Appending.{alone_at, appends_rebuild}
-pub use Rattle.host_relations.proofs.Attributing.{attributes_are_rebuilt}
+pub use Rattle.host_relations.proofs.Attributing.{attributes_are_rebuilt, folded_is}
 pub use Rattle.host_relations.proofs.Carrying.{alone_trees, appends_carry}
 pub use Rattle.host_relations.proofs.Compacting.{equal_nodes_agree}
 pub use Rattle.host_relations.proofs.Distinct.{AreNew, passed_new}

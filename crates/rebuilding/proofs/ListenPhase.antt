@@ -51,7 +51,7 @@ empty_end : (ls : List Listener) → ls ++ [] ≡ ls
 empty_end [] = refl
 empty_end (l ∷ ls) = ap (λ m. l ∷ m) (empty_end ls)
 
-bare_lacks : (o : Object) (x : List ℕ) → o.props ≡ [] → Lacks o x
+pub bare_lacks : (o : Object) (x : List ℕ) → o.props ≡ [] → Lacks o x
 bare_lacks o x none = ap (λ ps. own_property ps x) none
 
 module _ (c : Scene) (End : Contents → Host → List ℕ → Type 0) (h : Contents) (sites : List ℕ) where
