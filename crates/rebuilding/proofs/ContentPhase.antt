@@ -20,7 +20,7 @@ use Rattle.object_heap.specs.Heap.{Contents}
 use Rattle.object_heap.specs.Object.{Object}
 use Rattle.object_heap.specs.declared.object.Class.{Class}
 use Rattle.object_heap.specs.declared.object.Class.TheVariants as class
-use Rattle.page_host.specs.Host.{Host, with_nodes}
+use Rattle.page_host.specs.Host.{Host, object_of_node, with_nodes}
 use Rattle.page_host.specs.HostNames.{has_at_node, is_handler}
 use Rattle.page_host.specs.Sound.{is_plain}
 use Rattle.page_host.specs.Steps.{after_host, in_nodes}
@@ -39,7 +39,8 @@ use Rattle.rebuilding.specs.Running.{IsNodeHere, Lacks, Stand, node_here, object
 use Rattle.rebuilding.specs.Scene.{IsHosting, IsRunning, Scene}
 use Rattle.rebuilding.proofs.HostPhase.{hosted_next}
 use Rattle.rebuilding.proofs.ListenPhase.{bare_lacks}
-use Rattle.rebuilding.proofs.NodePhase.{IsAt, IsNodeOn, NodesDone, at_node, at_other, whole_phase}
+use Rattle.rebuilding.proofs.NodePhase.{IsAt, NodesDone, at_node, at_other, whole_phase}
+use Rattle.rebuilding.proofs.OwnObjects.{IsNodeOn, OwnObjects, own_kept}
 use Rattle.rebuilding.proofs.NodesAt.{NodeOrOther, NodesStand, document_here, document_node, node_or_other, thing_here, thing_node}
 
 -- ---- one node's content
@@ -118,6 +119,7 @@ module _ (c : Scene) (End : Contents → Host → List ℕ → Type 0) (h : Cont
       proto = is.proto;
       class = is.class;
       there = subst (λ n. is_there_of n ≡ true) (sym has.long) is.there;
+      own = ap (λ (v : Host). object_of_node v.objects (node_here h sites at)) has.host ∙ is.own;
     }
       where
         is_there_of : ℕ → Bool
@@ -210,7 +212,7 @@ pub record CanHave (new : Content) : Type 0 where
 
 no_attributes : (as' : Pairs) → nat_eq (length as') 0 ≡ true → as' ≡ []
 no_attributes [] e = refl
-no_attributes (a ∷ as') e = absurd (cc)
+no_attributes (a ∷ as') e = absurd (omega (arith, eqb-true (length (a ∷ as')) 0 e))
 
 no_value : (v : Option (List ℕ)) → is_none v ≡ true → v ≡ None
 no_value None e = refl
@@ -247,3 +249,98 @@ module _ (c : Scene) (End : Contents → Host → List ℕ → Type 0) (h : Cont
       valued : (takes_value new.kind ≡ true) ⊎ (is_none new.value ≡ true) → (takes_value new.kind ≡ true) ⊎ (new.value ≡ None)
       valued (inl e) = inl e
       valued (inr e) = inr (no_value new.value e)
+
+-- ---- all nodes
+
+-- contents alone are others
+pub record KeepsTrees (first g : Host) : Type 0 where
+  pub host : g ≡ with_nodes first g.nodes
+  pub long : length g.nodes ≡ length first.nodes
+  pub parents : (i : ℕ) → parent_at g.nodes i ≡ parent_at first.nodes i
+  pub children : (i : ℕ) → children_at g.nodes i ≡ children_at first.nodes i
+
+keeps_on : (first g j : Host) (k : ℕ) (new : Content) → KeepsTrees first g → HasContent g j k new → KeepsTrees first j
+keeps_on first g j k new a b = record {
+  host = b.host ∙ ap (λ v. with_nodes v j.nodes) a.host;
+  long = b.long ∙ a.long;
+  parents = λ i. b.parents i ∙ a.parents i;
+  children = λ i. b.children i ∙ a.children i;
+}
+
+module _ (c : Scene) (End : Contents → Host → List ℕ → Type 0) (h : Contents) (sites : List ℕ) (s : Store) (things : List ℕ) (first : Host)
+    (running : IsRunning c h sites) (count : length sites ≡ length things) (nodes : NodesStand h sites) (own : OwnObjects h first sites) where
+  abbrev saved_class : ℕ → Class
+  saved_class n = (object_at s.heap.objects (nth things n)).class
+
+  abbrev wanted : ℕ → Content
+  wanted n = content_as s (saved_class n)
+
+  abbrev document_class : Class
+  document_class = (object_at s.heap.objects document.0).class
+
+  abbrev look : Host → ℕ → Content
+  look g k = (node_at g.nodes k).content
+
+  -- once all contents are set
+  abbrev pub ContentsDone : Host → Type 0
+  ContentsDone =
+      NodesDone c End h s things sites phase.Contents running count Content look first (KeepsTrees first) (content_as s document_class) wanted own (length things)
+
+  node_contents : (at : ObjId) (k : ℕ) (C : Class) (g : Host) (rs : List Rebuild) → IsHosting h g → node_here h sites at ≡ nth_node k → IsNodeHere h g sites at
+      → Lacks (object_here h sites at) (codes "setAttribute") → CanHave (content_as s C) → KeepsTrees first g
+      → look g k ≡ new_content (content_as s C).kind
+      → ((j : Host) → IsHosting h j → KeepsTrees first j → look j k ≡ content_as s C → ((i : ℕ) → (i ≡ k → ⊥) → look j i ≡ look g i) → Succeeds c End h j sites rs)
+      → Succeeds c End h g sites ((plan.attributes at (node_as s.host things C).attributes ++ plan.set_value at (node_as s.host things C).value) ++ rs)
+  node_contents at k C g rs hosting number is lacks can kept begins later =
+      subst (λ qs. Succeeds c End h g sites (qs ++ rs)) (sym listed)
+      (content_goes c End h sites g at is (content_as s C) rs lacks can (ap (λ m. look g m.0) number ∙ begins) hosting
+      (λ j now has.
+      let done : HasContent g j k (content_as s C) = subst (λ m. HasContent g j m.0 (content_as s C)) number has in
+      later j now (keeps_on first g j k (content_as s C) kept done) done.content done.others))
+    where
+      listed : plan.attributes at (node_as s.host things C).attributes ++ plan.set_value at (node_as s.host things C).value ≡ content_statements at (content_as s C)
+      listed = ap₂ (λ as' v. plan.attributes at as' ++ plan.set_value at v) (attributes_as s things C) (value_as s things C)
+
+  kinds : ((n : ℕ) → n < length things
+      → ClassIsRebuilt c h.environments s things sites (nth sites n) (saved_class n) (object_at h.objects (nth sites n)).class)
+      → (n : ℕ) → n < length things → IsAt h phase.Contents s things sites n
+  kinds classes n inside = by (node_or_other (classes n inside))
+    where
+      by : NodeOrOther (saved_class n) (object_at h.objects (nth sites n)).class → IsAt h phase.Contents s things sites n
+      by (inl (k, e)) = at_node k e
+      by (inr (none, nothing)) =
+          at_other none (ap (λ m. plan.attributes (plan.thing_place n) m.attributes ++ plan.set_value (plan.thing_place n) m.value) (nothing s.host things))
+
+  -- where each node has its kind alone before, it has the content of the thing afterwards
+  pub contents_succeed : (rs : List Rebuild)
+      → ((n : ℕ) → n < length things
+      → ClassIsRebuilt c h.environments s things sites (nth sites n) (saved_class n) (object_at h.objects (nth sites n)).class)
+      → ((n k : ℕ) → n < length things → IsNodeOn h (nth sites n) k → CanHave (wanted n))
+      → ((n k : ℕ) → n < length things → IsNodeOn h (nth sites n) k → look first k ≡ new_content (wanted n).kind)
+      → CanHave (content_as s document_class) → look first 0 ≡ new_content (content_as s document_class).kind
+      → IsHosting h first → ((j : Host) → IsHosting h j → ContentsDone j → Succeeds c End h j sites rs)
+      → Succeeds c End h first sites (plan.whole phase.Contents (compact s things) ++ rs)
+  contents_succeed rs classes can made document_can document_made hosting later =
+      whole_phase c End h s things sites phase.Contents running count Content look first (KeepsTrees first) (content_as s document_class) wanted own
+      (kinds classes) one rs
+      (λ g qs now kept before go.
+      let d = document_node c h g sites running (own_here g kept) in
+      node_contents document 0 document_class g qs now d.0 d.1
+      (bare_lacks (object_here h sites document) (codes "setAttribute") (ap (λ (o : Object). o.props) (document_here h sites) ∙ nodes.document_props))
+      document_can kept (before ∙ document_made) go)
+      hosting (record { host = refl; long = refl; parents = λ i. refl; children = λ i. refl }) later
+    where
+      own_here : (g : Host) → KeepsTrees first g → OwnObjects h g sites
+      own_here g kept = own_kept h first g sites (ap (λ (v : Host). v.objects) kept.host) kept.long own
+
+      one : (n k : ℕ) → n < length things → IsNodeOn h (nth sites n) k → (g : Host) (qs : List Rebuild) → IsHosting h g → KeepsTrees first g
+          → look g k ≡ look first k
+          → ((j : Host) → IsHosting h j → KeepsTrees first j → look j k ≡ wanted n → ((i : ℕ) → (i ≡ k → ⊥) → look j i ≡ look g i) → Succeeds c End h j sites qs)
+          → Succeeds c End h g sites (plan.statements_of phase.Contents (plan.thing_place n) (thing_at s things (nth things n)) ++ qs)
+      one n k inside on g qs now kept before go =
+          let within : n < length sites = subst (λ m. n < m) (sym count) inside in
+          let d = thing_node c h g sites running (own_here g kept) nodes n k within on in
+          node_contents (plan.thing_place n) k (saved_class n) g qs now d.0 d.1
+          (bare_lacks (object_here h sites (plan.thing_place n)) (codes "setAttribute")
+          (ap (λ (o : Object). o.props) (thing_here h sites n) ∙ nodes.props n k within on))
+          (can n k inside on) kept (before ∙ made n k inside on) go

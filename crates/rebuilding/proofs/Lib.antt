@@ -7,6 +7,7 @@ pub mod Calling
 pub mod Carried
 pub mod Changing
 pub mod Closures
+pub mod ContentPhase
 pub mod Counterparts
 pub mod Defining
 pub mod DocumentStays
@@ -38,9 +39,11 @@ pub mod MakePhase
 pub mod Making
 pub mod Naming
 pub mod Needs
+pub mod NodeMakes
 pub mod NodePhase
 pub mod NodesAt
 pub mod Ordinary
+pub mod OwnObjects
 pub mod Paths
 pub mod Phase
 pub mod Pieces
@@ -67,4 +70,3 @@ pub mod WalkedAgain
 pub mod WindowStays
 pub mod WindowsAgree
 pub mod Wrapped
-pub mod NodeMakes

@@ -30,7 +30,8 @@ use Rattle.rebuilding.specs.Running.{IsNodeHere, Lacks, Stand, node_here, object
 use Rattle.rebuilding.specs.Scene.{IsHosting, IsRunning, Scene}
 use Rattle.rebuilding.specs.Sites.{site, sited}
 use Rattle.rebuilding.proofs.HostPhase.{hosted_next}
-use Rattle.rebuilding.proofs.NodePhase.{IsAt, IsNodeOn, NodesDone, at_node, at_other, whole_phase}
+use Rattle.rebuilding.proofs.NodePhase.{IsAt, NodesDone, at_node, at_other, whole_phase}
+use Rattle.rebuilding.proofs.OwnObjects.{IsNodeOn, OwnObjects, own_kept}
 use Rattle.rebuilding.proofs.NodesAt.{NodeOrOther, NodesStand, document_here, document_node, node_or_other, thing_here, thing_node}
 
 -- the listeners of a node, with the sites of their functions
@@ -67,7 +68,7 @@ module _ (c : Scene) (End : Contents → Host → List ℕ → Type 0) (h : Cont
         hosted_next c End h sites (with_listeners g acc) (with_listeners g (with_listener acc new)) (Listen at l.kind l.call l.capture)
         (plan.listens at ls ++ rs) (listens new)
         (record {
-          is = record { stands = is.stands; proto = is.proto; class = is.class; there = is.there };
+          is = record { stands = is.stands; proto = is.proto; class = is.class; there = is.there; own = is.own };
           lacks = lacks;
           stands = can.0.0;
           callable = can.0.1;
@@ -78,7 +79,7 @@ module _ (c : Scene) (End : Contents → Host → List ℕ → Type 0) (h : Cont
 
   -- ---- all nodes
 
-  module _ (s : Store) (things : List ℕ) (first : Host) (running : IsRunning c h sites) (count : length sites ≡ length things) (nodes : NodesStand h sites) where
+  module _ (s : Store) (things : List ℕ) (first : Host) (running : IsRunning c h sites) (count : length sites ≡ length things) (nodes : NodesStand h sites) (own : OwnObjects h first sites) where
     abbrev saved : ℕ → List SavedListener
     saved n = (thing_at s things (nth things n)).node.listeners
 
@@ -93,7 +94,7 @@ module _ (c : Scene) (End : Contents → Host → List ℕ → Type 0) (h : Cont
 
     -- once all listeners are added
     abbrev pub ListenersDone : Host → Type 0
-    ListenersDone = NodesDone c End h s things sites phase.Listeners running count (List Listener) (λ g k. heard_at k g.listeners) first keeps document_wanted wanted (length things)
+    ListenersDone = NodesDone c End h s things sites phase.Listeners running count (List Listener) (λ g k. heard_at k g.listeners) first keeps document_wanted wanted own (length things)
 
     node_listens : (at : ObjId) (k : ℕ) (ls : List SavedListener) (g : Host) (rs : List Rebuild) → IsHosting h g → node_here h sites at ≡ nth_node k
         → IsNodeHere h g sites at → Lacks (object_here h sites at) (codes "addEventListener") → CanHear h sites ls → AreNew [] (heard_as (node_here h sites at) sites ls)
@@ -143,15 +144,18 @@ module _ (c : Scene) (End : Contents → Host → List ℕ → Type 0) (h : Cont
         → ((j : Host) → IsHosting h j → ListenersDone j → Succeeds c End h j sites rs)
         → Succeeds c End h first sites (plan.whole phase.Listeners (compact s things) ++ rs)
     listeners_succeed rs classes can new document_can document_new hosting none later =
-        whole_phase c End h s things sites phase.Listeners running count (List Listener) (λ g k. heard_at k g.listeners) first keeps document_wanted wanted
+        whole_phase c End h s things sites phase.Listeners running count (List Listener) (λ g k. heard_at k g.listeners) first keeps document_wanted wanted own
         (kinds classes) one rs
         (λ g qs now kept before go.
-        let d = document_node c h g sites running now in
+        let d = document_node c h g sites running (own_here g kept) in
         node_listens document 0 (thing_at s things document.0).node.listeners g qs now d.0 d.1
         (bare_lacks (object_here h sites document) (codes "addEventListener") (ap (λ (o : Object). o.props) (document_here h sites) ∙ nodes.document_props))
         document_can document_new kept (before ∙ silent 0) go)
         hosting refl later
       where
+        own_here : (g : Host) → keeps g → OwnObjects h g sites
+        own_here g kept = own_kept h first g sites (ap (λ (v : Host). v.objects) kept) (ap (λ (v : Host). length v.nodes) kept) own
+
         silent : (k : ℕ) → heard_at k first.listeners ≡ []
         silent k = ap (heard_at k) none
 
@@ -162,7 +166,7 @@ module _ (c : Scene) (End : Contents → Host → List ℕ → Type 0) (h : Cont
             → Succeeds c End h g sites (plan.listens (plan.thing_place n) (saved n) ++ qs)
         one n k inside on g qs now kept before go =
             let within : n < length sites = subst (λ m. n < m) (sym count) inside in
-            let d = thing_node c h g sites running now nodes n k within on in
+            let d = thing_node c h g sites running (own_here g kept) nodes n k within on in
             node_listens (plan.thing_place n) k (saved n) g qs now d.0 d.1
             (bare_lacks (object_here h sites (plan.thing_place n)) (codes "addEventListener") (ap (λ (o : Object). o.props) (thing_here h sites n) ∙ nodes.props n k within on))
             (can n inside) (new n inside) kept (before ∙ silent k) go

@@ -4,51 +4,17 @@ use Rattle.std.proofs.lemmas.Bool.{cases_eq}
 use Rattle.js_values.specs.declared.ids.NodeId.{NodeId}
 use Rattle.object_heap.specs.Chain.{object_at}
 use Rattle.object_heap.specs.Heap.{Contents}
-use Rattle.object_heap.specs.declared.object.Class.{Class}
-use Rattle.object_heap.specs.declared.object.Class.TheVariants as class
-use Rattle.page_host.specs.Host.{Host, object_of_node}
-use Rattle.page_meaning.specs.Places.{built_in_count, document}
+use Rattle.page_host.specs.Host.{Host}
+use Rattle.page_meaning.specs.Places.{document}
 use Rattle.page_meaning.specs.Store.{Store}
-use Rattle.page_writer.specs.Frame.{nth_node}
 use Rattle.rebuild_plan.specs.Compact.{compact, thing_at, things_at}
 use Rattle.rebuild_plan.specs.Plan as plan
 use Rattle.rebuild_plan.specs.declared.phase.Phase.{Phase}
 use Rattle.rebuild_plan.specs.declared.statement.Rebuild.{Rebuild}
 use Rattle.rebuilding.specs.Rebuilt.{Succeeds, nth}
-use Rattle.rebuilding.specs.Scene.{IsHosting, IsRunning, Scene, frame_count}
+use Rattle.rebuilding.specs.Scene.{IsHosting, IsRunning, Scene}
 use Rattle.rebuilding.proofs.EachHost.{each_host}
-use Rattle.rebuilding.proofs.SitesApart.{site_there, sites_differ}
-
--- the object at the place is that of the node
-abbrev pub IsNodeOn : Contents → ℕ → ℕ → Type 0
-IsNodeOn h place k = (object_at h.objects place).class ≡ class.Node (nth_node k)
-
-node_number : Class → ℕ
-node_number (class.Node k) = k.0
-node_number o = 0
-
-node_same : {a b : ℕ} → class.Node (nth_node a) ≡ class.Node (nth_node b) → a ≡ b
-unfolding node_number
-node_same e = ap node_number e
-
--- nodes of two sites are two
-pub nodes_apart : (c : Scene) (h : Contents) (g : Host) (sites : List ℕ) (m n a b : ℕ) → IsRunning c h sites → IsHosting h g → m < length sites → n < length sites
-    → (m ≡ n → ⊥) → IsNodeOn h (nth sites m) a → IsNodeOn h (nth sites n) b → a ≡ b → ⊥
-nodes_apart c h g sites m n a b running hosting left right other first second same =
-    let one = hosting.nodes (nth sites m) a (site_there c h sites m running left).1 first in
-    let two = hosting.nodes (nth sites n) b (site_there c h sites n running right).1 second in
-    sites_differ sites m n running.rising left right other
-    (ap (λ o. o.0) (sym one.1 ∙ ap (λ k. object_of_node g.objects (nth_node k)) same ∙ two.1))
-
--- and none is the document
-pub no_document : (c : Scene) (h : Contents) (g : Host) (sites : List ℕ) (n a : ℕ) → IsRunning c h sites → IsHosting h g → n < length sites
-    → IsNodeOn h (nth sites n) a → a ≡ 0 → ⊥
-no_document c h g sites n a running hosting inside is same =
-    let there = site_there c h sites n running inside in
-    let one = hosting.nodes (nth sites n) a there.1 is in
-    let two = hosting.nodes document.0 0 (omega (arith, running.list_there, running.list_young)) running.document.class in
-    let equal : nth sites n ≡ document.0 = ap (λ o. o.0) (sym one.1 ∙ ap (λ k. object_of_node g.objects (nth_node k)) same ∙ two.1) in
-    omega (arith, equal, there.0)
+use Rattle.rebuilding.proofs.OwnObjects.{IsNodeOn, OwnObjects, no_document, node_same, nodes_apart}
 
 -- the thing with this number is a node, or nothing is said of it
 pub data IsAt (h : Contents) (p : Phase) (s : Store) (things sites : List ℕ) (n : ℕ) : Type 0 where
@@ -58,7 +24,7 @@ pub data IsAt (h : Contents) (p : Phase) (s : Store) (things sites : List ℕ) (
 
 module _ (c : Scene) (End : Contents → Host → List ℕ → Type 0) (h : Contents) (s : Store) (things sites : List ℕ) (p : Phase) (running : IsRunning c h sites)
     (count : length sites ≡ length things) (A : Type 0) (look : Host → ℕ → A) (first : Host) (keeps : Host → Type 0)
-    (of_document : A) (wanted : ℕ → A) where
+    (of_document : A) (wanted : ℕ → A) (own : OwnObjects h first sites) where
   -- the statements for the node: the host has the part wanted afterwards, and those of other nodes stay
   abbrev pub NodeSucceeds : ℕ → A → List Rebuild → Type 0
   NodeSucceeds k want qs =
@@ -89,11 +55,11 @@ module _ (c : Scene) (End : Contents → Host → List ℕ → Type 0) (h : Cont
         more : (j : Host) (k : ℕ) → IsNodeOn h (nth sites n) k → keeps j → look j k ≡ wanted n → ((i : ℕ) → (i ≡ k → ⊥) → look j i ≡ look g i) → NodesDone (suc n) j
         more j k on kept here stays = record {
           kept = kept;
-          first_node = stays 0 (λ same. no_document c h g sites n k running hosting (within n inside) on (sym same)) ∙ is.first_node;
+          first_node = stays 0 (λ same. no_document c h first sites n k running own (within n inside) on (sym same)) ∙ is.first_node;
           done = λ m l low below there. done_at m l below there (cases_eq m n) low;
           left =
               λ m l high below there. stays l
-              (λ same. nodes_apart c h g sites m n l k running hosting (within m below) (within n inside) (λ e. omega (arith, e, high)) there on same)
+              (λ same. nodes_apart c h first sites m n l k running own (within m below) (within n inside) (λ e. omega (arith, e, high)) there on same)
               ∙ is.left m l (omega (arith, high)) below there;
           others = λ l positive none. stays l (λ same. none n inside (subst (λ q. IsNodeOn h (nth sites n) q) (sym same) on)) ∙ is.others l positive none;
         }
@@ -103,7 +69,7 @@ module _ (c : Scene) (End : Contents → Host → List ℕ → Type 0) (h : Cont
                 let equal : l ≡ k = node_same (sym there ∙ ap (λ q. (object_at h.objects (nth sites q)).class) same ∙ on) in
                 ap (look j) equal ∙ here ∙ ap wanted (sym same)
             done_at m l below there (inr other) low =
-                stays l (λ same. nodes_apart c h g sites m n l k running hosting (within m below) (within n inside) other there on same)
+                stays l (λ same. nodes_apart c h first sites m n l k running own (within m below) (within n inside) other there on same)
                 ∙ is.done m l (omega (arith, low, other)) below there
 
         same_still : ((k : ℕ) → IsNodeOn h (nth sites n) k → ⊥) → NodesDone (suc n) g
@@ -138,7 +104,7 @@ module _ (c : Scene) (End : Contents → Host → List ℕ → Type 0) (h : Cont
           kept = keeps_j;
           first_node = here;
           done = λ m k low below on. absurd (omega (arith, low));
-          left = λ m k high below on. stays k (λ same. no_document c h first sites m k running hosting (within m below) on same);
+          left = λ m k high below on. stays k (λ same. no_document c h first sites m k running own (within m below) on same);
           others = λ k positive none. stays k positive;
         })
         later))

@@ -9,8 +9,8 @@ use Rattle.object_heap.specs.Heap.{Contents}
 use Rattle.object_heap.specs.Object.{Object}
 use Rattle.object_heap.specs.declared.object.Class.{Class}
 use Rattle.object_heap.specs.declared.object.Class.TheVariants as class
-use Rattle.page_host.specs.Host.{Host}
-use Rattle.page_meaning.specs.Places.{built_in_count, document, node_prototype}
+use Rattle.page_host.specs.Host.{Host, object_of_node}
+use Rattle.page_meaning.specs.Places.{at_place, built_in_count, document, node_prototype}
 use Rattle.page_meaning.specs.Store.{Store}
 use Rattle.page_writer.specs.Frame.{nth_node}
 use Rattle.rebuild_plan.specs.Moved.{first_thing}
@@ -18,11 +18,10 @@ use Rattle.rebuild_plan.specs.Nodes.{no_node, node_as}
 use Rattle.rebuild_plan.specs.Plan as plan
 use Rattle.rebuilding.specs.Rebuilt.{ClassIsRebuilt, bound, event, fault, list, node, nth, page, plain}
 use Rattle.rebuilding.specs.Running.{IsNodeHere, Stand, node_here, node_of_class, object_here}
-use Rattle.rebuilding.specs.Scene.{IsHosting, IsRunning, Scene}
-use Rattle.rebuilding.specs.Sites.{site}
-use Rattle.rebuilding.proofs.NodePhase.{IsNodeOn}
+use Rattle.rebuilding.specs.Scene.{IsRunning, Scene}
+use Rattle.rebuilding.specs.Sites.{site, sited}
+use Rattle.rebuilding.proofs.OwnObjects.{IsNodeOn, OwnObjects}
 use Rattle.rebuilding.proofs.Placed.{site_low, site_thing}
-use Rattle.rebuilding.proofs.SitesApart.{site_there}
 
 -- it is the class of a node, or the other is not and so has nothing of a node
 abbrev pub NodeOrOther : Class → Class → Type 0
@@ -62,13 +61,13 @@ thing_here h sites n = ap (object_at h.objects) (site_thing sites n)
 pub document_here : (h : Contents) (sites : List ℕ) → object_here h sites document ≡ object_at h.objects document.0
 document_here h sites = ap (object_at h.objects) (site_low sites document.0 (omega arith))
 
-module _ (c : Scene) (h : Contents) (g : Host) (sites : List ℕ) (running : IsRunning c h sites) (hosting : IsHosting h g) where
+module _ (c : Scene) (h : Contents) (g : Host) (sites : List ℕ) (running : IsRunning c h sites) (own : OwnObjects h g sites) where
   there : (k : ℕ) → k < length g.nodes → is_there g.nodes (nth_node k) ≡ true
   there k low = lt-ltb k (length g.nodes) low
 
   here : (at : ObjId) (o : Object) (k : ℕ) → Stand sites (at.0 ∷ []) → object_here h sites at ≡ o → o.proto ≡ Some node_prototype → o.class ≡ class.Node (nth_node k)
-      → k < length g.nodes → (node_here h sites at ≡ nth_node k) × IsNodeHere h g sites at
-  here at o k stands is proto kind low =
+      → (k < length g.nodes) × (object_of_node g.objects (nth_node k) ≡ sited sites at) → (node_here h sites at ≡ nth_node k) × IsNodeHere h g sites at
+  here at o k stands is proto kind has =
       let same : (object_here h sites at).class ≡ class.Node (nth_node k) = ap (λ (q : Object). q.class) is ∙ kind in
       let number : node_here h sites at ≡ nth_node k = ap node_of_class same in
       (
@@ -77,7 +76,8 @@ module _ (c : Scene) (h : Contents) (g : Host) (sites : List ℕ) (running : IsR
           stands = stands;
           proto = ap (λ (q : Object). q.proto) is ∙ proto;
           class = same ∙ ap class.Node (sym number);
-          there = subst (λ m. is_there g.nodes m ≡ true) (sym number) (there k low);
+          there = subst (λ m. is_there g.nodes m ≡ true) (sym number) (there k has.0);
+          own = ap (object_of_node g.objects) number ∙ has.1;
         },
       )
 
@@ -85,9 +85,9 @@ module _ (c : Scene) (h : Contents) (g : Host) (sites : List ℕ) (running : IsR
       → (node_here h sites (at_thing n) ≡ nth_node k) × IsNodeHere h g sites (at_thing n)
   thing_node nodes n k inside on =
       here (at_thing n) (object_at h.objects (nth sites n)) k (thing_stands sites n inside) (thing_here h sites n) (nodes.proto n k inside on) on
-      (hosting.nodes (nth sites n) k (site_there c h sites n running inside).1 on).0
+      ((own.things n k inside on).0, (own.things n k inside on).1 ∙ sym (ap at_place (site_thing sites n)))
 
   pub document_node : (node_here h sites document ≡ nth_node 0) × IsNodeHere h g sites document
   document_node =
       here document (object_at h.objects document.0) 0 (document_stands sites) (document_here h sites) running.document.proto running.document.class
-      (hosting.nodes document.0 0 (omega (arith, running.list_there, running.list_young)) running.document.class).0
+      (own.document.0, own.document.1 ∙ sym (ap at_place (site_low sites document.0 (omega arith))))
