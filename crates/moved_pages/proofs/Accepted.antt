@@ -1,5 +1,5 @@
 -- That the text of a saved page is accepted as a form page, with its script.
-use Rattle.std.proofs.Common.{◌≡◌, ◌∙◌, ℕ, true, false, List, [], ◌∷◌, ◌++◌, refl, sym, ap, subst, append_assoc}
+use Rattle.std.proofs.Common.{◌≡◌, ◌∙◌, ℕ, true, List, ◌++◌, refl, sym, ap, subst, append_assoc}
 use Rattle.std.specs.Prelude.{codes}
 use Rattle.js_print.specs.Lexemes.{stmts_lexemes}
 use Rattle.js_print.specs.Lined.{LinedScriptsAreReadAgain, lined_text}

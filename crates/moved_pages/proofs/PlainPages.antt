@@ -1,5 +1,5 @@
 -- No attribute of a page that is read has a name that begins with `on`.
-use Rattle.std.proofs.Common.{◌≡◌, refl, sym, ap, subst, ◌∙◌, ℕ, zero, suc, Bool, true, false, ◌&&◌, ◌||◌, not, cond, List, [], ◌∷◌, ◌++◌, Option, Some, None, map, take, bytes_eq, slice_set, if◌then◌else◌, arith}
+use Rattle.std.proofs.Common.{◌≡◌, refl, ap, subst, ◌∙◌, ℕ, zero, suc, Bool, true, false, ◌&&◌, not, cond, List, [], ◌∷◌, ◌++◌, Option, Some, None, take, bytes_eq, slice_set, if◌then◌else◌, arith}
 use Rattle.std.specs.Prelude.{codes}
 use Rattle.std.specs.Char.{to_ascii_lowercase}
 use Rattle.std.specs.List.{list_all, list_any}
@@ -10,11 +10,11 @@ use Rattle.std.proofs.lemmas.Slice.Eq.{bytes_eq-Decides}
 use Rattle.js_core.specs.Text.{Text}
 use Rattle.js_values.specs.declared.ids.NodeId.{NodeId}
 use Rattle.dom_tree.specs.Attributes.{Pairs, value_of, with_value_of}
-use Rattle.dom_tree.specs.Change.{put_before, put_under, taken_from, taken_out, without}
+use Rattle.dom_tree.specs.Change.{put_before, taken_from, taken_out, without}
 use Rattle.dom_tree.specs.Content.{new_content}
 use Rattle.dom_tree.specs.DomText.{is_void}
 use Rattle.dom_tree.specs.Name.{folded, is_name}
-use Rattle.dom_tree.specs.Node.{Node, Nodes, children_at, document_alone, next_of, node_at, parent_at, with_children, with_new, with_parent}
+use Rattle.dom_tree.specs.Node.{Node, Nodes, children_at, document_alone, parent_at, with_children, with_new, with_parent}
 use Rattle.dom_tree.specs.declared.content.Content.{Content}
 use Rattle.dom_tree.specs.declared.content.Kind.TheVariants as kind
 use Rattle.page_check.specs.Accept.{IsAccepted}
@@ -25,7 +25,7 @@ use Rattle.page_reader.specs.Elements as read
 use Rattle.page_reader.specs.Elements.{is_allowed, is_attribute, is_own_script, is_script, refused_names}
 use Rattle.page_reader.specs.Forest.{Forest, appended, element_content, grown, joined, next_id, with_all, with_first}
 use Rattle.page_reader.specs.Forest.Forest.{no_trees, element, text, comment}
-use Rattle.page_reader.specs.Pages.{Content as Inside, IsPage, PageOf, Part, behind_prolog, is_html, misplaced, opens, page, part_of, text_alone, whole}
+use Rattle.page_reader.specs.Pages.{Content as Inside, PageOf, Part, behind_prolog, is_html, misplaced, opens, page, part_of, text_alone, whole}
 use Rattle.page_reader.specs.Pages.Content.{ended, alone, nested}
 use Rattle.page_tokens.specs.Attributes.{Attributes, none, more}
 use Rattle.page_tokens.specs.Characters.{is_space}

@@ -1,5 +1,5 @@
 -- The statements that rebuild a page at rest can be written, where its functions can be made again and it is no larger than a saved page may be.
-use Rattle.std.proofs.Common.{◌≡◌, ◌⊎◌, inl, inr, refl, sym, ap, subst, ◌∙◌, ℕ, zero, suc, ◌+◌, ◌-◌, ◌<◌, ◌≤◌, ℤ, pos, negsuc, Bool, true, false, ◌&&◌, nat_eq, nat_le, nat_lt, List, [], ◌∷◌, ◌++◌, Option, Some, None, length, bytes_eq, if◌then◌else◌, arith}
+use Rattle.std.proofs.Common.{◌≡◌, inl, inr, refl, sym, ap, subst, ◌∙◌, ℕ, zero, suc, ◌+◌, ◌-◌, ◌<◌, ◌≤◌, ℤ, pos, negsuc, Bool, true, false, ◌&&◌, nat_eq, nat_le, nat_lt, List, [], ◌∷◌, ◌++◌, Option, Some, None, length, bytes_eq, if◌then◌else◌, arith}
 use Rattle.std.specs.Prelude.{⊤}
 use Rattle.std.specs.List.{All, list_all}
 use Rattle.std.specs.Option.{ForSome}
@@ -56,7 +56,7 @@ use Rattle.rebuild_plan.specs.declared.statement.Rebuild.{Rebuild}
 use Rattle.rebuild_plan.specs.declared.statement.Rebuild.TheVariants.{Make, Append, Attribute, SetValue, Init, Dispatch, Listen, Define, DefinePrototype, DefineLength, Filler, Clear, Timeout, Interval, Prevent}
 use Rattle.scope_analysis.specs.Needs.{needed_variables}
 use Rattle.timer_queue.specs.Timely.{AreTimely, IsPeriod, IsTimely}
-use Rattle.timer_queue.specs.Timers.{IsIn, is_live, timer_limit}
+use Rattle.timer_queue.specs.Timers.{is_live, timer_limit}
 use Rattle.timer_queue.specs.declared.timer.Live.{Live}
 use Rattle.early_rules.specs.Limits.{function_height_limit}
 use Rattle.moved_pages.proofs.UsedNames.{needed_named}
