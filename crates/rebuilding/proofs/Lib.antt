@@ -1,11 +1,13 @@
 pub mod Again
 pub mod Agreeing
 pub mod ArrayFills
+pub mod Bared
 pub mod Basics
 pub mod Binds
 pub mod Calling
 pub mod Carried
 pub mod Changing
+pub mod ChildPhase
 pub mod Closures
 pub mod ContentPhase
 pub mod Counterparts
