@@ -109,17 +109,17 @@ record IsKeptEvent (things : List ℕ) (p : EventParts) : Type 0 where
   sent : p.sent ≡ is_some p.target
   known : (j : ℕ) → is_in j (proto_links p.target) ≡ true → IsKnown things j
 
-shaped_sent : {s : Store} (o : Object) (c : Class) (p : EventParts) → c ≡ class.Event p → HasShape s o c → p.sent ≡ is_some p.target
-shaped_sent o (class.Event q) p e shape = let same : q ≡ p = cc e in subst (λ (r : EventParts). r.sent ≡ is_some r.target) same shape.2.sent
-shaped_sent o class.Plain p e shape = absurd (cc e)
-shaped_sent o class.List p e shape = absurd (cc e)
-shaped_sent o class.Fault p e shape = absurd (cc e)
-shaped_sent o class.Math p e shape = absurd (cc e)
-shaped_sent o class.Window p e shape = absurd (cc e)
-shaped_sent o (class.Native which) p e shape = absurd (cc e)
-shaped_sent o (class.Page c env) p e shape = absurd (cc e)
-shaped_sent o (class.Bound target this args) p e shape = absurd (cc e)
-shaped_sent o (class.Node k) p e shape = absurd (cc e)
+shaped_sent : (s : Store) (o : Object) (c : Class) (p : EventParts) → c ≡ class.Event p → HasShape s o c → p.sent ≡ is_some p.target
+shaped_sent s o (class.Event q) p e shape = let same : q ≡ p = cc e in subst (λ (r : EventParts). r.sent ≡ is_some r.target) same shape.2.sent
+shaped_sent s o class.Plain p e shape = absurd (cc e)
+shaped_sent s o class.List p e shape = absurd (cc e)
+shaped_sent s o class.Fault p e shape = absurd (cc e)
+shaped_sent s o class.Math p e shape = absurd (cc e)
+shaped_sent s o class.Window p e shape = absurd (cc e)
+shaped_sent s o (class.Native which) p e shape = absurd (cc e)
+shaped_sent s o (class.Page c env) p e shape = absurd (cc e)
+shaped_sent s o (class.Bound target this args) p e shape = absurd (cc e)
+shaped_sent s o (class.Node k) p e shape = absurd (cc e)
 
 event_kept : (s : Store) (things : List ℕ) → Still s → IsWalk s things → (n : ℕ) → n < length things → (p : EventParts)
     → (object_at s.heap.objects (nth things n)).class ≡ class.Event p → IsKeptEvent things p
@@ -128,7 +128,7 @@ event_kept s things still walk n below p is =
     let o : Object = object_at s.heap.objects k in
     record {
       quiet = still.events k p is;
-      sent = shaped_sent o o.class p is (still.shaped.made k (is_thing_at s things n walk below));
+      sent = shaped_sent s o o.class p is (still.shaped.made k (is_thing_at s things n walk below));
       known = λ j i. links_in_walk s things still walk k (place_in things n below) j (host_among s k j (subst (λ d. is_in j (host_links s.host d) ≡ true) (sym is) i));
     }
 

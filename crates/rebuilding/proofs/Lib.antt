@@ -44,6 +44,7 @@ pub mod Needs
 pub mod NodeMakes
 pub mod NodePhase
 pub mod NodesAt
+pub mod OneToOne
 pub mod Ordinary
 pub mod OwnObjects
 pub mod Paths
