@@ -240,13 +240,12 @@ module _ (s : Store) (things : List ℕ) (still : Still s) (walk : IsWalk s thin
 
   -- ---- the whole plan
 
-  document_most : ℕ
+  abbrev document_most : ℕ
   document_most =
       let t : Thing = (compact s things).document in
       rest_most s things document (object_at s.heap.objects document.0).class + (cost (fill document t) + cost (prevent document t))
 
   document_cost : document_most ≤ 116 + bytes (document_load s)
-  unfolding document_most
   document_cost =
       let o : Object = object_at s.heap.objects document.0 in
       omega (
@@ -289,7 +288,6 @@ module _ (s : Store) (things : List ℕ) (still : Still s) (walk : IsWalk s thin
       )
 
   pub plan_cost : greatest s.host.timers ≤ 75000 → cost (plan (compact s things)) ≤ bytes (load_of s things) + 116
-  unfolding document_most
   plan_cost last =
       let c : Compact = compact s things in
       omega (

@@ -120,7 +120,6 @@ line_short n (Interval f rest period) next few low whole =
     omega (arith, line_within (Interval f rest period), interval_wide f rest period, reference_narrow f (low_first f.0 [] low))
 line_short n (Prevent at) next few low whole = prevent_short at
 
-
 lines_short : (n : ℕ) (rs : List Rebuild) → standing n rs ≡ true → n + makes_in rs ≤ 75000
     → All HasLiterals rs → length (lines rs) ≤ cost rs
 lines_short n [] stands few whole = omega arith
