@@ -7,6 +7,7 @@ pub mod Binds
 pub mod Calling
 pub mod Carried
 pub mod Changing
+pub mod ChildModel
 pub mod ChildPhase
 pub mod Closures
 pub mod ContentPhase
@@ -59,6 +60,7 @@ pub mod Reading
 pub mod Rebuilds
 pub mod Rounds
 pub mod Rows
+pub mod SavedNodes
 pub mod Scripts
 pub mod Settling
 pub mod SitesApart
