@@ -20,6 +20,7 @@ pub mod Entries
 pub mod FillSteps
 pub mod Fills
 pub mod Frames
+pub mod FrameSound
 pub mod Fresh
 pub mod Globals
 pub mod Going
