@@ -1,5 +1,5 @@
 -- How many bytes the lines of a plan take at most, and that what the page weighs pays for them.
-use Rattle.std.proofs.Common.{◌≡◌, refl, sym, ap, ◌∙◌, ℕ, suc, ◌+◌, ◌*◌, ◌≤◌, Bool, true, false, ◌&&◌, List, [], ◌∷◌, ◌++◌, length, All, Option, Some, None, bytes_eq, arith}
+use Rattle.std.proofs.Common.{◌≡◌, refl, sym, ap, ◌∙◌, ℕ, suc, ◌+◌, ◌*◌, ◌≤◌, Bool, true, false, ◌&&◌, List, [], ◌∷◌, ◌++◌, length, All, Option, bytes_eq, arith}
 use Rattle.std.specs.Prelude.{if◌then◌else◌}
 use Rattle.std.proofs.lemmas.Slice.Eq.{bytes_eq-Decides}
 use Rattle.std.proofs.lemmas.Bool.{and_parts}
@@ -15,14 +15,12 @@ use Rattle.js_print.specs.Lexemes.{expr_lexemes}
 use Rattle.js_values.specs.declared.ids.ObjId.{ObjId}
 use Rattle.js_values.specs.declared.value.Value.{Value}
 use Rattle.js_values.specs.declared.value.Value.TheVariants as value
-use Rattle.object_heap.specs.Chain.{object_at}
 use Rattle.object_heap.specs.Define.{length_name}
 use Rattle.object_heap.specs.Function.{prototype_name}
 use Rattle.object_heap.specs.Object.{Object}
 use Rattle.object_heap.specs.Property.{Props, own_property}
 use Rattle.object_heap.specs.declared.object.Class.{Class}
 use Rattle.object_heap.specs.declared.object.Class.TheVariants as class
-use Rattle.object_heap.specs.declared.property.Prop.{Prop}
 use Rattle.page_meaning.specs.Store.{Store}
 use Rattle.rebuild_plan.specs.Compact.{Compact, Thing, compact, maker_as, moved_needs, moved_props, moved_value, moved_values, thing_of, things_at}
 use Rattle.rebuild_plan.specs.Nodes.{node_maker}

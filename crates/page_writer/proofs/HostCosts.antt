@@ -1,10 +1,10 @@
 -- What the page weighs pays for the lines of its plan, those of nodes, events, listeners and timers among them.
-use Rattle.std.proofs.Common.{◌≡◌, ◌⊎◌, inl, inr, refl, ap, ℕ, zero, suc, ◌+◌, ◌-◌, ◌*◌, ◌<◌, ◌≤◌, Bool, true, false, nat_eq, List, [], ◌∷◌, ◌++◌, length, Option, Some, None, arith}
+use Rattle.std.proofs.Common.{◌≡◌, inl, inr, refl, ap, ℕ, zero, suc, ◌+◌, ◌-◌, ◌*◌, ◌≤◌, Bool, true, false, nat_eq, List, [], ◌∷◌, ◌++◌, length, Option, Some, None, arith}
 use Rattle.std.specs.Prelude.{if◌then◌else◌, max}
 use Rattle.std.proofs.lemmas.Bool.{eq-eqb, or_left, or_right}
 use Rattle.std.proofs.lemmas.List.{length-append}
 use Rattle.dom_tree.specs.Attributes.{Pairs}
-use Rattle.dom_tree.specs.Node.{children_at, has, is_document, kind_at, node_at}
+use Rattle.dom_tree.specs.Node.{children_at, has, is_document, node_at}
 use Rattle.dom_tree.specs.declared.content.Kind.{Kind}
 use Rattle.dom_tree.specs.declared.content.Kind.TheVariants as kind
 use Rattle.js_values.specs.declared.ids.NodeId.{NodeId}
@@ -20,7 +20,7 @@ use Rattle.page_meaning.specs.Places.{document, window}
 use Rattle.page_meaning.specs.Store.{Store}
 use Rattle.heap_walker.specs.Still.{Still}
 use Rattle.heap_walker.specs.Things.{IsWalk, globals_of, heard_at, is_in}
-use Rattle.heap_walker.specs.Weight.{attributes_load, class_load, document_load, greatest, kind_load, listeners_load, load_of, props_load, set_load, things_load, timers_load, written_of}
+use Rattle.heap_walker.specs.Weight.{attributes_load, class_load, document_load, greatest, kind_load, listeners_load, load_of, props_load, set_load, things_load, timers_load}
 use Rattle.timer_queue.specs.Timely.{AreTimely, IsPeriod, IsTimely}
 use Rattle.timer_queue.specs.Timers.{is_live}
 use Rattle.timer_queue.specs.declared.timer.Live.{Live}

@@ -1,5 +1,5 @@
 -- The nodes that a saved page names are things, or the document: the names by which it reaches them are short.
-use Rattle.std.proofs.Common.{◌≡◌, ◌⊎◌, inl, inr, refl, sym, ap, subst, ◌∙◌, ℕ, ◌+◌, ◌<◌, ◌≤◌, Bool, true, false, ◌||◌, nat_eq, List, [], ◌∷◌, ◌++◌, length, Option, Some, None, arith}
+use Rattle.std.proofs.Common.{◌≡◌, ◌⊎◌, inl, inr, refl, sym, ap, subst, ◌∙◌, ℕ, ◌<◌, ◌≤◌, Bool, true, false, nat_eq, List, [], ◌∷◌, ◌++◌, length, Option, Some, None, arith}
 use Rattle.std.specs.Prelude.{⊤, nat_lt}
 use Rattle.std.specs.List.{position}
 use Rattle.std.proofs.lemmas.Bool.{and_parts, cases_lt, eq-eqb, eqb-true, ltb-true, or_cases, or_left, or_right}
@@ -10,7 +10,6 @@ use Rattle.dom_tree.specs.Node.{children_at, has, is_document, kind_at, parent_a
 use Rattle.js_values.specs.declared.ids.NodeId.{NodeId}
 use Rattle.js_values.specs.declared.ids.ObjId.{ObjId}
 use Rattle.object_heap.specs.Chain.{object_at}
-use Rattle.object_heap.specs.Object.{Object}
 use Rattle.object_heap.specs.declared.object.Class.{Class}
 use Rattle.object_heap.specs.declared.object.Class.TheVariants as class
 use Rattle.object_heap.specs.declared.object.EventParts.{EventParts}
@@ -25,7 +24,7 @@ use Rattle.heap_walker.specs.Things.{IsWalk, calls_links, heard_at, host_links, 
 use Rattle.heap_walker.proofs.Callers.{document_among, host_among, links_in_walk, roots_in_walk, thing_of}
 use Rattle.object_shapes.specs.Links.{proto_links}
 use Rattle.rebuild_plan.proofs.Callers.{built_in_is_no_node, number_at}
-use Rattle.rebuild_plan.specs.Moved.{first_thing, moved, moved_proto, placed}
+use Rattle.rebuild_plan.specs.Moved.{first_thing, moved, moved_proto}
 use Rattle.page_writer.proofs.Costs.{named}
 use Rattle.page_writer.proofs.Spelled.{document_at_narrow, thing_at_narrow}
 

@@ -1,7 +1,7 @@
 -- A saved page by its parts: what stands before the lines of its statements, the lines, and what stands after them.
-use Rattle.std.proofs.Common.{◌≡◌, ◌∙◌, ap, sym, ℕ, List, [], ◌++◌, append_assoc, codes}
+use Rattle.std.proofs.Common.{◌≡◌, ◌∙◌, ap, ℕ, List, ◌++◌, append_assoc, codes}
 use Rattle.rebuild_plan.specs.declared.statement.Rebuild.{Rebuild}
-use Rattle.page_writer.specs.Page.{lines, page_of, script_head, script_tail}
+use Rattle.page_writer.specs.Page.{lines, page_of, script_tail}
 
 abbrev pub page_head : List ℕ
 page_head = codes "<!--imagen 1--><html><script>\"use strict\";try{throw[];}catch($$){\ndocument.removeChild(document.documentElement);\n"

@@ -1,7 +1,7 @@
 use Rattle.std.proofs.Common.{◌++◌, subst, sym}
 use Rattle.page_writer.proofs.Pieces.{puts_both, puts_stopped}
 use Rattle.page_writer.proofs.Paged.{page_head, page_parts, page_tail}
-use Rattle.page_writer.specs.Page.{lines, page_of}
+use Rattle.page_writer.specs.Page.{lines}
 use Rattle.page_writer.specs.Putting.{Puts}
 use Rattle.page_writer.proofs.writing.put_page.Goals as goal
 
