@@ -74,8 +74,8 @@ settled_down (suc n) s above = settled_down n (after_step s (in_event (at_place 
         let same = object_past s.heap n (rested_object o) past in
         let none = object_absent s.heap.objects n past in
         λ parts is.
-            let bad : class.Plain ≡ class.Event parts = sym (ap (λ x. x.class) (ap (λ h. object_at h.objects n) same ∙ none)) ∙ is in
-            absurd (cc bad)
+        let bad : class.Plain ≡ class.Event parts = sym (ap (λ x. x.class) (ap (λ h. object_at h.objects n) same ∙ none)) ∙ is in
+        absurd (cc bad)
 
     at : (k : ℕ) → n ≤ k → (n < k) ⊎ (k ≤ n) → QuietAt (object_at (after_step s (in_event (at_place n) rests)).heap.objects k)
     at k low (inl above_n) =

@@ -76,12 +76,11 @@ module _ {c : Scene} {es : List Environment} {s : Store} {things sites : List �
 -- ---- listeners
 
 -- each is of this node
-AreAt : ℕ → List Listener → Type 0
+abbrev AreAt : ℕ → List Listener → Type 0
 AreAt k [] = ⊤
 AreAt k (l ∷ ls) = (l.node.0 ≡ k) × AreAt k ls
 
 heard_there : (k : ℕ) (ls : List Listener) → AreAt k (heard_at k ls)
-unfolding AreAt
 heard_there k [] = tt
 heard_there k (l ∷ ls) = by (nat_eq k l.node.0) refl (heard_there k ls)
   where
@@ -284,8 +283,7 @@ module _ (c : Scene) (s : Store) (things : List ℕ) (h : Contents) (g : Host) (
 
   each_heard : (a b : ℕ) → Linked W a b → (ls ms : List Listener) → AreAt a ls → AreAt b ms → ((j : ℕ) → is_in j (calls_links ls) ≡ true → IsKnown things j)
       → moved_listeners [] ms ≡ sited_listeners sites (moved_listeners things ls) → Each (ListenerRel W) ls ms
-  unfolding AreAt
-  each_heard a b n [] [] left right known e = no_more
+    each_heard a b n [] [] left right known e = no_more
   each_heard a b n [] (m ∷ ms) left right known e = absurd (cc e)
   each_heard a b n (l ∷ ls) [] left right known e = absurd (cc e)
   each_heard a b n (l ∷ ls) (m ∷ ms) left right known e =

@@ -47,7 +47,8 @@ use Rattle.rebuilding.proofs.Carried.{AreYoung, IsMadeOf, carried, carried_at, f
 use Rattle.rebuilding.proofs.Counterparts.{IsKnown, young_at}
 use Rattle.rebuilding.proofs.Globals.{counted}
 use Rattle.rebuilding.proofs.Held.{needs_same}
-use Rattle.rebuilding.proofs.Naming.{IsPair, built_in, pair_is, rebuilt_world, site_of_built_in, thing, thing_paired}
+use Rattle.rebuilding.proofs.Naming as naming
+use Rattle.rebuilding.proofs.Naming.{IsPair, pair_is, rebuilt_world, site_of_built_in, thing_paired}
 use Rattle.rebuilding.proofs.Placed.{number_at, place_in, site_thing}
 
 class_carried : (c : Scene) (s t : Store) (things sites : List ℕ) → AreInside t.heap.environments → (k : ℕ) (a b : Class)
@@ -102,8 +103,8 @@ module _ (c : Scene) (s : Store) (things : List ℕ) (h : Contents) (g : Host) (
   pair_to k j n = by (pair_is things sites k j n.named)
     where
       by : IsPair things sites k j → j ≡ to k
-      by (built_in same low) = sym (site_of_built_in things sites k low old_things ∙ same)
-      by (thing p) = p.two ∙ sym (ap to p.one ∙ carried_at things sites p.place walk.rising p.below)
+      by (naming.built_in same low) = sym (site_of_built_in things sites k low old_things ∙ same)
+      by (naming.thing p) = p.two ∙ sym (ap to p.one ∙ carried_at things sites p.place walk.rising p.below)
 
   each_to : (ks js : List ℕ) → Each (Named W) ks js → js ≡ map to ks
   each_to _ _ no_more = refl
