@@ -207,7 +207,7 @@ same_parent p q e = cc e
 same_node : (c d : NodeId) → class.Node c ≡ class.Node d → c.0 ≡ d.0
 same_node c d e = cc e
 
-node_linked : (objects : List ObjId) (c : NodeId) (l : List NodeId) → has c.0 l ≡ true → is_in (object_of_node objects c).0 (nodes_links objects l) ≡ true
+pub node_linked : (objects : List ObjId) (c : NodeId) (l : List NodeId) → has c.0 l ≡ true → is_in (object_of_node objects c).0 (nodes_links objects l) ≡ true
 node_linked objects c [] h = cc h
 node_linked objects c (d ∷ l) h = by (or_cases (nat_eq c.0 d.0) (has c.0 l) h) (λ g. node_linked objects c l g)
   where

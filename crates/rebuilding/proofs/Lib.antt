@@ -17,6 +17,7 @@ pub mod DocumentStays
 pub mod EachHost
 pub mod EachThing
 pub mod Entries
+pub mod Families
 pub mod FillSteps
 pub mod Fills
 pub mod Frames
