@@ -38,7 +38,7 @@ pub use Rattle.host_relations.proofs.Larger.{heard_up, hosts_stay, linked_up, li
 pub use Rattle.host_relations.proofs.NodePairs.{made_nodes_agree, new_nodes_agree, others_do_not_count}
 pub use Rattle.host_relations.proofs.NodeReads.{nodes_agree}
 pub use Rattle.host_relations.proofs.NodeSteps.{node_steps_keep}
-pub use Rattle.host_relations.proofs.Rehearing.{AreOf, all_of_node, listeners_are_rebuilt, with_more}
+pub use Rattle.host_relations.proofs.Rehearing.{AreOf, all_of_node, heard_of, listeners_are_rebuilt, with_more}
 pub use Rattle.host_relations.proofs.Restarts.{AreAll, again_is, all_again, all_filled, none_yet, rebuilt_timers_agree, timers_are_rebuilt}
 pub use Rattle.host_relations.proofs.Steps.{steps_keep}
 pub use Rattle.host_relations.proofs.TimersKept.{timers_keep_agreement}

@@ -49,7 +49,7 @@ all_of_node f k (l ∷ m) before acc of new at h j =
     seam true = refl
     seam false = refl
 
-heard_of : (k : ℕ) (ls : List Listener) → AreOf k (heard_at k ls)
+pub heard_of : (k : ℕ) (ls : List Listener) → AreOf k (heard_at k ls)
 heard_of k [] = tt
 heard_of k (l ∷ ls) = by (nat_eq k l.node.0) refl (heard_of k ls)
   where

@@ -4,6 +4,7 @@ pub mod ArrayFills
 pub mod Bared
 pub mod Basics
 pub mod Binds
+pub mod Callables
 pub mod Calling
 pub mod Carried
 pub mod Changing
@@ -20,8 +21,8 @@ pub mod Entries
 pub mod Families
 pub mod FillSteps
 pub mod Fills
-pub mod Frames
 pub mod FrameSound
+pub mod Frames
 pub mod Fresh
 pub mod Globals
 pub mod Going
@@ -30,6 +31,7 @@ pub mod Held
 pub mod HostCalls
 pub mod HostMethods
 pub mod HostPhase
+pub mod HostRebuilt
 pub mod HostRows
 pub mod HostRuns
 pub mod Hosts
