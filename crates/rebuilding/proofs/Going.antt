@@ -77,7 +77,7 @@ pub going_begins : (c : Scene) (h : Contents) (w : Host) (sites : List ℕ) (k :
     → object_at h.objects k ≡ o → Going c h h w sites k o
 going_begins c h w sites k o running hosting is = record { running = running; hosting = hosting; stays = stays_same h (k ∷ []); object = is }
 
-changed_next : (c : Scene) (g h i : Contents) (w j : Host) (sites after : List ℕ) (k : ℕ) (o p next : Object) → Going c g h w sites k o
+pub changed_next : (c : Scene) (g h i : Contents) (w j : Host) (sites after : List ℕ) (k : ℕ) (o p next : Object) → Going c g h w sites k o
     → IsRunning c i after → IsHosting i j → HasChanged h w i j sites after k p → p ≡ next → Going c g i w sites k next
 changed_next c g h i w j sites after k o p next going running hosting ran is = record {
   running = subst (IsRunning c i) ran.same running;

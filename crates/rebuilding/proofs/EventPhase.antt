@@ -1,0 +1,223 @@
+-- Events are initialised and dispatched where they were: then each has the parts that were saved, and is not under dispatch.
+use Rattle.std.proofs.Common.{◌≡◌, ◌⊎◌, inl, inr, refl, sym, ap, subst, ◌∙◌, ℕ, ◌+◌, ◌<◌, ◌≤◌, Bool, true, false, ◌&&◌, nat_lt, List, [], ◌∷◌, ◌++◌, Option, Some, None, length, codes, if◌then◌else◌, arith}
+use Rattle.std.proofs.lemmas.Bool.{and_parts, cases_lt}
+use Rattle.std.specs.Option.{is_some}
+use Rattle.js_values.specs.declared.ids.ObjId.{ObjId}
+use Rattle.dom_tree.specs.Steps.{is_there}
+use Rattle.object_heap.proofs.Callers.{object_absent}
+use Rattle.object_heap.specs.Chain.{object_at}
+use Rattle.object_heap.specs.Environment.{environment_at}
+use Rattle.object_heap.specs.Heap.{Contents}
+use Rattle.object_heap.specs.Object.{Object, changed_event, with_class}
+use Rattle.object_heap.specs.Property.{own_property}
+use Rattle.object_heap.specs.declared.object.Class.{Class}
+use Rattle.object_heap.specs.declared.object.Class.TheVariants as class
+use Rattle.object_heap.specs.declared.object.EventParts.{EventParts}
+use Rattle.object_shapes.specs.Links.{all_below}
+use Rattle.page_host.specs.Host.{Host, object_of_node}
+use Rattle.page_meaning.specs.Events.{after_event, begins, initialises, may_begin, new_parts, rests}
+use Rattle.page_meaning.specs.Places.{event_prototype}
+use Rattle.page_meaning.specs.Store.{Store}
+use Rattle.rebuild_plan.specs.Events.{SavedEvent, event_as}
+use Rattle.rebuild_plan.specs.Moved.{first_thing}
+use Rattle.rebuild_plan.specs.Plan.{dispatch, event, init}
+use Rattle.rebuild_plan.specs.Stands.{standing}
+use Rattle.rebuild_plan.specs.declared.statement.Rebuild.{Rebuild}
+use Rattle.rebuild_plan.specs.declared.statement.Rebuild.TheVariants.{Init, Dispatch}
+use Rattle.rebuilding.specs.Rebuilt.{Succeeds, nth}
+use Rattle.rebuilding.specs.Running.{IsNodeHere, Lacks, node_of_class, object_here, with_parts}
+use Rattle.rebuilding.specs.Scene.{IsHosting, IsRunning, Scene}
+use Rattle.rebuilding.specs.Sites.{site, sited, sited_proto}
+use Rattle.rebuilding.proofs.Basics.{not_in}
+use Rattle.rebuilding.proofs.Going.{Allowed, Going, changed_next, range_rest, stands_split}
+
+module _ (c : Scene) (End : Contents → Host → List ℕ → Type 0) (sites : List ℕ) (g : Contents) (w : Host) where
+  -- ---- one statement
+
+  pub init_next : (h : Contents) (at : ObjId) (kind : List ℕ) (bubbles cancelable : Bool) (rs : List Rebuild) (o : Object) (parts : EventParts)
+      → Going c g h w sites (site sites at.0) o → Allowed (length sites) (Init at kind bubbles cancelable ∷ rs)
+      → o.class ≡ class.Event parts → o.proto ≡ Some event_prototype → Lacks o (codes "initEvent")
+      → ((i : Contents) → Going c g i w sites (site sites at.0) (with_parts o (after_event (initialises kind bubbles cancelable))) → Allowed (length sites) rs → Succeeds c End i w sites rs)
+      → Succeeds c End h w sites (Init at kind bubbles cancelable ∷ rs)
+  init_next h at kind bubbles cancelable rs o parts going allowed is proto lacks later = (
+    record {
+      parts = parts;
+      stands = (stands_split (length sites) (all_below (first_thing + length sites) (at.0 ∷ [])) rs allowed.stands).0;
+      proto = ap (λ (q : Object). q.proto) going.object ∙ proto;
+      lacks = ap (λ (q : Object). own_property q.props (codes "initEvent")) going.object ∙ lacks;
+      class = ap (λ (q : Object). q.class) going.object ∙ is;
+    },
+    λ i j after running hosting ran. subst (λ l. Succeeds c End i j l rs) (sym ran.same) (subst (λ v. Succeeds c End i v sites rs) (sym ran.host) (later i
+        (changed_next c g h i w j sites after (site sites at.0) o _ (with_parts o (after_event (initialises kind bubbles cancelable))) going running hosting ran
+        (ap (λ (q : Object). with_parts q (after_event (initialises kind bubbles cancelable))) going.object))
+        (record {
+          stands = (stands_split (length sites) (all_below (first_thing + length sites) (at.0 ∷ [])) rs allowed.stands).1;
+          in_range = range_rest (Init at kind bubbles cancelable) rs allowed.in_range;
+        }))),
+  )
+
+  -- what a dispatch at the node leaves of the parts
+  abbrev pub sent_at : ObjId → EventParts → EventParts
+  sent_at target p = after_event rests (after_event (begins (sited sites target)) p)
+
+  pub dispatch_next : (h : Contents) (target at : ObjId) (rs : List Rebuild) (o : Object) (parts : EventParts)
+      → Going c g h w sites (site sites at.0) o → Allowed (length sites) (Dispatch target at ∷ rs)
+      → IsNodeHere h w sites target → Lacks (object_here h sites target) (codes "dispatchEvent") → w.listeners ≡ []
+      → o.class ≡ class.Event parts → may_begin parts ≡ true → parts.phase ≤ 3
+      → ((i : Contents) → Going c g i w sites (site sites at.0) (with_parts o (sent_at target)) → Allowed (length sites) rs → Succeeds c End i w sites rs)
+      → Succeeds c End h w sites (Dispatch target at ∷ rs)
+  dispatch_next h target at rs o parts going allowed node lacks silent is may low later =
+      let names : Bool = all_below (first_thing + length sites) (target.0 ∷ at.0 ∷ []) in
+      let split = stands_split (length sites) names rs allowed.stands in (
+        record {
+          parts = parts;
+          is = node;
+          lacks = lacks;
+          stands = (and_parts (nat_lt target.0 (first_thing + length sites)) (all_below (first_thing + length sites) (at.0 ∷ [])) split.0).1;
+          class = ap (λ (q : Object). q.class) going.object ∙ is;
+          may = may;
+          inside = low;
+          silent = silent;
+        },
+        λ i j after running hosting ran. subst (λ l. Succeeds c End i j l rs) (sym ran.same) (subst (λ v. Succeeds c End i v sites rs) (sym ran.host) (later i
+            (changed_next c g h i w j sites after (site sites at.0) o _ (with_parts o (sent_at target)) going running hosting ran
+            (ap (λ (q : Object). with_parts q (sent_at target)) going.object))
+            (record { stands = split.1; in_range = range_rest (Dispatch target at) rs allowed.in_range }))),
+      )
+
+  -- ---- one event, as its maker left it
+
+  -- its parts at rest, begun or not, with this target
+  abbrev pub parts_as : SavedEvent → Bool → Option ObjId → EventParts
+  parts_as e b t = record {
+    kind = e.kind;
+    bubbles = e.bubbles;
+    cancelable = e.cancelable;
+    begun = b;
+    sent = is_some t;
+    target = t;
+    current = None;
+    phase = 0;
+  }
+
+  abbrev pub sited_target : Option ObjId → Option ObjId
+  sited_target None = None
+  sited_target (Some at) = Some (sited sites at)
+
+  -- it was initialised where it has a type or a target
+  pub record IsInOrder (e : SavedEvent) : Type 0 where
+    pub fresh : e.begun ≡ false → (e.kind ≡ []) × (e.bubbles ≡ false) × (e.cancelable ≡ false) × (e.target ≡ None)
+
+  -- the object of such an event
+  abbrev pub event_object : Object → SavedEvent → Object
+  event_object o e = with_class o (class.Event (parts_as e e.begun (sited_target e.target)))
+
+  -- the node that it was dispatched at stood when the first event was reached
+  abbrev pub IsReached : Option ObjId → Type 0
+  IsReached None = Unit {0}
+  IsReached (Some target) = IsNodeHere g w sites target × Lacks (object_here g sites target) (codes "dispatchEvent")
+
+  -- what depends on one object alone
+  node_stays : (i : Contents) (at : ObjId) → object_here i sites at ≡ object_here g sites at → IsNodeHere g w sites at → IsNodeHere i w sites at
+  node_stays i at same is = record {
+    stands = is.stands;
+    proto = ap (λ (q : Object). q.proto) same ∙ is.proto;
+    class = ap (λ (q : Object). q.class) same ∙ is.class ∙ sym (ap (λ (q : Object). class.Node (node_of_class q.class)) same);
+    there = ap (λ (q : Object). is_there w.nodes (node_of_class q.class)) same ∙ is.there;
+    own = ap (λ (q : Object). object_of_node w.objects (node_of_class q.class)) same ∙ is.own;
+  }
+
+  -- a node is there
+  node_there : (at : ObjId) → IsNodeHere g w sites at → site sites at.0 < length g.objects
+  node_there at is = by (cases_lt (site sites at.0) (length g.objects))
+    where
+      by : (site sites at.0 < length g.objects) ⊎ (length g.objects ≤ site sites at.0) → site sites at.0 < length g.objects
+      by (inl low) = low
+      by (inr high) = let none = ap (λ (q : Object). q.class) (object_absent g.objects (site sites at.0) high) in cc (sym none ∙ is.class)
+
+  module _ (at : ObjId) (o : Object) (first : object_at g.objects (site sites at.0) ≡ o) (made : o.class ≡ class.Event new_parts)
+      (proto : o.proto ≡ Some event_prototype) (bare : o.props ≡ []) (silent : w.listeners ≡ []) where
+    -- it is no event
+    apart : (target : ObjId) → IsNodeHere g w sites target → site sites target.0 ≡ site sites at.0 → ⊥
+    apart target is same =
+        let both = sym is.class ∙ ap (λ k. (object_at g.objects k).class) same ∙ ap (λ (q : Object). q.class) first ∙ made in cc both
+
+    target_stays : (i : Contents) (p : Object) (target : ObjId) → Going c g i w sites (site sites at.0) p → IsNodeHere g w sites target
+        → object_here i sites target ≡ object_here g sites target
+    target_stays i p target going is =
+        going.stays.objects (site sites target.0) (node_there target is) (not_in (site sites target.0) (site sites at.0) (apart target is))
+
+    pub event_succeeds : (h : Contents) (e : SavedEvent) (rs : List Rebuild) → IsInOrder e → IsReached e.target → Going c g h w sites (site sites at.0) o
+        → Allowed (length sites) (event at (Some e) ++ rs)
+        → ((i : Contents) → Going c g i w sites (site sites at.0) (event_object o e) → Allowed (length sites) rs → Succeeds c End i w sites rs)
+        → Succeeds c End h w sites (event at (Some e) ++ rs)
+    event_succeeds h e rs order reached going allowed later = by e.begun refl allowed
+      where
+        first_parts : with_parts o (after_event (initialises e.kind e.bubbles e.cancelable)) ≡ with_class o (class.Event (parts_as e true None))
+        first_parts = ap (λ d. with_class o (changed_event (after_event (initialises e.kind e.bubbles e.cancelable)) d)) made
+
+        sent : e.begun ≡ true → (t : Option ObjId) → e.target ≡ t → IsReached t → (i : Contents) → Going c g i w sites (site sites at.0) (with_class o (class.Event (parts_as e true None)))
+            → Allowed (length sites) (dispatch at t ++ rs) → Succeeds c End i w sites (dispatch at t ++ rs)
+        sent begun None is none i now more =
+            later i (subst (Going c g i w sites (site sites at.0))
+            (ap (λ b. with_class o (class.Event (parts_as e b None))) (sym begun) ∙ ap (λ t. with_class o (class.Event (parts_as e e.begun (sited_target t)))) (sym is)) now) more
+        sent begun (Some target) is node i now more =
+            let here = target_stays i (with_class o (class.Event (parts_as e true None))) target now node.0 in
+            dispatch_next i target at rs (with_class o (class.Event (parts_as e true None))) (parts_as e true None) now more (node_stays i target here node.0)
+            (ap (λ (q : Object). own_property q.props (codes "dispatchEvent")) here ∙ node.1) silent refl refl (omega arith)
+            (λ j done rest. later j (subst (Going c g j w sites (site sites at.0))
+            (ap (λ b. with_class o (class.Event (parts_as e b (Some (sited sites target))))) (sym begun)
+            ∙ ap (λ t. with_class o (class.Event (parts_as e e.begun (sited_target t)))) (sym is)) done) rest)
+
+        by : (b : Bool) → e.begun ≡ b → Allowed (length sites) (((if b then Init at e.kind e.bubbles e.cancelable ∷ [] else []) ++ dispatch at e.target) ++ rs)
+            → Succeeds c End h w sites (((if b then Init at e.kind e.bubbles e.cancelable ∷ [] else []) ++ dispatch at e.target) ++ rs)
+        by true begun ok =
+            init_next h at e.kind e.bubbles e.cancelable (dispatch at e.target ++ rs) o new_parts going ok made proto
+            (ap (λ ps. own_property ps (codes "initEvent")) bare)
+            (λ i now more. sent begun e.target refl reached i (subst (Going c g i w sites (site sites at.0)) first_parts now) more)
+        by false fresh ok =
+            let was = order.fresh fresh in
+            let same : o ≡ event_object o e = fresh_object was in
+            subst (λ t. Succeeds c End h w sites (dispatch at t ++ rs)) (sym was.3)
+            (later h (subst (Going c g h w sites (site sites at.0)) same going) (subst (λ t. Allowed (length sites) (dispatch at t ++ rs)) was.3 ok))
+          where
+            fresh_object : (e.kind ≡ []) × (e.bubbles ≡ false) × (e.cancelable ≡ false) × (e.target ≡ None) → o ≡ event_object o e
+            fresh_object was =
+                ap (λ d. with_class o d) made
+                ∙ sym (
+                ap (λ t. with_class o (class.Event (parts_as e e.begun (sited_target t)))) was.3
+                ∙ ap (λ b. with_class o (class.Event (parts_as e b None))) fresh
+                ∙ ap (λ k. with_class o (class.Event (record { kind = k; bubbles = e.bubbles; cancelable = e.cancelable; begun = false; sent = false; target = None; current = None; phase = 0 }))) was.0
+                ∙ ap (λ b. with_class o (class.Event (record { kind = []; bubbles = b; cancelable = e.cancelable; begun = false; sent = false; target = None; current = None; phase = 0 }))) was.1
+                ∙ ap (λ b. with_class o (class.Event (record { kind = []; bubbles = false; cancelable = b; begun = false; sent = false; target = None; current = None; phase = 0 }))) was.2)
+
+-- ---- all events, one after another
+
+abbrev pub is_event_class : Class → Bool
+is_event_class (class.Event parts) = true
+is_event_class c = false
+
+abbrev pub evented : List ℕ → Object → Option SavedEvent → Object
+evented sites o None = o
+evented sites o (Some e) = with_class o (class.Event (record {
+  kind = e.kind;
+  bubbles = e.bubbles;
+  cancelable = e.cancelable;
+  begun = e.begun;
+  sent = is_some (sited_proto sites e.target);
+  target = sited_proto sites e.target;
+  current = None;
+  phase = 0;
+}))
+
+-- since the page was g, only objects of events have changed, and the thing with the number m is as it is to be where m is below n
+pub record EventsDone (c : Scene) (s : Store) (things sites : List ℕ) (g : Contents) (w : Host) (n : ℕ) (h : Contents) : Type 0 where
+  pub running : IsRunning c h sites
+  pub hosting : IsHosting h w
+  pub more : length g.objects ≤ length h.objects
+  pub objects : (k : ℕ) → k < length g.objects → is_event_class (object_at g.objects k).class ≡ false → object_at h.objects k ≡ object_at g.objects k
+  pub more_environments : length g.environments ≤ length h.environments
+  pub environments : (k : ℕ) → k < length g.environments → environment_at h.environments k ≡ environment_at g.environments k
+  pub done : (m : ℕ) → m < n → m < length sites
+      → object_at h.objects (nth sites m) ≡ evented sites (object_at g.objects (nth sites m)) (event_as things (object_at s.heap.objects (nth things m)).class)
+  pub others : (m : ℕ) → n ≤ m → m < length sites → object_at h.objects (nth sites m) ≡ object_at g.objects (nth sites m)
