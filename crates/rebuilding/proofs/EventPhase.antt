@@ -1,6 +1,6 @@
 -- Events are initialised and dispatched where they were: then each has the parts that were saved, and is not under dispatch.
 use Rattle.std.proofs.Common.{◌≡◌, ◌⊎◌, inl, inr, refl, sym, ap, subst, ◌∙◌, ℕ, ◌+◌, ◌<◌, ◌≤◌, Bool, true, false, ◌&&◌, nat_lt, List, [], ◌∷◌, ◌++◌, Option, Some, None, length, codes, if◌then◌else◌, arith}
-use Rattle.std.proofs.lemmas.Bool.{and_parts, cases_lt}
+use Rattle.std.proofs.lemmas.Bool.{and_parts, cases_eq, cases_lt}
 use Rattle.std.specs.Option.{is_some}
 use Rattle.js_values.specs.declared.ids.ObjId.{ObjId}
 use Rattle.dom_tree.specs.Steps.{is_there}
@@ -29,6 +29,7 @@ use Rattle.rebuilding.specs.Running.{IsNodeHere, Lacks, node_of_class, object_he
 use Rattle.rebuilding.specs.Scene.{IsHosting, IsRunning, Scene}
 use Rattle.rebuilding.specs.Sites.{site, sited, sited_proto}
 use Rattle.rebuilding.proofs.Basics.{not_in}
+use Rattle.rebuilding.proofs.SitesApart.{site_there, sites_differ}
 use Rattle.rebuilding.proofs.Going.{Allowed, Going, changed_next, range_rest, stands_split}
 
 module _ (c : Scene) (End : Contents → Host → List ℕ → Type 0) (sites : List ℕ) (g : Contents) (w : Host) where
@@ -118,7 +119,7 @@ module _ (c : Scene) (End : Contents → Host → List ℕ → Type 0) (sites : 
   IsReached (Some target) = IsNodeHere g w sites target × Lacks (object_here g sites target) (codes "dispatchEvent")
 
   -- what depends on one object alone
-  node_stays : (i : Contents) (at : ObjId) → object_here i sites at ≡ object_here g sites at → IsNodeHere g w sites at → IsNodeHere i w sites at
+  pub node_stays : (i : Contents) (at : ObjId) → object_here i sites at ≡ object_here g sites at → IsNodeHere g w sites at → IsNodeHere i w sites at
   node_stays i at same is = record {
     stands = is.stands;
     proto = ap (λ (q : Object). q.proto) same ∙ is.proto;
@@ -128,7 +129,7 @@ module _ (c : Scene) (End : Contents → Host → List ℕ → Type 0) (sites : 
   }
 
   -- a node is there
-  node_there : (at : ObjId) → IsNodeHere g w sites at → site sites at.0 < length g.objects
+  pub node_there : (at : ObjId) → IsNodeHere g w sites at → site sites at.0 < length g.objects
   node_there at is = by (cases_lt (site sites at.0) (length g.objects))
     where
       by : (site sites at.0 < length g.objects) ⊎ (length g.objects ≤ site sites at.0) → site sites at.0 < length g.objects
@@ -221,3 +222,76 @@ pub record EventsDone (c : Scene) (s : Store) (things sites : List ℕ) (g : Con
   pub done : (m : ℕ) → m < n → m < length sites
       → object_at h.objects (nth sites m) ≡ evented sites (object_at g.objects (nth sites m)) (event_as things (object_at s.heap.objects (nth things m)).class)
   pub others : (m : ℕ) → n ≤ m → m < length sites → object_at h.objects (nth sites m) ≡ object_at g.objects (nth sites m)
+
+module _ (c : Scene) (End : Contents → Host → List ℕ → Type 0) (s : Store) (things sites : List ℕ) (g : Contents) (w : Host) (count : length sites ≡ length things)
+    (silent : w.listeners ≡ []) where
+  abbrev saved : ℕ → Option SavedEvent
+  saved n = event_as things (object_at s.heap.objects (nth things n)).class
+
+  abbrev first : ℕ → Object
+  first n = object_at g.objects (nth sites n)
+
+  -- an event as its maker left it
+  pub record IsReady (n : ℕ) (e : SavedEvent) : Type 0 where
+    pub made : (first n).class ≡ class.Event new_parts
+    pub proto : (first n).proto ≡ Some event_prototype
+    pub bare : (first n).props ≡ []
+    pub order : IsInOrder c End sites g w e
+    pub reached : IsReached c End sites g w e.target
+
+  -- what was reached is reached still
+  reached_stays : (n : ℕ) (h : Contents) → EventsDone c s things sites g w n h → (t : Option ObjId) → IsReached c End sites g w t → IsReached c End sites h w t
+  reached_stays n h so None is = tt
+  reached_stays n h so (Some target) is =
+      let same : object_here h sites target ≡ object_here g sites target =
+      so.objects (site sites target.0) (node_there c End sites g w target is.0) (ap is_event_class is.0.class) in (
+        node_stays c End sites g w h target same is.0,
+        ap (λ (q : Object). own_property q.props (codes "dispatchEvent")) same ∙ is.1,
+      )
+
+  -- the next thing is as it is to be, and nothing else has changed but it
+  done_next : (n : ℕ) (h i : Contents) → EventsDone c s things sites g w n h → n < length sites → is_event_class (first n).class ≡ true
+      → Going c h i w sites (nth sites n) (evented sites (first n) (saved n)) → EventsDone c s things sites g w (n + 1) i
+  done_next n h i so inside event now = record {
+    running = now.running;
+    hosting = now.hosting;
+    more = omega (arith, so.more, now.stays.more);
+    objects = λ k low other. now.stays.objects k (omega (arith, low, so.more)) (not_in k (nth sites n) (λ same. kept k other same)) ∙ so.objects k low other;
+    more_environments = omega (arith, so.more_environments, now.stays.more_environments);
+    environments = λ k low. now.stays.environments k (omega (arith, low, so.more_environments)) ∙ so.environments k low;
+    done = λ m low within. by m within low (cases_eq m n);
+    others = λ m high within. moves m within (λ e. omega (arith, e, high)) ∙ so.others m (omega (arith, high)) within;
+  }
+    where
+      kept : (k : ℕ) → is_event_class (object_at g.objects k).class ≡ false → k ≡ nth sites n → ⊥
+      kept k other same = let both : true ≡ false = sym event ∙ ap (λ j. is_event_class (object_at g.objects j).class) (sym same) ∙ other in cc both
+
+      moves : (m : ℕ) → m < length sites → (m ≡ n → ⊥) → object_at i.objects (nth sites m) ≡ object_at h.objects (nth sites m)
+      moves m within apart =
+          now.stays.objects (nth sites m) (site_there c h sites m so.running within).1
+          (not_in (nth sites m) (nth sites n) (sites_differ sites m n so.running.rising within inside apart))
+
+      by : (m : ℕ) → m < length sites → m < n + 1 → (m ≡ n) ⊎ (m ≡ n → ⊥)
+          → object_at i.objects (nth sites m) ≡ evented sites (first m) (saved m)
+      by m within low (inl same) =
+          ap (λ j. object_at i.objects (nth sites j)) same ∙ now.object ∙ ap (λ j. evented sites (first j) (saved j)) (sym same)
+      by m within low (inr apart) = moves m within apart ∙ so.done m (omega (arith, low, apart)) within
+
+  -- a thing that is no event
+  done_past : (n : ℕ) (h : Contents) → EventsDone c s things sites g w n h → saved n ≡ None → EventsDone c s things sites g w (n + 1) h
+  done_past n h so none = record {
+    running = so.running;
+    hosting = so.hosting;
+    more = so.more;
+    objects = so.objects;
+    more_environments = so.more_environments;
+    environments = so.environments;
+    done = λ m low within. by m within low (cases_eq m n);
+    others = λ m high within. so.others m (omega (arith, high)) within;
+  }
+    where
+      by : (m : ℕ) → m < length sites → m < n + 1 → (m ≡ n) ⊎ (m ≡ n → ⊥)
+          → object_at h.objects (nth sites m) ≡ evented sites (first m) (saved m)
+      by m within low (inl same) =
+          so.others m (omega (arith, same)) within ∙ ap (evented sites (first m)) (sym (ap saved same ∙ none))
+      by m within low (inr apart) = so.done m (omega (arith, low, apart)) within
