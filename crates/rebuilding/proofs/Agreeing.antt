@@ -93,7 +93,7 @@ shape_proto s o class.Fault k e h = absurd (cc e)
 shape_proto s o class.Math k e h = absurd (cc e)
 shape_proto s o class.Window k e h = absurd (cc e)
 shape_proto s o (class.Native which) k e h = absurd (cc e)
-shape_proto s o (class.Page code env) k e h = absurd (cc e)
+shape_proto s o (class.Page source env) k e h = absurd (cc e)
 shape_proto s o (class.Bound target this args) k e h = absurd (cc e)
 shape_proto s o (class.Event parts) k e h = absurd (cc e)
 

@@ -45,8 +45,12 @@ use Rattle.rebuilding.proofs.Naming.{IsNodePair, built_in_paired, node_pair_at, 
 use Rattle.rebuilding.proofs.OneToOne.{same_places, site_below}
 use Rattle.rebuilding.proofs.Placed.{place_in, place_low, site_low}
 
+abbrev node_number : Class → ℕ
+node_number (class.Node k) = k.0
+node_number d = 0
+
 node_same : (a b : ℕ) → class.Node (nth_node a) ≡ class.Node (nth_node b) → a ≡ b
-node_same a b e = cc e
+node_same a b e = ap node_number e
 
 -- ---- which node stands for which
 
@@ -268,7 +272,7 @@ module _ (c : Scene) (s : Store) (things : List ℕ) (h : Contents) (g : Host) (
       each (record {
         linked = known_linked k d (there k.0 (has_head k cs)) (inside d.0 (has_head d ds)) (known at (head_in at rest)) (ap (λ o. o.0) (heads_same e));
       })
-      (each_child cs ds (λ n i. there n (has_tail n k cs i)) (λ n i. inside n (has_tail n d ds i)) (λ j i. known j (tail_in j at rest i)) (tails_same e))
+      (each_child cs ds (λ n i. there n (has_tail (nth_node n) k cs i)) (λ n i. inside n (has_tail (nth_node n) d ds i)) (λ j i. known j (tail_in j at rest i)) (tails_same e))
 
   children_rel : (a b : ℕ) → Linked W a b → Each (NodeIds (Linked W)) (children_at s.host.nodes a) (children_at g.nodes b)
   children_rel a b l =
@@ -283,7 +287,7 @@ module _ (c : Scene) (s : Store) (things : List ℕ) (h : Contents) (g : Host) (
 
   each_heard : (a b : ℕ) → Linked W a b → (ls ms : List Listener) → AreAt a ls → AreAt b ms → ((j : ℕ) → is_in j (calls_links ls) ≡ true → IsKnown things j)
       → moved_listeners [] ms ≡ sited_listeners sites (moved_listeners things ls) → Each (ListenerRel W) ls ms
-    each_heard a b n [] [] left right known e = no_more
+  each_heard a b n [] [] left right known e = no_more
   each_heard a b n [] (m ∷ ms) left right known e = absurd (cc e)
   each_heard a b n (l ∷ ls) [] left right known e = absurd (cc e)
   each_heard a b n (l ∷ ls) (m ∷ ms) left right known e =
@@ -320,7 +324,7 @@ module _ (c : Scene) (s : Store) (things : List ℕ) (h : Contents) (g : Host) (
     where
       by : (nat_eq a k.0 ≡ true) ⊎ (has a cs ≡ true) → (has a cs ≡ true → FoundRight a ds) → FoundRight a (d ∷ ds)
       by (inl e) later = record { node = d; linked = subst (λ n. Linked W n d.0) (sym (eqb-true a k.0 e)) x.linked; there = has_head d ds }
-      by (inr j) later = let f = later j in record { node = f.node; linked = f.linked; there = has_tail f.node.0 d ds f.there }
+      by (inr j) later = let f = later j in record { node = f.node; linked = f.linked; there = has_tail f.node d ds f.there }
 
   record FoundLeft (b : ℕ) (cs : List NodeId) : Type 0 where
     node : NodeId
@@ -333,7 +337,7 @@ module _ (c : Scene) (s : Store) (things : List ℕ) (h : Contents) (g : Host) (
     where
       by : (nat_eq b d.0 ≡ true) ⊎ (has b ds ≡ true) → (has b ds ≡ true → FoundLeft b cs) → FoundLeft b (k ∷ cs)
       by (inl e) later = record { node = k; linked = subst (λ n. Linked W k.0 n) (sym (eqb-true b d.0 e)) x.linked; there = has_head k cs }
-      by (inr j) later = let f = later j in record { node = f.node; linked = f.linked; there = has_tail f.node.0 k cs f.there }
+      by (inr j) later = let f = later j in record { node = f.node; linked = f.linked; there = has_tail f.node k cs f.there }
 
   document_there : (object_at h.objects document.0).class ≡ class.Node (nth_node 0)
   document_there = is.running.document.class

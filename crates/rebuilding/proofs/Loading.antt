@@ -48,15 +48,19 @@ as_many s things (k ∷ ks) = ap suc (as_many s things ks)
 plan_long : (s : Store) (things : List ℕ) → length things ≤ length (plan (compact s things))
 plan_long s things =
     let c = compact s things in
-    omega (arith, as_many s things things, makes_long 0 c.things
-    (whole phase.Children c
-    ++ (whole phase.Contents c
-    ++ (whole phase.Events c
-    ++ (whole phase.Listeners c
-    ++ (defines false false window c.globals
-    ++ (whole phase.Properties c
-    ++ (timers c.timers
-    ++ whole phase.Ends c))))))))
+    omega (
+      arith,
+      as_many s things things,
+      makes_long 0 c.things
+          (whole phase.Children c
+          ++ (whole phase.Contents c
+          ++ (whole phase.Events c
+          ++ (whole phase.Listeners c
+          ++ (defines false false window c.globals
+          ++ (whole phase.Properties c
+          ++ (timers c.timers
+          ++ whole phase.Ends c))))))),
+    )
 
 -- ---- the page that is loaded
 

@@ -69,8 +69,7 @@ module _ (c : Scene) (h : Contents) (g : Host) (sites : List ℕ) (running : IsR
       → (k < length g.nodes) × (object_of_node g.objects (nth_node k) ≡ sited sites at) → (node_here h sites at ≡ nth_node k) × IsNodeHere h g sites at
   here at o k stands is proto kind has =
       let same : (object_here h sites at).class ≡ class.Node (nth_node k) = ap (λ (q : Object). q.class) is ∙ kind in
-      let number : node_here h sites at ≡ nth_node k = ap node_of_class same in
-      (
+      let number : node_here h sites at ≡ nth_node k = ap node_of_class same in (
         number,
         record {
           stands = stands;
