@@ -87,14 +87,14 @@ module _ (c : Scene) (End : Contents → Host → List ℕ → Type 0) (h : Cont
       → object_of_node s.host.objects k ≡ at_place (nth things n)
   object_is n k inside is = (family.still.shaped.host.node_of (nth things n) k.0 is).1
 
-  thing_place_is : (n : ℕ) (k : NodeId) → n < length things → (object_at s.heap.objects (nth things n)).class ≡ class.Node k → node_place s things k ≡ plan.thing_place n
+  pub thing_place_is : (n : ℕ) (k : NodeId) → n < length things → (object_at s.heap.objects (nth things n)).class ≡ class.Node k → node_place s things k ≡ plan.thing_place n
   thing_place_is n k inside is =
       let found = number_at things (nth things n) (place_in things n inside) in
       let same : found.0 ≡ n = things_same found.0 n found.2 inside found.3 in
       ap (λ (o : ObjId). at_place (place_of things o.0)) (object_is n k inside is)
       ∙ ap at_place (found.1 ∙ ap (λ i. first_thing + i) same)
 
-  root_place_is : node_place s things (nth_node 0) ≡ document
+  pub root_place_is : node_place s things (nth_node 0) ≡ document
   root_place_is =
       ap (λ (o : ObjId). at_place (place_of things o.0)) (family.still.shaped.host.node_of document.0 0 family.root).1
       ∙ ap at_place (place_low s things document.0 family.walk (omega arith))

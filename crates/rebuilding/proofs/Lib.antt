@@ -27,6 +27,7 @@ pub mod Fresh
 pub mod Globals
 pub mod Going
 pub mod GoingOn
+pub mod Hearable
 pub mod Held
 pub mod HostCalls
 pub mod HostMethods
@@ -49,6 +50,7 @@ pub mod Needs
 pub mod NodeMakes
 pub mod NodePhase
 pub mod NodesAt
+pub mod NodesGrown
 pub mod OneToOne
 pub mod Ordinary
 pub mod OwnObjects
