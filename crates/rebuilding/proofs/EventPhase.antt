@@ -1,5 +1,5 @@
 -- Events are initialised and dispatched where they were: then each has the parts that were saved, and is not under dispatch.
-use Rattle.std.proofs.Common.{◌≡◌, ◌⊎◌, inl, inr, refl, sym, ap, subst, ◌∙◌, ℕ, ◌+◌, ◌<◌, ◌≤◌, Bool, true, false, ◌&&◌, nat_lt, List, [], ◌∷◌, ◌++◌, Option, Some, None, length, codes, if◌then◌else◌, arith}
+use Rattle.std.proofs.Common.{◌≡◌, ◌⊎◌, inl, inr, refl, sym, ap, subst, ◌∙◌, ℕ, suc, ◌+◌, ◌<◌, ◌≤◌, Bool, true, false, ◌&&◌, nat_lt, List, [], ◌∷◌, ◌++◌, append_assoc, Option, Some, None, length, codes, if◌then◌else◌, arith}
 use Rattle.std.proofs.lemmas.Bool.{and_parts, cases_eq, cases_lt}
 use Rattle.std.specs.Option.{is_some}
 use Rattle.js_values.specs.declared.ids.ObjId.{ObjId}
@@ -16,11 +16,13 @@ use Rattle.object_heap.specs.declared.object.EventParts.{EventParts}
 use Rattle.object_shapes.specs.Links.{all_below}
 use Rattle.page_host.specs.Host.{Host, object_of_node}
 use Rattle.page_meaning.specs.Events.{after_event, begins, initialises, may_begin, new_parts, rests}
-use Rattle.page_meaning.specs.Places.{event_prototype}
+use Rattle.page_meaning.specs.Places.{document, event_prototype}
 use Rattle.page_meaning.specs.Store.{Store}
 use Rattle.rebuild_plan.specs.Events.{SavedEvent, event_as}
 use Rattle.rebuild_plan.specs.Moved.{first_thing}
-use Rattle.rebuild_plan.specs.Plan.{dispatch, event, init}
+use Rattle.rebuild_plan.specs.Compact.{Compact, things_at}
+use Rattle.rebuild_plan.specs.Plan.{dispatch, each, event, init, thing_place, whole}
+use Rattle.rebuild_plan.specs.declared.phase.Phase.TheVariants as phase
 use Rattle.rebuild_plan.specs.Stands.{standing}
 use Rattle.rebuild_plan.specs.declared.statement.Rebuild.{Rebuild}
 use Rattle.rebuild_plan.specs.declared.statement.Rebuild.TheVariants.{Init, Dispatch}
@@ -29,8 +31,9 @@ use Rattle.rebuilding.specs.Running.{IsNodeHere, Lacks, node_of_class, object_he
 use Rattle.rebuilding.specs.Scene.{IsHosting, IsRunning, Scene}
 use Rattle.rebuilding.specs.Sites.{site, sited, sited_proto}
 use Rattle.rebuilding.proofs.Basics.{not_in}
+use Rattle.rebuilding.proofs.Placed.{site_thing}
 use Rattle.rebuilding.proofs.SitesApart.{site_there, sites_differ}
-use Rattle.rebuilding.proofs.Going.{Allowed, Going, changed_next, range_rest, stands_split}
+use Rattle.rebuilding.proofs.Going.{Allowed, Going, changed_next, going_begins, range_rest, stands_split}
 
 module _ (c : Scene) (End : Contents → Host → List ℕ → Type 0) (sites : List ℕ) (g : Contents) (w : Host) where
   -- ---- one statement
@@ -101,17 +104,13 @@ module _ (c : Scene) (End : Contents → Host → List ℕ → Type 0) (sites : 
     phase = 0;
   }
 
-  abbrev pub sited_target : Option ObjId → Option ObjId
-  sited_target None = None
-  sited_target (Some at) = Some (sited sites at)
-
   -- it was initialised where it has a type or a target
   pub record IsInOrder (e : SavedEvent) : Type 0 where
     pub fresh : e.begun ≡ false → (e.kind ≡ []) × (e.bubbles ≡ false) × (e.cancelable ≡ false) × (e.target ≡ None)
 
   -- the object of such an event
   abbrev pub event_object : Object → SavedEvent → Object
-  event_object o e = with_class o (class.Event (parts_as e e.begun (sited_target e.target)))
+  event_object o e = with_class o (class.Event (parts_as e e.begun (sited_proto sites e.target)))
 
   -- the node that it was dispatched at stood when the first event was reached
   abbrev pub IsReached : Option ObjId → Type 0
@@ -161,14 +160,14 @@ module _ (c : Scene) (End : Contents → Host → List ℕ → Type 0) (sites : 
             → Allowed (length sites) (dispatch at t ++ rs) → Succeeds c End i w sites (dispatch at t ++ rs)
         sent begun None is none i now more =
             later i (subst (Going c g i w sites (site sites at.0))
-            (ap (λ b. with_class o (class.Event (parts_as e b None))) (sym begun) ∙ ap (λ t. with_class o (class.Event (parts_as e e.begun (sited_target t)))) (sym is)) now) more
+            (ap (λ b. with_class o (class.Event (parts_as e b None))) (sym begun) ∙ ap (λ t. with_class o (class.Event (parts_as e e.begun (sited_proto sites t)))) (sym is)) now) more
         sent begun (Some target) is node i now more =
             let here = target_stays i (with_class o (class.Event (parts_as e true None))) target now node.0 in
             dispatch_next i target at rs (with_class o (class.Event (parts_as e true None))) (parts_as e true None) now more (node_stays i target here node.0)
             (ap (λ (q : Object). own_property q.props (codes "dispatchEvent")) here ∙ node.1) silent refl refl (omega arith)
             (λ j done rest. later j (subst (Going c g j w sites (site sites at.0))
             (ap (λ b. with_class o (class.Event (parts_as e b (Some (sited sites target))))) (sym begun)
-            ∙ ap (λ t. with_class o (class.Event (parts_as e e.begun (sited_target t)))) (sym is)) done) rest)
+            ∙ ap (λ t. with_class o (class.Event (parts_as e e.begun (sited_proto sites t)))) (sym is)) done) rest)
 
         by : (b : Bool) → e.begun ≡ b → Allowed (length sites) (((if b then Init at e.kind e.bubbles e.cancelable ∷ [] else []) ++ dispatch at e.target) ++ rs)
             → Succeeds c End h w sites (((if b then Init at e.kind e.bubbles e.cancelable ∷ [] else []) ++ dispatch at e.target) ++ rs)
@@ -186,7 +185,7 @@ module _ (c : Scene) (End : Contents → Host → List ℕ → Type 0) (sites : 
             fresh_object was =
                 ap (λ d. with_class o d) made
                 ∙ sym (
-                ap (λ t. with_class o (class.Event (parts_as e e.begun (sited_target t)))) was.3
+                ap (λ t. with_class o (class.Event (parts_as e e.begun (sited_proto sites t)))) was.3
                 ∙ ap (λ b. with_class o (class.Event (parts_as e b None))) fresh
                 ∙ ap (λ k. with_class o (class.Event (record { kind = k; bubbles = e.bubbles; cancelable = e.cancelable; begun = false; sent = false; target = None; current = None; phase = 0 }))) was.0
                 ∙ ap (λ b. with_class o (class.Event (record { kind = []; bubbles = b; cancelable = e.cancelable; begun = false; sent = false; target = None; current = None; phase = 0 }))) was.1
@@ -225,10 +224,10 @@ pub record EventsDone (c : Scene) (s : Store) (things sites : List ℕ) (g : Con
 
 module _ (c : Scene) (End : Contents → Host → List ℕ → Type 0) (s : Store) (things sites : List ℕ) (g : Contents) (w : Host) (count : length sites ≡ length things)
     (silent : w.listeners ≡ []) where
-  abbrev saved : ℕ → Option SavedEvent
+  abbrev pub saved : ℕ → Option SavedEvent
   saved n = event_as things (object_at s.heap.objects (nth things n)).class
 
-  abbrev first : ℕ → Object
+  abbrev pub first : ℕ → Object
   first n = object_at g.objects (nth sites n)
 
   -- an event as its maker left it
@@ -295,3 +294,77 @@ module _ (c : Scene) (End : Contents → Host → List ℕ → Type 0) (s : Stor
       by m within low (inl same) =
           so.others m (omega (arith, same)) within ∙ ap (evented sites (first m)) (sym (ap saved same ∙ none))
       by m within low (inr apart) = so.done m (omega (arith, low, apart)) within
+
+  -- ---- the phase
+
+  abbrev pub After : List Rebuild → Type 0
+  After rs = (i : Contents) → EventsDone c s things sites g w (length things) i → Allowed (length sites) rs → Succeeds c End i w sites rs
+
+  abbrev pub AreReady : Type 0
+  AreReady = (n : ℕ) → n < length things → (e : SavedEvent) → saved n ≡ Some e → IsReady n e
+
+  one_event : (n : ℕ) (h : Contents) (o : Option SavedEvent) (rest : List Rebuild) → n < length sites → EventsDone c s things sites g w n h → saved n ≡ o
+      → ((e : SavedEvent) → o ≡ Some e → IsReady n e) → Allowed (length sites) (event (thing_place n) o ++ rest)
+      → ((i : Contents) → EventsDone c s things sites g w (n + 1) i → Allowed (length sites) rest → Succeeds c End i w sites rest)
+      → Succeeds c End h w sites (event (thing_place n) o ++ rest)
+  one_event n h None rest inside so is ready allowed later = later h (done_past n h so is) allowed
+  one_event n h (Some e) rest inside so is ready allowed later =
+      let own = ready e refl in
+      let at : site sites (thing_place n).0 ≡ nth sites n = site_thing sites n in
+      let here : object_at h.objects (site sites (thing_place n).0) ≡ first n = ap (object_at h.objects) at ∙ so.others n (omega arith) inside in
+      event_succeeds c End sites h w (thing_place n) (first n) here own.made own.proto own.bare silent h e rest (record { fresh = own.order.fresh })
+      (reached_stays n h so e.target own.reached) (going_begins c h w sites (site sites (thing_place n).0) (first n) so.running so.hosting here) allowed
+      (λ i now more. later i (done_next n h i so inside (ap is_event_class own.made)
+      (subst (λ t. Going c h i w sites (nth sites n) (evented sites (first n) t)) (sym is)
+      (subst (λ k. Going c h i w sites k (evented sites (first n) (Some e))) at now))) more)
+
+  each_event : (ks : List ℕ) (n : ℕ) (h : Contents) (rs : List Rebuild) → AreReady → n + length ks ≡ length things
+      → ((j : ℕ) → j < length ks → nth ks j ≡ nth things (n + j)) → EventsDone c s things sites g w n h
+      → Allowed (length sites) (each phase.Events n (things_at s things ks) ++ rs) → After rs
+      → Succeeds c End h w sites (each phase.Events n (things_at s things ks) ++ rs)
+  each_event [] n h rs ready total at so allowed later =
+      let same : n ≡ length things = omega (arith, total) in
+      later h (subst (λ m. EventsDone c s things sites g w m h) same so) allowed
+  each_event (k ∷ ks) n h rs ready total at so allowed later =
+      let others : List Rebuild = each phase.Events (suc n) (things_at s things ks) in
+      let own : Option SavedEvent = event_as things (object_at s.heap.objects k).class in
+      let none_more : n + 0 ≡ n = omega arith in
+      let here : k ≡ nth things n = at 0 (omega arith) ∙ ap (nth things) none_more in
+      let inside : n < length things = omega (arith, total) in
+      let is : saved n ≡ own = ap saved_at (sym here) in
+      let are : (event (thing_place n) own ++ others) ++ rs ≡ event (thing_place n) own ++ (others ++ rs) = append_assoc (event (thing_place n) own) others rs in
+      let next : n + 1 ≡ suc n = omega arith in
+      subst (Succeeds c End h w sites) (sym are)
+      (one_event n h own (others ++ rs) (omega (arith, inside, count)) so is (λ e found. ready n inside e (is ∙ found)) (subst (Allowed (length sites)) are allowed)
+      (λ i done more. each_event ks (suc n) i rs ready (omega (arith, total)) (λ j there. at (suc j) (omega (arith, there)) ∙ ap (nth things) (one_on n j))
+      (subst (λ m. EventsDone c s things sites g w m i) next done) more later))
+    where
+      saved_at : ℕ → Option SavedEvent
+      saved_at j = event_as things (object_at s.heap.objects j).class
+
+      one_on : (a b : ℕ) → a + suc b ≡ suc a + b
+      one_on a b = omega arith
+
+  -- from the page as the phase finds it; the document is no event
+  pub events_succeed : (rs : List Rebuild) (p : Compact) → p.things ≡ things_at s things things → p.document.event ≡ None → AreReady → IsRunning c g sites → IsHosting g w
+      → Allowed (length sites) (whole phase.Events p ++ rs) → After rs → Succeeds c End g w sites (whole phase.Events p ++ rs)
+  events_succeed rs p are none ready running hosting allowed later =
+      let same : whole phase.Events p ≡ each phase.Events 0 (things_at s things things) =
+      ap (λ o. event document o ++ each phase.Events 0 p.things) none ∙ ap (each phase.Events 0) are in
+      let zero_more : 0 + length things ≡ length things = omega arith in
+      subst (λ xs. Succeeds c End g w sites (xs ++ rs)) (sym same)
+      (each_event things 0 g rs ready zero_more (λ j there. ap (nth things) (zero_on j))
+      (record {
+        running = running;
+        hosting = hosting;
+        more = omega arith;
+        objects = λ k low other. refl;
+        more_environments = omega arith;
+        environments = λ k low. refl;
+        done = λ m low within. absurd (omega (arith, low));
+        others = λ m high within. refl;
+      })
+      (subst (λ xs. Allowed (length sites) (xs ++ rs)) same allowed) later)
+    where
+      zero_on : (j : ℕ) → j ≡ 0 + j
+      zero_on j = omega arith
