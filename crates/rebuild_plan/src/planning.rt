@@ -149,7 +149,8 @@ fn push_prevent(
     plan: &mut Vec<Rebuild>,
 ) -> Result<(), OutOfMemory>
     ensures { OnOk result (plan.new.items ≡ plan.old.items
-        ++ (if (object_at state.now.heap.objects at.0).extensible then [] else Prevent place ∷ [])) }
+        ++ (if (object_at state.now.heap.objects at.0).extensible then []
+        else Prevent place ∷ [])) }
 {
     if !state.is_extensible(at) {
         plan.push(Rebuild::Prevent { at: place })?;
