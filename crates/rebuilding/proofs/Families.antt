@@ -18,7 +18,9 @@ use Rattle.page_writer.specs.Frame.{nth_node}
 use Rattle.rebuild_plan.proofs.Callers.{all_nodes, built_in_is_no_node, document_class, node_linked}
 use Rattle.rebuild_plan.specs.Moved.{first_thing}
 use Rattle.rebuilding.specs.Rebuilt.{nth}
+use Rattle.rebuilding.proofs.Callables.{IsKnownPlace}
 use Rattle.rebuilding.proofs.ChildModel.{IsFamily}
+use Rattle.rebuilding.proofs.Hearable.{AreKnown, all_known}
 use Rattle.rebuilding.proofs.OwnObjects.{node_same}
 use Rattle.rebuilding.proofs.Placed.{is_thing_at, number_at, place_in}
 use Rattle.rebuilding.proofs.SavedNodes.{IsRest, first_has, more_has, node_found, node_listed}
@@ -65,18 +67,21 @@ module _ (s : Store) (things : List ℕ) (still : Still s) (walk : IsWalk s thin
           let zero_is : d.0 ≡ 0 = node_same (sym (class_of d low) ∙ ap (λ m. (object_at s.heap.objects m).class) last ∙ root_class) in
           subst (λ m. has m known ≡ true) (sym zero_is) (first_has (nth_node 0) (all_nodes s things))
 
-  linked_known : (k d : NodeId) → has k.0 known ≡ true → d.0 < length t → is_in (object d) (host_links s.host (class.Node k)) ≡ true → has d.0 known ≡ true
-  linked_known k d h low i = by (or_cases (nat_eq k.0 0) (has k.0 (all_nodes s things)) h)
+  -- what a reached node refers to is reached or built in
+  linked_place : (k : NodeId) → has k.0 known ≡ true → (x : ℕ) → is_in x (host_links s.host (class.Node k)) ≡ true → IsKnownPlace things x
+  linked_place k h x i = by (or_cases (nat_eq k.0 0) (has k.0 (all_nodes s things)) h)
     where
-      by : (nat_eq k.0 0 ≡ true) ⊎ (has k.0 (all_nodes s things) ≡ true) → has d.0 known ≡ true
+      by : (nat_eq k.0 0 ≡ true) ⊎ (has k.0 (all_nodes s things) ≡ true) → IsKnownPlace things x
       by (inl e) =
           let mine : (object_at s.heap.objects document.0).class ≡ class.Node k = root_class ∙ ap (λ m. class.Node (nth_node m)) (sym (eqb-true k.0 0 e)) in
-          found d low (roots_in_walk s things still walk (object d) (document_among s (object d)
-          (host_among s document.0 (object d) (ap (λ C. is_in (object d) (host_links s.host C)) mine ∙ i))))
+          roots_in_walk s things still walk x (document_among s x (host_among s document.0 x (ap (λ C. is_in x (host_links s.host C)) mine ∙ i)))
       by (inr more) =
           let l = node_found s things things 0 k.0 all_rest more in
-          found d low (links_in_walk s things still walk (nth things l.number) (place_in things l.number l.inside) (object d)
-          (host_among s (nth things l.number) (object d) (ap (λ C. is_in (object d) (host_links s.host C)) l.class ∙ i)))
+          links_in_walk s things still walk (nth things l.number) (place_in things l.number l.inside) x
+          (host_among s (nth things l.number) x (ap (λ C. is_in x (host_links s.host C)) l.class ∙ i))
+
+  linked_known : (k d : NodeId) → has k.0 known ≡ true → d.0 < length t → is_in (object d) (host_links s.host (class.Node k)) ≡ true → has d.0 known ≡ true
+  linked_known k d h low i = found d low (linked_place k h (object d) i)
 
   abbrev up : NodeId → List ℕ
   up k = parent_links s.host.objects (parent_at t k.0)
@@ -86,6 +91,12 @@ module _ (s : Store) (things : List ℕ) (still : Still s) (walk : IsWalk s thin
 
   abbrev calls : NodeId → List ℕ
   calls k = calls_links (heard_at k.0 s.host.listeners)
+
+  -- the functions of its listeners, too
+  pub heard_known : (k : NodeId) → has k.0 (nth_node 0 ∷ all_nodes s things) ≡ true → AreKnown things (heard_at k.0 s.host.listeners)
+  heard_known k h =
+      all_known things (heard_at k.0 s.host.listeners)
+      (λ x i. linked_place k h x (in_right x (up k) (down k ++ calls k) (in_right x (down k) (calls k) i)))
 
   pub family : IsFamily s things
   family = record {

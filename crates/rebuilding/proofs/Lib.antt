@@ -18,6 +18,7 @@ pub mod DocumentStays
 pub mod EachHost
 pub mod EachThing
 pub mod Entries
+pub mod EventPhase
 pub mod Families
 pub mod FillSteps
 pub mod Fills
@@ -76,6 +77,7 @@ pub mod Staying
 pub mod StepStatements
 pub mod Targets
 pub mod TimerPhase
+pub mod TimersReady
 pub mod Uses
 pub mod WalkedAgain
 pub mod WindowStays
