@@ -52,6 +52,7 @@ pub mod NodeMakes
 pub mod NodePhase
 pub mod NodesAt
 pub mod NodesGrown
+pub mod NodesMade
 pub mod OneToOne
 pub mod Ordinary
 pub mod OwnObjects

@@ -37,11 +37,11 @@ use Rattle.rebuilding.proofs.OwnObjects.{IsNodeOn, OwnObjects, own_kept}
 use Rattle.rebuilding.proofs.SavedNodes.{IsLinked, IsRest, first_has, in_pair, more_has, node_found, node_listed, nodes_world, pair_in}
 
 -- what is a node after it was rebuilt was one before
-record WasNode (C : Class) : Type 0 where
-  node : NodeId
-  is : C ≡ class.Node node
+pub record WasNode (C : Class) : Type 0 where
+  pub node : NodeId
+  pub is : C ≡ class.Node node
 
-was_node : {c : Scene} {es : List Environment} {s : Store} {things sites : List ℕ} {k : ℕ} {C D : Class} (b : NodeId)
+pub was_node : {c : Scene} {es : List Environment} {s : Store} {things sites : List ℕ} {k : ℕ} {C D : Class} (b : NodeId)
     → ClassIsRebuilt c es s things sites k C D → D ≡ class.Node b → WasNode C
 was_node b plain e = absurd (cc)
 was_node b list e = absurd (cc)
