@@ -23,6 +23,7 @@ use Rattle.rebuilding.specs.Running.{node_of_class}
 use Rattle.rebuilding.specs.Scene.{IsCleared, IsRunning, Scene}
 use Rattle.rebuilding.specs.Sites.{sited_proto}
 use Rattle.object_shapes.specs.Shapes.{built_in_at, made_property}
+use Rattle.rebuilding.proofs.OwnObjects.{OwnObjects}
 
 -- a function of a page begins with its length and a `prototype`
 pub record BeginsAsFunction (formals : ℕ) (made : Props) : Type 0 where
@@ -70,6 +71,8 @@ pub record Made (c : Scene) (s : Store) (things : List ℕ) (h : Contents) (g : 
       → IsFresh c h.environments s things sites (nth sites n) (object_at s.heap.objects (nth things n)) (object_at h.objects (nth sites n))
   pub hosted : (n : ℕ) → n < length things
       → MadeHost s g (object_at s.heap.objects (nth things n)).class (object_at h.objects (nth sites n)).class
+  pub own : OwnObjects h g sites
   pub globals : (object_at h.objects window.0).props ≡ (built_in_at window.0).props
   pub document_props : (object_at h.objects document.0).props ≡ []
   pub document_extensible : (object_at h.objects document.0).extensible ≡ true
+  pub document_open : (object_at h.objects document.0).closed ≡ false
