@@ -46,9 +46,8 @@ use Rattle.object_heap.specs.declared.object.EventParts.{EventParts}
 use Rattle.page_host.specs.Host.{Host}
 use Rattle.page_meaning.specs.Steps.{event_object}
 use Rattle.rebuild_plan.specs.Nodes.{node_maker}
-use Rattle.std.specs.Char.{is_ascii_uppercase}
 use Rattle.std.specs.List.{list_all}
-use Rattle.dom_tree.specs.Name.{folded, is_name}
+use Rattle.host_relations.proofs.Callers.{folded_is}
 
 -- ---- what is bound
 
@@ -79,16 +78,10 @@ IsNamed s a = ⊤
 abbrev pub IsEmpty : Contents → Type 0
 IsEmpty h = (object_at h.objects document.0).props ≡ []
 
-folded_same : (x : List ℕ) → list_all (λ u. not (is_ascii_uppercase u)) x ≡ true → folded x ≡ x
-folded_same [] h = refl
-folded_same (u ∷ us) h =
-    let parts = and_parts (not (is_ascii_uppercase u)) (list_all (λ v. not (is_ascii_uppercase v)) us) h in
-    rw (not-true (is_ascii_uppercase u) parts.0) (ap (λ l. u ∷ l) (folded_same us parts.1))
-
 can_make_node : (h : Contents) (sites things : List ℕ) (proto : Option ObjId) (k : Kind) → IsEmpty h → is_document k ≡ false → has_folded_name k ≡ true
     → CanMake h sites (node_maker things proto k)
 can_make_node h sites things proto content.Document empty other named = cc other
-can_make_node h sites things proto (content.Element x) empty other named = (named, folded_same x (and_parts (is_name x) _ named).1, ap (λ ps. own_property ps (codes "createElement")) empty)
+can_make_node h sites things proto (content.Element x) empty other named = (named, folded_is x named, ap (λ ps. own_property ps (codes "createElement")) empty)
 can_make_node h sites things proto (content.Text x) empty other named = ap (λ ps. own_property ps (codes "createTextNode")) empty
 can_make_node h sites things proto (content.Comment x) empty other named = ap (λ ps. own_property ps (codes "createComment")) empty
 

@@ -116,7 +116,7 @@ module _ (g : Host) (k : Kind) (place : ℕ) (other : is_document k ≡ false) (
         get_or_push g.objects (at_place place) no_object j (omega (arith, last, long)),
       )
 
-module _ {c : Scene} (s : Store) (things : List ℕ) (g : Host) (h i : Contents) (sites : List ℕ) (place : ℕ) (proto : Option ObjId) where
+module _ (c : Scene) (s : Store) (things : List ℕ) (g : Host) (h i : Contents) (sites : List ℕ) (place : ℕ) (proto : Option ObjId) where
   node_host : (k : Kind) (o : Object) → is_document k ≡ false → has_folded_name k ≡ true → IsMade c h g i sites place (node_maker things proto k) o
       → node_at (made_host g (node_maker things proto k) place).nodes (node_of_class o.class).0 ≡ bare_node k None []
   node_host content.Document o other named is = cc other

@@ -162,6 +162,16 @@ module _ (c : Scene) (s : Store) (things : List ℕ) (known : IsSaved s things) 
       is_thing_there : is_thing s k ≡ true
       is_thing_there = is_thing_at s things n known.walk inside
 
+      not_first : (m : ℕ) → built_in_count < k → object_of_node s.host.objects (nth_node m) ≡ at_place k → nat_eq m 0 ≡ false
+      not_first m young own = ne_eqb m 0 (λ zero_is. other m young own zero_is)
+        where
+          other : (m : ℕ) → built_in_count < k → object_of_node s.host.objects (nth_node m) ≡ at_place k → m ≡ 0 → ⊥
+          other m young own zero_is =
+              let same : k ≡ built_in_count =
+              ap (λ (o : ObjId). o.0) (sym own ∙ ap (λ q. object_of_node s.host.objects (nth_node q)) zero_is ∙ known.still.shaped.host.document)
+              in
+              omega (arith, same, young)
+
       by : (a : Class) → (thing n).class ≡ a → IsNamed s a
       by (class.Node m) e =
           let own = known.still.shaped.host.node_of k m.0 e in
@@ -179,16 +189,6 @@ module _ (c : Scene) (s : Store) (things : List ℕ) (known : IsSaved s things) 
       by class.Math e = tt
       by class.Window e = tt
       by (class.Event parts) e = tt
-
-      not_first : (m : ℕ) → built_in_count < k → object_of_node s.host.objects (nth_node m) ≡ at_place k → nat_eq m 0 ≡ false
-      not_first m young own = ne_eqb m 0 (λ zero_is. other m young own zero_is)
-        where
-          other : (m : ℕ) → built_in_count < k → object_of_node s.host.objects (nth_node m) ≡ at_place k → m ≡ 0 → ⊥
-          other m young own zero_is =
-              let same : k ≡ built_in_count =
-              ap (λ (o : ObjId). o.0) (sym own ∙ ap (λ q. object_of_node s.host.objects (nth_node q)) zero_is ∙ known.still.shaped.host.document)
-              in
-              omega (arith, same, young)
 
   can : (h : Contents) (g : Host) (sites : List ℕ) (n : ℕ) → n ≡ length sites → n < length things → Front c s things h g sites
       → CanBeMade h sites n (maker_at s things (nth things n))
@@ -266,7 +266,7 @@ module _ (c : Scene) (s : Store) (things : List ℕ) (known : IsSaved s things) 
         stays.objects document.0 (omega (arith, front.running.list_there, front.running.list_young))
         (not_list document.0 (ne_eqb document.0 c.list (λ e. omega (arith, e, front.running.list_young))))
 
-    maker : Maker
+    abbrev maker : Maker
     maker = maker_at s things (nth things (length sites))
 
     joined : Joined g w place
@@ -298,7 +298,7 @@ module _ (c : Scene) (s : Store) (things : List ℕ) (known : IsSaved s things) 
             subst (λ n. MadeHost s w (thing n).class (object_at i.objects (nth after n)).class) last
             (subst (λ k. MadeHost s w (thing (length sites)).class (object_at i.objects k).class) (sym (nth_last sites place))
             (subst (λ v. MadeHost s v (thing (length sites)).class (object_at i.objects place).class) (sym host_is)
-            (host_made s things g h i sites place (thing (length sites)).proto (thing (length sites)).class (object_at i.objects place)
+            (host_made c s things g h i sites place (thing (length sites)).proto (thing (length sites)).class (object_at i.objects place)
             (named (length sites) few) made)))
 
         owns : OwnObjects i w after
@@ -317,7 +317,7 @@ module _ (c : Scene) (s : Store) (things : List ℕ) (known : IsSaved s things) 
                 let here : nth after j ≡ place = ap (nth after) last ∙ nth_last sites place in
                 subst (HasOwn w k) (sym here)
                 (subst (λ v. HasOwn v k place) (sym host_is)
-                (own_made s things g h i sites place (thing (length sites)).proto (thing (length sites)).class (object_at i.objects place) k
+                (own_made c s things g h i sites place (thing (length sites)).proto (thing (length sites)).class (object_at i.objects place) k
                 front.cleared.hosting.sound.objects (named (length sites) few) made (ap (λ q. (object_at i.objects q).class) (sym here) ∙ on)))
 
         all : (j : ℕ) → j < length (sites ++ place ∷ []) → Stands (nth after j) j

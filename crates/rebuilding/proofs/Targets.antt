@@ -1,12 +1,13 @@
 -- What a bound function calls stands, as a function of the same length.
-use Rattle.std.proofs.Common.{◌≡◌, ◌⊎◌, inl, inr, refl, sym, ap, subst, ◌∙◌, ℕ, zero, suc, ◌+◌, ◌<◌, Bool, true, ◌||◌, not, nat_lt, List, Option, Some, None, is_some, length, unwrap_or, arith}
-use Rattle.std.proofs.lemmas.Bool.{ltb-true}
+use Rattle.std.proofs.Common.{◌≡◌, ◌⊎◌, inl, inr, refl, sym, ap, subst, ◌∙◌, ℕ, zero, suc, ◌+◌, ◌<◌, Bool, true, ◌||◌, not, nat_lt, List, Option, Some, None, is_some, length, unwrap_or, arith, ◌≤◌}
+use Rattle.std.proofs.lemmas.Bool.{cases_lt, ltb-true}
 use Rattle.std.specs.List.{list_all}
 use Rattle.std.specs.Option.{option_map}
 use Rattle.code_table.specs.Declarations.{formals_of}
 use Rattle.heap_walker.proofs.Callers.{thing_of}
 use Rattle.heap_walker.specs.Still.{Still}
 use Rattle.heap_walker.specs.Things.{IsWalk, is_in}
+use Rattle.js_values.specs.declared.ids.NodeId.{NodeId}
 use Rattle.js_values.specs.declared.ids.ObjId.{ObjId}
 use Rattle.js_values.specs.declared.value.Value.TheVariants.{Undefined}
 use Rattle.object_heap.proofs.Callers.{property_on}
@@ -20,7 +21,8 @@ use Rattle.object_heap.specs.declared.object.Class.{Class}
 use Rattle.object_heap.specs.declared.object.Class.TheVariants as class
 use Rattle.object_heap.specs.declared.property.Prop.{Prop}
 use Rattle.page_meaning.specs.Elements.{length_of}
-use Rattle.page_meaning.specs.Places.{function_prototype}
+use Rattle.page_meaning.specs.Places.{document, function_prototype}
+use Rattle.rebuild_plan.proofs.Callers.{document_class}
 use Rattle.page_meaning.specs.Pristine.{built_ins}
 use Rattle.page_meaning.specs.Properties.{class_at, is_function}
 use Rattle.page_meaning.specs.Store.{Store}
@@ -101,6 +103,10 @@ function_again bound is = refl
 function_again node is = is
 function_again event is = is
 
+-- a node is no function
+no_node_function : (a : Class) (k : NodeId) → is_function (Some a) ≡ true → a ≡ class.Node k → ⊥
+no_node_function a k is e = cc (is, e)
+
 -- ---- targets
 
 module _ (c : Scene) (s : Store) (things : List ℕ) (h : Contents) (g : Host) (sites : List ℕ) (still : Still s) (walk : IsWalk s things)
@@ -163,7 +169,13 @@ module _ (c : Scene) (s : Store) (things : List ℕ) (h : Contents) (g : Host) (
           }
 
   -- what is built in, or a thing that stands, is kept
-  pub target_kept : (target : ObjId) → (target.0 < built_in_count) ⊎ (is_in target.0 things ≡ true) → is_function (Some (class_at s target)) ≡ true
+  pub target_kept : (target : ObjId) → (target.0 < first_thing) ⊎ (is_in target.0 things ≡ true) → is_function (Some (class_at s target)) ≡ true
       → nat_lt (place_of things target.0) (first_thing + length sites) ≡ true → IsKept s things h g sites target
-  target_kept target (inl low) is stands = built_in_kept target is low
+  target_kept target (inl low) is stands = by (cases_lt target.0 built_in_count)
+    where
+      by : (target.0 < built_in_count) ⊎ (built_in_count ≤ target.0) → IsKept s things h g sites target
+      by (inl below) = built_in_kept target is below
+      by (inr past) =
+          let same : target.0 ≡ document.0 = omega (arith, low, past) in
+          absurd (no_node_function (class_at s target) (record { 0 = 0 }) is (ap (λ k. (object_at s.heap.objects k).class) same ∙ document_class s things still walk))
   target_kept target (inr found) is stands = thing_kept target is found stands
