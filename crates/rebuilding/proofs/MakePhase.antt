@@ -175,8 +175,7 @@ module _ (c : Scene) (s : Store) (things : List ℕ) (known : IsSaved s things) 
       by : (a : Class) → (thing n).class ≡ a → IsNamed s a
       by (class.Node m) e =
           let own = known.still.shaped.host.node_of k m.0 e in
-          let young : built_in_count < k = ltb-true built_in_count k (and_parts _ _ is_thing_there).0 in
-          (
+          let young : built_in_count < k = ltb-true built_in_count k (and_parts _ _ is_thing_there).0 in (
             known.still.shaped.host.sound.nodes.document m.0 ∙ not_first m.0 young own.1,
             (proper_parts (node_at s.host.nodes m.0).content (known.still.shaped.host.sound.nodes.proper m.0)).named,
           )
