@@ -103,7 +103,10 @@ fn stress_of(words: &[String]) -> Option<Command<'_>>
     ensures { option_map spec.view result ≡ spec.stress_of (map string_bytes words.now) }
 {
     match words {
-        [parts] => parts_of(parts).map(Command::Stress),
+        [parts] => match parts_of(parts) {
+            Some(parts) => Some(Command::Stress(parts)),
+            None => None,
+        },
         _ => None,
     }
 }
