@@ -1,5 +1,5 @@
 -- How generated pages fare: the causes of each end, and the line.
-use Rattle.std.proofs.Common.{◌≡◌, ℕ, List, [], ◌∷◌, drop, length, Option, Some, None, Result, Ok as Good, Err, Vec, Global, refl, sym, ap, subst, ◌∙◌, inl, inr, arith}
+use Rattle.std.proofs.Common.{◌≡◌, ℕ, List, [], ◌∷◌, drop, length, Option, Some, None, Result, Ok as Good, Err, IfOk, IfErr, Vec, Global, refl, sym, ap, subst, ◌∙◌, inl, inr, arith}
 use Rattle.dom_tree.specs.Sound.{IsSound}
 use Rattle.event_file.specs.Events.{events_of}
 use Rattle.heap_walker.specs.Things.{IsWalk}
@@ -107,6 +107,19 @@ module _ (n : ℕ) where
     unmoved_ends not_both OutOfMemory h = inl tt
     unmoved_ends not_both (PageRefused None) h = absurd h
     unmoved_ends not_both status h = absurd h
+
+    -- the same of what the move answered
+    pub moved_if : (before after : List Event) (r : Result (ℕ × ℕ) Status) → before ≡ earlier events → after ≡ later events
+        → IfOk r (λ m. IsMovedBy page before after m.0 m.1) → IfOk r (λ m. IsMoved n m.0 m.1)
+    moved_if before after (Good m) b a h =
+        moved_gives m.0 m.1 (subst (λ es. IsMovedBy page (earlier events) es m.0 m.1) a (subst (λ es. IsMovedBy page es after m.0 m.1) b h))
+    moved_if before after (Err status) b a h = tt
+
+    pub unmoved_if : ((bytes : List ℕ) (page : Page) (cause : Refusal) → IsAccepted bytes page → IsRefused bytes cause → ⊥)
+        → (before : List Event) (r : Result (ℕ × ℕ) Status) → before ≡ earlier events
+        → IfErr r (IsUnmoved page before) → IfErr r (λ status. EndsAt (work_of (stress n)) status alone)
+    unmoved_if not_both before (Good m) b h = tt
+    unmoved_if not_both before (Err status) b h = unmoved_ends not_both status (subst (λ es. IsUnmoved page es status) b h)
 
   -- ---- one page and one list of events
 
