@@ -117,11 +117,16 @@ lines_text (r ∷ rs) w =
     ∙ ap (λ (t : List ℕ). 10 ∷ (text ++ t)) (lines_text rs false)
     ∙ ap (λ (t : List ℕ). 10 ∷ t) (sym (append_assoc text (10 ∷ []) (lines rs ++ codes "}")) ∙ sym (append_assoc (line r) (lines rs) (codes "}")))
 
+clearing_text : text_of (clearing_body ++ mark ∷ []) ++ 10 ∷ [] ≡ codes "document.removeChild(document.documentElement);\n"
+unfolding lib.Utf8.encode
+clearing_text = refl
+
 -- with the statement before them
 cleared_text : (rs : List Rebuild) (w : Bool) → lined_after w (all_marks rs) (cleared rs) ≡ 10 ∷ (codes "document.removeChild(document.documentElement);\n" ++ (lines rs ++ codes "}"))
 cleared_text rs w =
     line_text clearing_body (behind_head rs) w (marks_of rs)
     ∙ ap (λ (t : List ℕ). 10 ∷ (text_of (clearing_body ++ mark ∷ []) ++ t)) (lines_text rs false)
+    ∙ ap (λ (t : List ℕ). 10 ∷ t) (sym (append_assoc (text_of (clearing_body ++ mark ∷ [])) (10 ∷ []) (lines rs ++ codes "}")) ∙ ap (λ (t : List ℕ). t ++ (lines rs ++ codes "}")) clearing_text)
 
 head_text : text_of head_lexemes ≡ codes "\"use strict\";try{throw[];}catch($$){"
 head_text = ap (λ (d : List ℕ). codes "\"use strict\";try{throw[];}catch(" ++ ((d ++ (d ++ [])) ++ codes "){")) (encode_ascii 36 (lit< tt))

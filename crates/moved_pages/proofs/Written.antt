@@ -1,5 +1,5 @@
 -- The statements that rebuild a page at rest can be written, where its functions can be made again and it is no larger than a saved page may be.
-use Rattle.std.proofs.Common.{◌≡◌, ◌⊎◌, inl, inr, refl, sym, ap, ◌∙◌, ℕ, zero, suc, ◌+◌, ◌-◌, ◌<◌, ◌≤◌, ℤ, pos, negsuc, Bool, true, false, ◌&&◌, nat_eq, nat_le, nat_lt, List, [], ◌∷◌, ◌++◌, Option, Some, None, length, bytes_eq, if◌then◌else◌, arith}
+use Rattle.std.proofs.Common.{◌≡◌, inl, inr, refl, sym, ap, subst, ◌∙◌, ℕ, zero, suc, ◌+◌, ◌-◌, ◌<◌, ◌≤◌, ℤ, pos, negsuc, Bool, true, false, ◌&&◌, nat_eq, nat_le, nat_lt, List, [], ◌∷◌, ◌++◌, Option, Some, None, length, bytes_eq, if◌then◌else◌, arith}
 use Rattle.std.specs.Prelude.{⊤}
 use Rattle.std.specs.List.{All, list_all}
 use Rattle.std.specs.Option.{ForSome}
@@ -56,7 +56,7 @@ use Rattle.rebuild_plan.specs.declared.statement.Rebuild.{Rebuild}
 use Rattle.rebuild_plan.specs.declared.statement.Rebuild.TheVariants.{Make, Append, Attribute, SetValue, Init, Dispatch, Listen, Define, DefinePrototype, DefineLength, Filler, Clear, Timeout, Interval, Prevent}
 use Rattle.scope_analysis.specs.Needs.{needed_variables}
 use Rattle.timer_queue.specs.Timely.{AreTimely, IsPeriod, IsTimely}
-use Rattle.timer_queue.specs.Timers.{IsIn, is_live, timer_limit}
+use Rattle.timer_queue.specs.Timers.{is_live, timer_limit}
 use Rattle.timer_queue.specs.declared.timer.Live.{Live}
 use Rattle.early_rules.specs.Limits.{function_height_limit}
 use Rattle.moved_pages.proofs.UsedNames.{needed_named}
@@ -368,7 +368,8 @@ quiet_written n (r ∷ rs) few stands quiet is =
     let parts = and_parts (is_next n r && all_below (first_thing + n) (statement_names r)) (standing (made_by r + n) rs) stands in
     let own = and_parts (is_quiet r) (list_all is_quiet rs) quiet in
     let here = and_parts (is_next n r) (all_below (first_thing + n) (statement_names r)) parts.0 in
-    let others : standing n rs ≡ true = ap (λ m. standing (m + n) rs) (sym (none_made r own.0)) ∙ parts.1 in
+    let same : made_by r + n ≡ n = omega (arith, none_made r own.0) in
+    let others : standing n rs ≡ true = subst (λ m. standing m rs ≡ true) same parts.1 in
     All-cons IsWritable r rs (statement_written (first_thing + n) (low n few) r own.0 here.1 (All-head HasLiterals r rs is))
     (quiet_written n rs few others own.1 (All-tail HasLiterals r rs is))
 
@@ -383,7 +384,8 @@ makes_written s things (k ∷ ks) n rest few named stands quiet is =
     let others : List Rebuild = makes (suc n) (things_at s things ks) ++ rest in
     let here : n ≤ 75000 = omega (arith, few) in
     let names : Bool = all_below (first_thing + n) (maker_names m) in
-    let parts = and_parts (nat_eq n n && names) (standing (suc n) others) stands in
+    let next : 1 + n ≡ suc n = omega arith in
+    let parts = and_parts (nat_eq n n && names) (standing (suc n) others) (subst (λ j. ((nat_eq n n && names) && standing j others) ≡ true) next stands) in
     let own = and_parts (nat_eq n n) names parts.0 in
     let written =
     maker_written (first_thing + n) (low n here) m own.1 (All-head HasLiterals (Make n m) others is)

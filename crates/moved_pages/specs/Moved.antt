@@ -79,3 +79,7 @@ MovesJoin =
 abbrev pub AcceptedScriptsAreInForm : Type 0
 AcceptedScriptsAreInForm =
     (bytes : List ℕ) (page : Accepted) → IsAccepted bytes page → list_all in_form page.scripts ≡ true → All IsInForm page.scripts
+
+-- no attribute of an accepted page has a name that begins with `on`
+abbrev pub AcceptedPagesArePlain : Type 0
+AcceptedPagesArePlain = (bytes : List ℕ) (page : Accepted) → IsAccepted bytes page → ArePlain page.nodes

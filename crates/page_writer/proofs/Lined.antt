@@ -26,7 +26,7 @@ use Rattle.page_writer.specs.Statements.{binder, define_expr, giving, maker_expr
 use Rattle.page_writer.proofs.Fitness.{AllFit, AreLow, Fits, MakerFits, low_first}
 use Rattle.page_writer.proofs.Spelled.{part_of, reference_narrow, thing_narrow, value_wide}
 use Rattle.page_writer.proofs.Trees.{reference_base, reference_part}
-use Rattle.page_writer.proofs.Widths.{braced_wide, code_wide, count_wide, mark_wide, name_wide, nothing_wide, number_wide, parenthesised_wide, text_wide, wide, wide_append, wide_between}
+use Rattle.page_writer.proofs.Widths.{braced_wide, code_wide, count_wide, mark_wide, name_wide, nothing_wide, parenthesised_wide, text_wide, wide, wide_append, wide_between}
 
 -- the most bytes that what weighs so much takes
 abbrev pub bytes : Load → ℕ
@@ -421,27 +421,42 @@ closed_wide : wide (Punct punct.RightParenthesis ∷ Punct punct.Semicolon ∷ [
 unfolding wide
 closed_wide = refl
 
-pub filler_wide : wide (stmt_lexemes (statement Filler)) ≤ 30
-unfolding wide lib.Utf8.encode
-filler_wide = omega arith
+abbrev filler_front : List Lexeme
+filler_front = Name (codes "setTimeout") ∷ Punct punct.LeftParenthesis ∷ Name (codes "Object") ∷ Punct punct.Comma ∷ []
 
-pub clear_wide : (id : ℕ) → id < 100000 → wide (stmt_lexemes (statement (Clear id))) ≤ 30
-clear_wide id small =
+filler_front_wide : wide filler_front ≡ 19
+unfolding wide lib.Utf8.encode
+filler_front_wide = refl
+
+pub filler_wide : wide (stmt_lexemes (statement Filler)) ≤ 30
+filler_wide =
+    omega (
+      arith,
+      wide_between filler_front (Number (Some (pos 0)) ∷ []) (Punct punct.RightParenthesis ∷ Punct punct.Semicolon ∷ []),
+      filler_front_wide,
+      count_wide 0 (omega arith),
+      closed_wide,
+    )
+
+-- how wide a number is
+abbrev pub counted : ℕ → ℕ
+counted n = wide (Number (Some (pos n)) ∷ [])
+
+pub clear_wide : (id : ℕ) → wide (stmt_lexemes (statement (Clear id))) ≤ 16 + counted id
+clear_wide id =
     omega (
       arith,
       wide_between (called_front (codes "clearTimeout")) (Number (Some (pos id)) ∷ []) (Punct punct.RightParenthesis ∷ Punct punct.Semicolon ∷ []),
       called_wide.1,
-      count_wide id small,
       closed_wide,
     )
 
-pub timeout_wide : (f : ObjId) (rest : ℕ) → rest ≤ 9007199254740991
-    → wide (stmt_lexemes (statement (Timeout f rest))) ≤ wide (expr_lexemes (reference f)) + 40
-timeout_wide f rest small =
+pub timeout_wide : (f : ObjId) (rest : ℕ)
+    → wide (stmt_lexemes (statement (Timeout f rest))) ≤ wide (expr_lexemes (reference f)) + 15 + counted rest
+timeout_wide f rest =
     let front : List Lexeme = called_front (codes "setTimeout") in
     let comma : List Lexeme = Punct punct.Comma ∷ [] in
     let number : List Lexeme = Number (Some (pos rest)) ∷ [] in
-    let close : List Lexeme = Punct punct.RightParenthesis ∷ Punct punct.Semicolon ∷ [] in
     let given : List Lexeme = reference_part_of f ++ (comma ++ number) in
     let after : List Lexeme = given ++ Punct punct.RightParenthesis ∷ [] in
     omega (
@@ -453,14 +468,13 @@ timeout_wide f rest small =
       called_wide.0,
       ap wide (reference_part f),
       comma_wide,
-      number_wide rest small,
       mark_wide punct.RightParenthesis refl,
       mark_wide punct.Semicolon refl,
     )
 
-pub interval_wide : (f : ObjId) (rest period : ℕ) → rest ≤ 9007199254740991 → period ≤ 9007199254740991
-    → wide (stmt_lexemes (statement (Interval f rest period))) ≤ wide (expr_lexemes (reference f)) + 60
-interval_wide f rest period small fine =
+pub interval_wide : (f : ObjId) (rest period : ℕ)
+    → wide (stmt_lexemes (statement (Interval f rest period))) ≤ wide (expr_lexemes (reference f)) + 21 + counted rest + counted period
+interval_wide f rest period =
     let front : List Lexeme = called_front (codes "setIntervalFrom") in
     let comma : List Lexeme = Punct punct.Comma ∷ [] in
     let number : List Lexeme = Number (Some (pos rest)) ∷ [] in
@@ -478,8 +492,6 @@ interval_wide f rest period small fine =
       called_wide.2,
       ap wide (reference_part f),
       comma_wide,
-      number_wide rest small,
-      number_wide period fine,
       mark_wide punct.RightParenthesis refl,
       mark_wide punct.Semicolon refl,
     )

@@ -1,5 +1,5 @@
 -- The statements of nodes, events, listeners and timers as trees (ECMA-262 5.1 section 11; DOM Level 2 Core and Events; HTML, timers).
-use Rattle.std.specs.Prelude.{ℕ, Bool, List, [], ◌∷◌, None, codes}
+use Rattle.std.specs.Prelude.{ℕ, Bool, List, None, codes}
 use Rattle.js_core.specs.Tree as tree
 use Rattle.js_core.specs.Tree.{assign, bool, call, member, name, no_exprs, text, then_expr}
 use Rattle.js_values.specs.declared.ids.ObjId.{ObjId}

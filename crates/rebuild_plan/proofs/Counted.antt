@@ -32,7 +32,7 @@ use Rattle.timer_queue.specs.declared.timer.Live.{Live}
 use Rattle.rebuild_plan.specs.Compact.{Compact, Thing, compact, maker_as, moved_props, moved_proto, thing_of, things_at}
 use Rattle.rebuild_plan.specs.Count.{PlansAreFew}
 use Rattle.rebuild_plan.specs.Events.{SavedEvent, event_as, event_of}
-use Rattle.rebuild_plan.specs.Nodes.{moved_listeners, moved_nodes, node_as}
+use Rattle.rebuild_plan.specs.Nodes.{moved_listeners, moved_nodes, node_as, node_maker}
 use Rattle.rebuild_plan.specs.Plan.{appends, attributes, clears, define_length, defines, dispatch, each, event, fill, fillers, has_length, has_prototype, init, listens, makes, prevent, set_value, starts, statements_of, thing_place, timers, whole}
 use Rattle.rebuild_plan.specs.Timers.{moved_timers}
 use Rattle.rebuild_plan.specs.declared.phase.Phase.{Phase}
@@ -96,10 +96,20 @@ fill_count s things at o = by o.class
     props : Props
     props = moved_props things o.props
 
+    made_with : Maker → List Rebuild
+    made_with m = defines (has_length m) (has_prototype m) at props ++ define_length m at (own_property props length_name)
+
     filled : Class → List Rebuild
-    filled c =
-        let m : Maker = maker_as s things o.proto c in
-        defines (has_length m) (has_prototype m) at props ++ define_length m at (own_property props length_name)
+    filled c = made_with (maker_as s things o.proto c)
+
+    plain : length (defines false false at props ++ []) ≤ (props_load (written false o.props)).things
+    plain = omega (arith, length-append (defines false false at props) [], defines_count false false at things o.props)
+
+    by_kind : (k : Kind) → length (made_with (node_maker things o.proto k)) ≤ (props_load (written false o.props)).things
+    by_kind kind.Document = plain
+    by_kind (kind.Element name) = plain
+    by_kind (kind.Text text) = plain
+    by_kind (kind.Comment text) = plain
 
     by : (c : Class) → length (filled c) ≤ (props_load (written (has_made_length c) o.props)).things
     by class.List =
@@ -112,7 +122,8 @@ fill_count s things at o = by o.class
         )
     by (class.Page c env) = omega (arith, length-append (defines true true at props) [], defines_count true true at things o.props)
     by (class.Bound target this args) = omega (arith, length-append (defines true false at props) [], defines_count true false at things o.props)
-    by c = omega (arith, length-append (defines false false at props) [], defines_count false false at things o.props)
+    by (class.Node k) = by_kind (node_at s.host.nodes k.0).content.kind
+    by c = plain
 
 -- ---- nodes, events and timers
 

@@ -1,6 +1,6 @@
 -- The children of the document and of the things are nodes among the things, each once: there are no more of them than of those nodes.
-use Rattle.std.proofs.Common.{◌≡◌, ◌⊎◌, inl, inr, refl, sym, ap, subst, ◌∙◌, arith, ℕ, zero, suc, ◌<◌, ◌≤◌, Bool, true, false, ◌&&◌, ◌||◌, not, nat_eq, nat_lt, List, [], ◌∷◌, ◌++◌, None, Some, get_or, length, tt}
-use Rattle.std.proofs.lemmas.Bool.{and_from, and_parts, cases_eq, cases_lt, eq-eqb, eqb-true, ltb-true, not-true, or_cases, or_left, or_right}
+use Rattle.std.proofs.Common.{◌≡◌, ◌⊎◌, inl, inr, refl, sym, ap, ◌∙◌, arith, ℕ, zero, suc, ◌<◌, ◌≤◌, Bool, true, false, ◌&&◌, ◌||◌, not, nat_eq, nat_lt, List, [], ◌∷◌, ◌++◌, None, Some, get_or, length}
+use Rattle.std.proofs.lemmas.Bool.{and_from, and_parts, cases_lt, eq-eqb, eqb-true, ltb-true, not-true, or_cases, or_left, or_right}
 use Rattle.std.proofs.lemmas.Cmp.{nat_eq_equiv}
 use Rattle.std.proofs.lemmas.List.Folds.{list_any-append}
 use Rattle.std.proofs.lemmas.List.Kept.{AllPairs-from_increasing}
@@ -16,10 +16,9 @@ use Rattle.object_heap.specs.Chain.{object_at}
 use Rattle.object_heap.specs.Object.{Object}
 use Rattle.object_heap.specs.declared.object.Class.{Class}
 use Rattle.object_heap.specs.declared.object.Class.TheVariants as class
-use Rattle.object_shapes.specs.Shapes.{built_in_at}
-use Rattle.page_host.specs.Host.{document_of, object_of_node}
+use Rattle.page_host.specs.Host.{object_of_node}
 use Rattle.page_meaning.specs.Classes.{class_at, is_made}
-use Rattle.page_meaning.specs.Places.{built_in_count, document, window}
+use Rattle.page_meaning.specs.Places.{built_in_count, document}
 use Rattle.page_meaning.specs.Pristine.{built_ins}
 use Rattle.page_meaning.specs.Store.{Store}
 use Rattle.heap_walker.specs.Still.{Still}
@@ -60,6 +59,10 @@ head_has c xs = or_left (nat_eq c.0 c.0) (has c.0 xs) (eq-eqb c.0 c.0 refl)
 tail_has : (k : ℕ) (c : NodeId) (xs : List NodeId) → has k xs ≡ true → has k (c ∷ xs) ≡ true
 tail_has k c xs h = or_right (nat_eq k c.0) (has k xs) h
 
+has_behind : (k : ℕ) (xs ys : List NodeId) → has k ys ≡ true → has k (xs ++ ys) ≡ true
+has_behind k [] ys h = h
+has_behind k (x ∷ xs) ys h = tail_has k x (xs ++ ys) (has_behind k xs ys h)
+
 distinct_join : (xs ys : List NodeId) → is_distinct xs ≡ true → is_distinct ys ≡ true → ((c : ℕ) → has c xs ≡ true → has c ys ≡ true → ⊥) → is_distinct (xs ++ ys) ≡ true
 distinct_join [] ys d e apart = e
 distinct_join (c ∷ xs) ys d e apart =
@@ -75,7 +78,7 @@ distinct_join (c ∷ xs) ys d e apart =
         by (inl h) = cc (sym none ∙ h)
         by (inr h) = apart c.0 (head_has c xs) h
 
-ids : List NodeId → List ℕ
+abbrev ids : List NodeId → List ℕ
 ids [] = []
 ids (c ∷ l) = c.0 ∷ ids l
 
@@ -151,34 +154,30 @@ record IsAmong (s : Store) (ks : List ℕ) (c : ℕ) : Type 0 where
 
 kid_among : (s : Store) (ks : List ℕ) (c : ℕ) → has c (all_kids s ks) ≡ true → IsAmong s ks c
 kid_among s [] c h = cc h
-kid_among s (k ∷ ks) c h = by (has_append c (kids s k) (all_kids s ks) h)
+kid_among s (k ∷ ks) c h = by (has_append c (kids s k) (all_kids s ks) h) (λ g. kid_among s ks c g)
   where
     more : IsAmong s ks c → IsAmong s (k ∷ ks) c
     more a = record { object = a.object; there = or_right (nat_eq a.object k) (is_in a.object ks) a.there; kid = a.kid }
 
-    by : (has c (kids s k) ≡ true) ⊎ (has c (all_kids s ks) ≡ true) → IsAmong s (k ∷ ks) c
-    by (inl g) = record { object = k; there = or_left (nat_eq k k) (is_in k ks) (eq-eqb k k refl); kid = kid_is s k c g }
-    by (inr g) = more (kid_among s ks c g)
+    by : (has c (kids s k) ≡ true) ⊎ (has c (all_kids s ks) ≡ true) → (has c (all_kids s ks) ≡ true → IsAmong s ks c) → IsAmong s (k ∷ ks) c
+    by (inl g) later = record { object = k; there = or_left (nat_eq k k) (is_in k ks) (eq-eqb k k refl); kid = kid_is s k c g }
+    by (inr g) later = more (later g)
 
 -- the node of an object among these is among their nodes
 node_among : (s : Store) (ks : List ℕ) (j : ℕ) (c : NodeId) → is_in j ks ≡ true → (object_at s.heap.objects j).class ≡ class.Node c → has c.0 (all_nodes s ks) ≡ true
 node_among s [] j c h is = cc h
-node_among s (k ∷ ks) j c h is = by (or_cases (nat_eq j k) (is_in j ks) h)
+node_among s (k ∷ ks) j c h is = by (or_cases (nat_eq j k) (is_in j ks) h) (λ g. node_among s ks j c g is)
   where
-    later : has c.0 (all_nodes s ks) ≡ true → (l : List NodeId) → has c.0 (l ++ all_nodes s ks) ≡ true
-    later g [] = g
-    later g (d ∷ l) = or_right (nat_eq c.0 d.0) (has c.0 (l ++ all_nodes s ks)) (later g l)
-
     here : (object_at s.heap.objects k).class ≡ class.Node c → has c.0 (nodes_as (object_at s.heap.objects k).class ++ all_nodes s ks) ≡ true
     here e = rw e (head_has c (all_nodes s ks))
 
-    by : (nat_eq j k ≡ true) ⊎ (is_in j ks ≡ true) → has c.0 (all_nodes s (k ∷ ks)) ≡ true
-    by (inl same) = here (ap (λ n. (object_at s.heap.objects n).class) (sym (eqb-true j k same)) ∙ is)
-    by (inr more) = later (node_among s ks j c more is) (nodes_as (object_at s.heap.objects k).class)
+    by : (nat_eq j k ≡ true) ⊎ (is_in j ks ≡ true) → (is_in j ks ≡ true → has c.0 (all_nodes s ks) ≡ true) → has c.0 (all_nodes s (k ∷ ks)) ≡ true
+    by (inl same) later = here (ap (λ n. (object_at s.heap.objects n).class) (sym (eqb-true j k same)) ∙ is)
+    by (inr more) later = has_behind c.0 (nodes_as (object_at s.heap.objects k).class) (all_nodes s ks) (later more)
 
 -- ---- no built-in object is a node's
 
-are_made : List Object → Bool
+abbrev are_made : List Object → Bool
 are_made [] = true
 are_made (o ∷ os) = is_made o.class && are_made os
 
@@ -190,6 +189,47 @@ made_at [] k h = refl
 made_at (o ∷ os) zero h = (and_parts (is_made o.class) (are_made os) h).0
 made_at (o ∷ os) (suc k) h = made_at os k (and_parts (is_made o.class) (are_made os) h).1
 
+made_is_no_node : (b : Class) (c : NodeId) → is_made b ≡ true → b ≡ class.Node c → ⊥
+made_is_no_node b c h e = cc (sym h ∙ ap is_made e)
+
+-- ---- nodes, and the objects of nodes
+
+some_node : (l : Nodes) → is_document (kind_at l 0) ≡ true → 0 < length l
+some_node [] h = absurd (cc h)
+some_node (n ∷ l) h = omega arith
+
+no_parent : (p : NodeId) → None ≡ Some p → ⊥
+no_parent p e = cc e
+
+same_parent : (p q : NodeId) → Some p ≡ Some q → p.0 ≡ q.0
+same_parent p q e = cc e
+
+same_node : (c d : NodeId) → class.Node c ≡ class.Node d → c.0 ≡ d.0
+same_node c d e = cc e
+
+pub node_linked : (objects : List ObjId) (c : NodeId) (l : List NodeId) → has c.0 l ≡ true → is_in (object_of_node objects c).0 (nodes_links objects l) ≡ true
+node_linked objects c [] h = cc h
+node_linked objects c (d ∷ l) h = by (or_cases (nat_eq c.0 d.0) (has c.0 l) h) (λ g. node_linked objects c l g)
+  where
+    at : ℕ
+    at = (object_of_node objects c).0
+
+    same : c.0 ≡ d.0 → at ≡ (object_of_node objects d).0
+    same e = ap (λ n. (object_of_node objects (record { 0 = n })).0) e
+
+    by : (nat_eq c.0 d.0 ≡ true) ⊎ (has c.0 l ≡ true) → (has c.0 l ≡ true → is_in at (nodes_links objects l) ≡ true) → is_in at (nodes_links objects (d ∷ l)) ≡ true
+    by (inl e) later = or_left (nat_eq at (object_of_node objects d).0) (is_in at (nodes_links objects l)) (eq-eqb at (object_of_node objects d).0 (same (eqb-true c.0 d.0 e)))
+    by (inr g) later = or_right (nat_eq at (object_of_node objects d).0) (is_in at (nodes_links objects l)) (later g)
+
+-- a place that differs from each of these is none of them
+none_same : (k : ℕ) (js : List ℕ) → AllByRecursion (λ j. nat_eq k j ≡ false) js → (i : ℕ) → is_in i js ≡ true → k ≡ i → ⊥
+none_same k [] all i there e = cc there
+none_same k (j ∷ js) all i there e = by (or_cases (nat_eq i j) (is_in i js) there) (λ g. none_same k js all.1 i g e)
+  where
+    by : (nat_eq i j ≡ true) ⊎ (is_in i js ≡ true) → (is_in i js ≡ true → ⊥) → ⊥
+    by (inl g) later = cc (sym all.0 ∙ eq-eqb k j (e ∙ eqb-true i j g))
+    by (inr g) later = later g
+
 -- ---- of a page at rest
 
 module _ (s : Store) (things : List ℕ) (still : Still s) (walk : IsWalk s things) where
@@ -199,36 +239,29 @@ module _ (s : Store) (things : List ℕ) (still : Still s) (walk : IsWalk s thin
   nodes_sound : IsSound t
   nodes_sound = still.shaped.host.sound.nodes
 
-  some_node : 0 < length t
-  some_node = by t (nodes_sound.document 0)
-    where
-      by : (l : Nodes) → is_document (kind_at l 0) ≡ nat_eq 0 0 → 0 < length l
-      by [] h = absurd (cc h)
-      by (n ∷ l) h = omega arith
-
   pub document_class : class_at s document ≡ class.Node (record { 0 = 0 })
-  document_class = ap (class_at s) (sym still.shaped.host.document) ∙ still.shaped.host.object_of 0 some_node
+  document_class = ap (class_at s) (sym still.shaped.host.document) ∙ still.shaped.host.object_of 0 (some_node t (nodes_sound.document 0))
 
-  -- a node that is a child has no place of a built-in object, nor the document's
+  built_in_made : (j : ℕ) → j < built_in_count → is_made (object_at s.heap.objects j).class ≡ true
+  built_in_made zero low = ap is_made still.shaped.window.class
+  built_in_made (suc i) low = ap (λ (o : Object). is_made o.class) (still.shaped.built_ins (suc i) (omega arith) low) ∙ made_at built_ins (suc i) all_made
+
+  -- no object that is built in is a node's
+  pub built_in_is_no_node : (j : ℕ) (c : NodeId) → j < built_in_count → (object_at s.heap.objects j).class ≡ class.Node c → ⊥
+  built_in_is_no_node j c low is = made_is_no_node (object_at s.heap.objects j).class c (built_in_made j low) is
+
+  -- nor is the document a child
   low_is_no_kid : (j p : ℕ) (c : NodeId) → j < first_thing → (object_at s.heap.objects j).class ≡ class.Node c → has c.0 (children_at t p) ≡ true → ⊥
-  low_is_no_kid zero p c low is child = cc (sym still.shaped.window.class ∙ is)
-  low_is_no_kid (suc i) p c low is child = by (cases_lt (suc i) built_in_count)
+  low_is_no_kid j p c low is child = by (cases_lt j built_in_count)
     where
-      built : suc i < built_in_count → is_made (object_at s.heap.objects (suc i)).class ≡ true
-      built h = ap (λ (o : Object). is_made o.class) (still.shaped.built_ins (suc i) (omega arith) h) ∙ made_at built_ins (suc i) all_made
-
       first : c.0 ≡ 0 → ⊥
-      first e =
-          let none : parent_at t c.0 ≡ None = ap (parent_at t) e ∙ nodes_sound.root in
-          let some = parent_of_child t nodes_sound.trees p c.0 child in
-          cc (sym none ∙ some)
+      first e = no_parent (record { 0 = p }) (sym nodes_sound.root ∙ ap (parent_at t) (sym e) ∙ parent_of_child t nodes_sound.trees p c.0 child)
 
-      by : (suc i < built_in_count) ⊎ (built_in_count ≤ suc i) → ⊥
-      by (inl h) = cc (sym (built h) ∙ ap is_made is)
+      by : (j < built_in_count) ⊎ (built_in_count ≤ j) → ⊥
+      by (inl h) = built_in_is_no_node j c h is
       by (inr h) =
-          let last : suc i ≡ document.0 = omega (arith, h, low) in
-          let same : class.Node c ≡ class.Node (record { 0 = 0 }) = sym is ∙ ap (λ n. (object_at s.heap.objects n).class) last ∙ document_class in
-          first (cc same)
+          let last : j ≡ document.0 = omega (arith, h, low) in
+          first (same_node c (record { 0 = 0 }) (sym is ∙ ap (λ n. (object_at s.heap.objects n).class) last ∙ document_class))
 
   -- it is that of a thing
   kid_is_node : (k c : ℕ) → (k ≡ document.0) ⊎ (is_in k things ≡ true) → IsKid s k c → has c (all_nodes s things) ≡ true
@@ -243,25 +276,12 @@ module _ (s : Store) (things : List ℕ) (still : Still s) (walk : IsWalk s thin
       at_class : (object_at s.heap.objects at.0).class ≡ class.Node node
       at_class = still.shaped.host.object_of c (child_in t nodes_sound.trees kid.node.0 c kid.child)
 
-      in_links : (l : List NodeId) → has c l ≡ true → is_in at.0 (nodes_links s.host.objects l) ≡ true
-      in_links [] h = cc h
-      in_links (d ∷ l) h = of (or_cases (nat_eq c d.0) (has c l) h)
-        where
-          same_at : d.0 ≡ c → (object_of_node s.host.objects d).0 ≡ at.0
-          same_at e = ap (λ n. (object_of_node s.host.objects (record { 0 = n })).0) e
-
-          of : (nat_eq c d.0 ≡ true) ⊎ (has c l ≡ true) → is_in at.0 (nodes_links s.host.objects (d ∷ l)) ≡ true
-          of (inl e) =
-              or_left (nat_eq at.0 (object_of_node s.host.objects d).0) (is_in at.0 (nodes_links s.host.objects l))
-              (eq-eqb at.0 (object_of_node s.host.objects d).0 (sym (same_at (sym (eqb-true c d.0 e)))))
-          of (inr g) = or_right (nat_eq at.0 (object_of_node s.host.objects d).0) (is_in at.0 (nodes_links s.host.objects l)) (in_links l g)
-
       linked : is_in at.0 (links s k) ≡ true
       linked =
           let up = parent_links s.host.objects (parent_at t kid.node.0) in
           let down = nodes_links s.host.objects (children_at t kid.node.0) in
           let calls = calls_links (heard_at kid.node.0 s.host.listeners) in
-          let here : is_in at.0 (host_links s.host (class.Node kid.node)) ≡ true = among_right at.0 up (down ++ calls) (among_left at.0 down calls (in_links (children_at t kid.node.0) kid.child)) in
+          let here : is_in at.0 (host_links s.host (class.Node kid.node)) ≡ true = among_right at.0 up (down ++ calls) (among_left at.0 down calls (node_linked s.host.objects node (children_at t kid.node.0) kid.child)) in
           host_among s k at.0 (ap (λ b. is_in at.0 (host_links s.host b)) kid.class ∙ here)
 
       place : (k ≡ document.0) ⊎ (is_in k things ≡ true) → (at.0 < first_thing) ⊎ (is_in at.0 things ≡ true)
@@ -277,11 +297,11 @@ module _ (s : Store) (things : List ℕ) (still : Still s) (walk : IsWalk s thin
   one_parent j k c a b =
       let one = parent_of_child t nodes_sound.trees a.node.0 c a.child in
       let other = parent_of_child t nodes_sound.trees b.node.0 c b.child in
-      let same : a.node.0 ≡ b.node.0 = cc (sym one ∙ other) in
+      let same : a.node.0 ≡ b.node.0 = same_parent (record { 0 = a.node.0 }) (record { 0 = b.node.0 }) (sym one ∙ other) in
       let left : object_of_node s.host.objects a.node ≡ record { 0 = j } = (still.shaped.host.node_of j a.node.0 a.class).1 in
       let right : object_of_node s.host.objects b.node ≡ record { 0 = k } = (still.shaped.host.node_of k b.node.0 b.class).1 in
       let both : object_of_node s.host.objects a.node ≡ object_of_node s.host.objects b.node = ap (λ n. object_of_node s.host.objects (record { 0 = n })) same in
-      cc (sym left ∙ both ∙ right)
+      ap (λ (at : ObjId). at.0) (sym left ∙ both ∙ right)
 
   kids_distinct : (k : ℕ) → is_distinct (kids s k) ≡ true
   kids_distinct k = by (object_at s.heap.objects k).class
@@ -297,16 +317,7 @@ module _ (s : Store) (things : List ℕ) (still : Still s) (walk : IsWalk s thin
     where
       apart : (c : ℕ) → has c (kids s k) ≡ true → IsAmong s ks c → ⊥
       apart c h a =
-          let same : k ≡ a.object = one_parent k a.object c (kid_is s k c h) a.kid in
-          differ ks (IsDistinct-head nat_eq k ks d) a.object a.there same
-        where
-          differ : (js : List ℕ) → AllByRecursion (λ j. nat_eq k j ≡ false) js → (i : ℕ) → is_in i js ≡ true → k ≡ i → ⊥
-          differ [] all i there e = cc there
-          differ (j ∷ js) all i there e = by (or_cases (nat_eq i j) (is_in i js) there)
-            where
-              by : (nat_eq i j ≡ true) ⊎ (is_in i js ≡ true) → ⊥
-              by (inl g) = cc (sym all.0 ∙ eq-eqb k j (e ∙ eqb-true i j g))
-              by (inr g) = differ js all.1 i g e
+          none_same k ks (IsDistinct-head nat_eq k ks d) a.object a.there (one_parent k a.object c (kid_is s k c h) a.kid)
 
   -- the children of the document and of the things
   pub kids_few : length (all_kids s (document.0 ∷ things)) ≤ length (all_nodes s things)

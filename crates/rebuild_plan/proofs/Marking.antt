@@ -1,9 +1,9 @@
 -- The marks of ids say which timers are live, whatever their functions and times.
-use Rattle.std.proofs.Common.{◌≡◌, ◌≢◌, ◌⊎◌, inl, inr, refl, sym, ap, ◌∙◌, arith, ℕ, zero, suc, ◌+◌, ◌-◌, ◌<◌, ◌≤◌, ◌==◌, ◌||◌, Bool, true, false, List, [], ◌∷◌, ◌++◌, append_assoc, length, slice_set}
+use Rattle.std.proofs.Common.{◌≡◌, refl, sym, ap, subst, ◌∙◌, arith, ℕ, zero, suc, ◌+◌, ◌-◌, ◌<◌, ◌≤◌, ◌||◌, Bool, true, false, List, [], ◌∷◌, ◌++◌, append_assoc, drop, get_or, length, take}
 use Rattle.std.specs.Prelude.{max}
-use Rattle.std.proofs.Math.Bool.{or-false, or-true}
-use Rattle.std.proofs.lemmas.Bool.{cases_eq}
-use Rattle.std.proofs.lemmas.List.{get_or-set_other, get_or-set_same, length-set}
+use Rattle.std.proofs.Math.Bool.{or-false}
+use Rattle.std.proofs.lemmas.List.{nil_from_length}
+use Rattle.scope_analysis.proofs.Callers.{next_of}
 use Rattle.heap_walker.specs.Weight.{greatest}
 use Rattle.timer_queue.specs.Timers.{has_id, is_live}
 use Rattle.timer_queue.specs.declared.timer.Live.{Live}
@@ -11,6 +11,7 @@ use Rattle.rebuild_plan.specs.Marks.{AreSet, clear_all, clear_unless, mark_at, n
 use Rattle.rebuild_plan.specs.Plan.{clears, fillers, starts, timers}
 use Rattle.rebuild_plan.specs.Timers.{moved_timers}
 use Rattle.rebuild_plan.specs.declared.statement.Rebuild.{Rebuild}
+use Rattle.rebuild_plan.specs.declared.statement.Rebuild.TheVariants.{Filler}
 
 -- ---- timers that are moved
 
@@ -41,36 +42,7 @@ timers_pushed old things clock ts =
 
 -- ---- marks
 
-same_id : (id k : ℕ) → id ≡ k → (id == k) ≡ true
-same_id id k h = grind (arith, nat_tests)
-
-other_id : (id k : ℕ) → id ≢ k → (id == k) ≡ false
-other_id id k h = grind (arith, nat_tests)
-
-pub one_set : (ms : List Bool) (t : Live) → 0 < t.id → t.id ≤ length ms → AreSet ms (slice_set ms (t.id - 1) true) (t ∷ [])
-one_set ms t above within = record { long = length-set ms (t.id - 1) true; each = λ k inside. at k (cases_eq k (t.id - 1)) }
-  where
-    at : (k : ℕ) → (k ≡ t.id - 1) ⊎ (k ≡ t.id - 1 → ⊥) → mark_at (slice_set ms (t.id - 1) true) k ≡ (mark_at ms k || is_live (t ∷ []) (k + 1))
-    at k (inl here) =
-        let found : (t.id == k + 1) ≡ true = same_id t.id (k + 1) (omega (arith, here, above)) in
-        ap (mark_at (slice_set ms (t.id - 1) true)) here ∙ get_or-set_same ms (t.id - 1) true false (omega (arith, above, within))
-        ∙ sym (ap (λ b. mark_at ms k || (b || false)) found ∙ or-true (mark_at ms k))
-    at k (inr there) =
-        let other : (t.id == k + 1) ≡ false = other_id t.id (k + 1) (λ e. there (omega (arith, e))) in
-        get_or-set_other ms (t.id - 1) k true false there ∙ sym (ap (λ b. mark_at ms k || (b || false)) other ∙ or-false (mark_at ms k))
-
-pub none_set : (ms : List Bool) (t : Live) → (t.id ≡ 0) ⊎ (length ms < t.id) → AreSet ms ms (t ∷ [])
-none_set ms t out = record { long = refl; each = λ k inside. at k inside out }
-  where
-    at : (k : ℕ) → k < length ms → (t.id ≡ 0) ⊎ (length ms < t.id) → mark_at ms k ≡ (mark_at ms k || is_live (t ∷ []) (k + 1))
-    at k inside (inl e) =
-        let other : (t.id == k + 1) ≡ false = other_id t.id (k + 1) (λ h. absurd (omega (arith, e, h))) in
-        sym (ap (λ b. mark_at ms k || (b || false)) other ∙ or-false (mark_at ms k))
-    at k inside (inr e) =
-        let other : (t.id == k + 1) ≡ false = other_id t.id (k + 1) (λ h. absurd (omega (arith, e, h, inside))) in
-        sym (ap (λ b. mark_at ms k || (b || false)) other ∙ or-false (mark_at ms k))
-
-pub all_set : (ms : List Bool) → AreSet ms ms []
+all_set : (ms : List Bool) → AreSet ms ms []
 all_set ms = record { long = refl; each = λ k inside. sym (or-false (mark_at ms k)) }
 
 three : (a b c : Bool) → ((a || (b || false)) || c) ≡ (a || (b || c))
@@ -85,6 +57,16 @@ more_set ms ns ls t ts one others = record {
       ∙ three (mark_at ms k) (has_id (k + 1) t) (is_live ts (k + 1));
 }
 
+-- a loop over the timers
+pub set_goes_on : (first ms ns : List Bool) (rest ts : List Live) (t : Live) → 1 ≤ length rest → t ≡ get_or rest 0 t → AreSet ms ns (t ∷ [])
+    → ((last : List Bool) → AreSet ms last rest → AreSet first last ts)
+    → (last : List Bool) → AreSet ns last (take (length rest - 1) (drop 1 rest)) → AreSet first last ts
+set_goes_on first ms ns rest ts t some is one invariant last others =
+    invariant last (subst (λ r. AreSet ms last r) (sym (next_of rest t some is)) (more_set ms ns last t (take (length rest - 1) (drop 1 rest)) one others))
+
+pub set_ends : (first ms : List Bool) (rest ts : List Live) → length rest < 1 → ((last : List Bool) → AreSet ms last rest → AreSet first last ts) → AreSet first ms ts
+set_ends first ms rest ts none invariant = invariant ms (subst (λ r. AreSet ms ms r) (sym (nil_from_length rest (omega (arith, none)))) (all_set ms))
+
 none_long : (n : ℕ) → length (no_marks n) ≡ n
 none_long zero = refl
 none_long (suc n) = ap suc (none_long n)
@@ -93,6 +75,18 @@ none_at : (n k : ℕ) → mark_at (no_marks n) k ≡ false
 none_at zero k = refl
 none_at (suc n) zero = refl
 none_at (suc n) (suc k) = none_at n k
+
+pub one_unset : (old new : List Bool) (left : ℕ) → 0 < left → new ≡ old ++ false ∷ [] → new ++ no_marks (left - 1) ≡ old ++ no_marks left
+one_unset old new zero some e = absurd (omega (arith, some))
+one_unset old new (suc n) some e =
+    let less : suc n - 1 ≡ n = omega arith in
+    ap (λ l. l ++ no_marks (suc n - 1)) e ∙ append_assoc old (false ∷ []) (no_marks (suc n - 1)) ∙ ap (λ k. old ++ false ∷ no_marks k) less
+
+pub one_filled : (old new : List Rebuild) (left : ℕ) → 0 < left → new ≡ old ++ Filler ∷ [] → new ++ fillers (left - 1) ≡ old ++ fillers left
+one_filled old new zero some e = absurd (omega (arith, some))
+one_filled old new (suc n) some e =
+    let less : suc n - 1 ≡ n = omega arith in
+    ap (λ l. l ++ fillers (suc n - 1)) e ∙ append_assoc old (Filler ∷ []) (fillers (suc n - 1)) ∙ ap (λ k. old ++ Filler ∷ fillers k) less
 
 cleared : (ms : List Bool) (id : ℕ) (ts : List Live) → ((k : ℕ) → k < length ms → mark_at ms k ≡ is_live ts (id + k)) → clear_all id ms ≡ clears (length ms) id ts
 cleared [] id ts each = refl

@@ -118,7 +118,7 @@ found_below p (x ∷ xs) h = by (p x) refl (λ g. found_below p xs g)
         rw here (omega (arith, more))
 
 -- the place of what is built in or a thing, which has this number
-number_at : (things : List ℕ) (j : ℕ) → is_in j things ≡ true → (i : ℕ) × (position (nat_eq j) things ≡ Some i) × (i < length things) × (get_or things i 0 ≡ j)
+pub number_at : (things : List ℕ) (j : ℕ) → is_in j things ≡ true → (i : ℕ) × (position (nat_eq j) things ≡ Some i) × (i < length things) × (get_or things i 0 ≡ j)
 number_at things j h =
     let i : ℕ = position_or_len (nat_eq j) things in
     let inside : i < length things = found_below (nat_eq j) things h in

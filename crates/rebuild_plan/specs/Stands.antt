@@ -1,5 +1,5 @@
 -- That the statements of a plan name only what already stands, and the law of it.
-use Rattle.std.specs.Prelude.{ℕ, suc, ◌+◌, Bool, true, ◌&&◌, nat_eq, List, [], ◌∷◌, ◌++◌, IsTrue}
+use Rattle.std.specs.Prelude.{ℕ, ◌+◌, Bool, true, ◌&&◌, nat_eq, List, [], ◌∷◌, ◌++◌, IsTrue}
 use Rattle.heap_walker.specs.Still.{Still}
 use Rattle.heap_walker.specs.Things.{IsWalk, needs_links}
 use Rattle.object_shapes.specs.Links.{all_below, proto_links, value_links, values_links}

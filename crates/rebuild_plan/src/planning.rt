@@ -1,9 +1,11 @@
 //! The plan of a page.
 
-ghost use Rattle.std.specs.Prelude.{◌≡◌, ◌++◌, ℕ, List, IfOk, OnOk};
+ghost use Rattle.std.specs.Prelude.{◌≡◌, ◌++◌, ◌∷◌, [], IfOk, OnOk, if◌then◌else◌};
 ghost use Rattle.heap_walker.specs.Heard.{AreHeard};
+ghost use Rattle.object_heap.specs.Chain.{object_at};
 ghost use Rattle.rebuild_plan.specs.Compact as saved;
 ghost use Rattle.rebuild_plan.specs.Plan as spec;
+ghost use Rattle.rebuild_plan.specs.declared.statement.Rebuild.TheVariants.{Prevent};
 
 use crate::events::push_event;
 use crate::makers::maker_of;
@@ -146,8 +148,8 @@ fn push_prevent(
     place: ObjId,
     plan: &mut Vec<Rebuild>,
 ) -> Result<(), OutOfMemory>
-    ensures { (things : List ℕ) → OnOk result (plan.new.items ≡ plan.old.items
-        ++ spec.prevent place (saved.thing_at state.now things at.0)) }
+    ensures { OnOk result (plan.new.items ≡ plan.old.items
+        ++ (if (object_at state.now.heap.objects at.0).extensible then [] else Prevent place ∷ [])) }
 {
     if !state.is_extensible(at) {
         plan.push(Rebuild::Prevent { at: place })?;

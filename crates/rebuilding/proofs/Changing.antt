@@ -1,23 +1,24 @@
 -- What a statement changes of an object that stands: one that is built in and not the global object is closed and throws.
-use Rattle.std.proofs.Common.{◌≡◌, ◌⊎◌, inl, inr, refl, sym, ap, subst, ◌∙◌, ℕ, zero, suc, ◌+◌, ◌<◌, ◌≤◌, Bool, true, false, ◌&&◌, ◌||◌, nat_eq, nat_lt, List, [], ◌∷◌, None, is_some, drop, length, arith, if◌then◌else◌}
+use Rattle.std.proofs.Common.{◌≡◌, ◌⊎◌, inl, inr, refl, sym, ap, subst, ◌∙◌, ℕ, zero, suc, ◌+◌, ◌<◌, ◌≤◌, Bool, true, false, ◌&&◌, ◌||◌, nat_eq, nat_lt, List, [], ◌∷◌, None, is_some, drop, length, arith, if◌then◌else◌, not}
 use Rattle.std.proofs.lemmas.Bool.{and_parts, cases_eq, eq-eqb, or_parts}
 use Rattle.std.specs.List.{list_all}
 use Rattle.global_names.specs.Names.{names_global}
 use Rattle.js_values.specs.declared.throw.Throw.{Throw}
 use Rattle.js_values.specs.declared.throw.Throw.TheVariants.{CannotDefine}
-use Rattle.object_heap.proofs.Callers.{object_set_same, sound_define_own, sound_prevent}
+use Rattle.object_heap.proofs.Callers.{object_set_same, sound_define_own, sound_prevent, sound_steps}
 use Rattle.object_heap.specs.Attempt.{Attempt, throws}
 use Rattle.object_heap.specs.Chain.{object_at}
 use Rattle.object_heap.specs.Define as object
 use Rattle.object_heap.specs.Define.{is_closed_at, prevented}
 use Rattle.object_heap.specs.Heap.{Contents, IsSound, define_own, prevent_extensions, with_object}
-use Rattle.object_heap.specs.Object.{Object, is_window}
+use Rattle.object_heap.specs.Object.{Object, is_window, is_event}
 use Rattle.object_heap.specs.Property.{own_property}
+use Rattle.object_heap.specs.declared.object.Class.TheVariants as class
 use Rattle.object_heap.specs.declared.property.Change.{Change}
 use Rattle.page_host.specs.Host.{Host}
 use Rattle.page_meaning.specs.Places.{document, window}
 use Rattle.page_meaning.specs.Pristine.{built_ins}
-use Rattle.rebuilding.specs.Running.{HasChanged}
+use Rattle.rebuilding.specs.Running.{HasChanged, with_parts}
 use Rattle.rebuilding.specs.Scene.{IsDocument, IsRunning, Scene, frame_count}
 use Rattle.rebuilding.specs.Sites.{site}
 use Rattle.rebuilding.proofs.DocumentStays.{document_defined, document_prevented}
@@ -26,6 +27,9 @@ use Rattle.rebuilding.proofs.WindowStays.{is_built, window_defined}
 use Rattle.object_shapes.specs.Shapes.{IsWindow, built_in_at}
 use Rattle.page_meaning.specs.Places.{built_in_count}
 use Rattle.rebuild_plan.specs.Moved.{first_thing}
+use Rattle.object_heap.specs.Laws.{gives_parts}
+use Rattle.object_heap.specs.declared.object.EventParts.{EventParts}
+use Rattle.rebuilding.proofs.Placed.{at_or}
 
 -- ---- what is closed
 
@@ -44,6 +48,19 @@ built_in_closed (suc k) h = all_closed (drop 1 built_ins) others_closed k
 thrown_none : {A : Type 0} (b : Bool) (x : A) (t : Throw) (y : Attempt A) → (if b then throws x t else y).thrown ≡ None → b ≡ false
 thrown_none true x t y h = cc h
 thrown_none false x t y h = refl
+
+-- no built-in object is an event
+abbrev plain_class : Object → Bool
+plain_class o = not (is_event o.class)
+
+all_plain : list_all plain_class built_ins ≡ true
+all_plain = refl
+
+not_both : (o : Object) (parts : EventParts) → plain_class o ≡ true → o.class ≡ class.Event parts → ⊥
+not_both o parts plain e = cc (plain, e)
+
+no_event : (k : ℕ) (parts : EventParts) → (built_in_at k).class ≡ class.Event parts → ⊥
+no_event k parts e = not_both (built_in_at k) parts (at_or plain_class built_ins k all_plain refl) e
 
 -- the object is a thing, or the global one, or the document's
 data IsFree (k : ℕ) : Type 0 where
@@ -127,6 +144,30 @@ module _ (c : Scene) (h : Contents) (sites : List ℕ) (r : IsRunning c h sites)
         let who = may_change c h sites (site sites at) r (site_place c h sites r at stands) open_place in
         let result = changed_so (object.define_own o name change).after (sound_define_own h r.sound (site sites at) name change) (defined_who who) in
         record { thrown = done; running = result.running; changed = result.changed }
+
+  -- an event with other parts
+  pub parts_at : (parts : EventParts) (f : EventParts → EventParts) → (object_at h.objects (site sites at)).class ≡ class.Event parts
+      → IsChanged c h sites (site sites at)
+      (record { after = with_object h (site sites at) (with_parts (object_at h.objects (site sites at)) f); thrown = None })
+      (with_parts (object_at h.objects (site sites at)) f)
+  parts_at parts f is =
+      changed_so (with_parts (object_at h.objects (site sites at)) f) (sound_steps h (gives_parts (site sites at) f ∷ []) r.sound) (who (site_place c h sites r at stands))
+    where
+      open_event : (k : ℕ) → 0 < k → k < built_in_count → object_at h.objects k ≡ built_in_at k → (object_at h.objects k).class ≡ class.Event parts → ⊥
+      open_event k some low e own = no_event k parts (sym (ap (λ (o : Object). o.class) e) ∙ own)
+
+      who : (site sites at < first_thing) ⊎ Stands c h (site sites at) → MayChange (site sites at) (with_parts (object_at h.objects (site sites at)) f)
+      who (inr s) = inl s.young
+      who (inl low) = by (cases_eq (site sites at) 0) (cases_eq (site sites at) document.0)
+        where
+          by : (site sites at ≡ 0) ⊎ (site sites at ≡ 0 → ⊥) → (site sites at ≡ document.0) ⊎ (site sites at ≡ document.0 → ⊥)
+              → MayChange (site sites at) (with_parts (object_at h.objects (site sites at)) f)
+          by (inl e) b = cc (sym (ap (λ k. (object_at h.objects k).class) e ∙ r.window.class) ∙ is)
+          by (inr far) (inl e) = cc (sym (ap (λ k. (object_at h.objects k).class) e ∙ r.document.class) ∙ is)
+          by (inr far) (inr apart) =
+              let some : 0 < site sites at = omega (arith, far) in
+              let below : site sites at < built_in_count = omega (arith, low, apart) in
+              absurd (open_event (site sites at) some below (r.built_ins (site sites at) some below) is)
 
   module _ (done : (prevented (object_at h.objects (site sites at))).thrown ≡ None) where
     prevented_who : is_window (object_at h.objects (site sites at)).class ≡ false → IsFree (site sites at)

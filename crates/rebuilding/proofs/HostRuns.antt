@@ -76,9 +76,6 @@ hosting_kept h g s k is =
     record {
       sound = hosts_stay_sound g s is.sound;
       objects = λ m low. subst (λ os. IsAt m os) (sym a.objects) (is.objects m (subst (λ n. m < n) a.nodes low));
-      nodes = λ m n there e.
-          (subst (λ l. n < l) (sym a.nodes) (is.nodes m n there e).0,
-          ap (λ os. object_of_node os (nth_node n)) a.objects ∙ (is.nodes m n there e).1);
       clock = a.clock ∙ is.clock;
     }
   where
@@ -185,12 +182,12 @@ module _ (c : Scene) (s : Store) (sites : List ℕ) (r : IsRunning c s.heap site
     hosting = takes.hosting;
   }
 
-  pub dispatched : (at event : ObjId) → CanDispatch s.heap s.host sites at event → site sites at.0 < length s.heap.objects → site sites event.0 < length s.heap.objects
+  pub dispatched : (at event : ObjId) → CanDispatch s.heap s.host sites at event → site sites event.0 < length s.heap.objects
       → Takes (site sites event.0) (with_parts (object_here s.heap sites event) (λ p. after_event rests (after_event (begins (sited sites at)) p)))
       → RunsSo (Dispatch at event)
-  dispatched at event can at_there event_there takes =
+  dispatched at event can event_there takes =
       let k = node_here s.heap sites at in
-      let same : object_of_node s.host.objects k ≡ sited sites at = (is.nodes (site sites at.0) k.0 at_there can.is.class).1 in
+      let same : object_of_node s.host.objects k ≡ sited sites at = can.is.own in
       let fits : is_node_class s.host.nodes (class_at s (sited sites at)) ≡ true = ap (is_node_class s.host.nodes) can.is.class ∙ can.is.there in
       record {
         after = with_object s.heap (site sites event.0) (with_parts (object_here s.heap sites event) (λ p. after_event rests (after_event (begins (sited sites at)) p)));

@@ -15,7 +15,7 @@ use Rattle.page_meaning.specs.Store.{Store}
 use Rattle.rebuild_plan.specs.Compact.{maker_as, moved, moved_needs, moved_proto, moved_value, moved_values}
 use Rattle.rebuild_plan.specs.Stands.{maker_names}
 use Rattle.rebuild_plan.specs.declared.statement.Maker.TheVariants.{Bind}
-use Rattle.rebuilding.specs.Rebuilt.{ClassIsRebuilt, bound, fault, list, page, plain}
+use Rattle.rebuilding.specs.Rebuilt.{ClassIsRebuilt, bound, fault, list, page, plain, event, node}
 use Rattle.rebuilding.specs.Scene.{IsBinding, IsRoundOf, Scene, bare, named, needed, none_needed}
 use Rattle.rebuilding.specs.Sites.{site, sited, sited_proto, sited_value, sited_values}
 use Rattle.rebuilding.proofs.Placed.{array_low, error_low, event_low, function_low, node_low, needs_stay, proto_built_in, proto_stays, site_stays, value_stays, values_stay}
@@ -97,6 +97,8 @@ module _ (c : Scene) (es fs : List Environment) (more : length es ≤ length fs)
   class_stays s things sites place k proto plain stands = plain
   class_stays s things sites place k proto list stands = list
   class_stays s things sites place k proto fault stands = fault
+  class_stays s things sites place k proto node stands = node
+  class_stays s things sites place k proto event stands = event
   class_stays s things sites place k proto (page {code = source} {env = env} {round = round} r) stands =
       page {env = env} (subst (λ ns. IsRoundOf c fs k ns (name_of source) round)
       (sym (needs_stay sites place (moved_needs things (needs_of s env source)) stands)) (round_stays r))

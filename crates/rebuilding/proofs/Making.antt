@@ -52,11 +52,11 @@ use Rattle.rebuild_plan.specs.declared.statement.Maker.{Maker}
 use Rattle.rebuild_plan.specs.declared.statement.Maker.TheVariants.{Bind, Fault, List as Array, Plain}
 use Rattle.page_host.specs.Host.{Host}
 use Rattle.rebuilding.specs.Running.{CanMake, IsMade, Stays, made_host}
-use Rattle.rebuilding.specs.Scene.{IsRunning, Scene, inside}
+use Rattle.rebuilding.specs.Scene.{IsHosting, IsRunning, Scene, inside}
 use Rattle.rebuilding.specs.Sites.{sited, sited_value, sited_values}
 use Rattle.rebuilding.proofs.Calling.{also_on, constructor_class, constructor_named, constructor_of, constructor_read, create_called, is_bind, is_create, native_called, native_constructed}
 use Rattle.rebuilding.proofs.Reading.{arguments_read, reference_read}
-use Rattle.rebuilding.proofs.Staying.{low_there, made_there, make_run, none_below, running_made, site_there, some_below, stays_made}
+use Rattle.rebuilding.proofs.Staying.{hosting_stays, low_there, made_there, make_run, none_below, running_made, site_there, some_below, stays_made}
 use Rattle.rebuilding.proofs.Placed.{array_low, error_low, function_low}
 use Rattle.page_meaning.specs.Places.{built_in_count}
 use Rattle.object_shapes.specs.Links.{proto_links, value_links, values_links, all_below}
@@ -78,6 +78,7 @@ pub record Makes (c : Scene) (s : Store) (sites : List ℕ) (m : Maker) (n : ℕ
   pub object : IsMade c s.heap s.host after sites place m (object_at after.objects place)
   pub stays : Stays s.heap after []
   pub running : IsRunning c after sites
+  pub hosting : IsHosting s.heap s.host → IsHosting after host
 
 -- the prototype and what is bound, if there are some, are there
 pub record IsReady (h : Contents) (o : Object) : Type 0 where
@@ -105,6 +106,7 @@ makes_one c s sites m n left out o r ready steps ends made same = record {
   there = made_there s.heap o;
   object = subst (λ p. IsMade c s.heap s.host (with_new_object s.heap o) sites (length s.heap.objects) m p) (sym (object_last s.heap.objects o)) made;
   stays = stays_made s.heap o;
+  hosting = hosting_stays s.heap (with_new_object s.heap o) s.host (stays_made s.heap o);
   running = running_made c s.heap sites o r ready.fit ready.proto ready.target;
 }
 

@@ -34,7 +34,7 @@ use Rattle.rebuilding.proofs.Calling.{also_on}
 use Rattle.rebuilding.proofs.Closures.{Closes, closed_over, function_in, function_is, function_run, function_running, function_stays, names_are, names_running, names_stay, names_there, opened_same, with_function, with_environment}
 use Rattle.rebuilding.proofs.Making.{Makes}
 use Rattle.rebuilding.proofs.Reading.{arguments_read}
-use Rattle.rebuilding.proofs.Staying.{stays_on}
+use Rattle.rebuilding.proofs.Staying.{hosting_stays, stays_on}
 use Rattle.rebuild_plan.specs.Moved.{first_thing}
 
 -- ---- what it needs, as arguments
@@ -64,6 +64,9 @@ module _ (c : Scene) (s : Store) (sites : List ℕ) (r : IsRunning c s.heap site
       let made = closed_over c s sites r n c.env [] none_needed k in
       record {
         after = made.after;
+        host = s.host;
+        has_host = refl;
+        hosting = hosting_stays s.heap made.after s.host made.stays;
         place = made.place;
         left = n;
         steps = omega arith;
@@ -144,6 +147,10 @@ module _ (c : Scene) (s : Store) (sites : List ℕ) (r : IsRunning c s.heap site
         let stand = subst (λ ks. all_below (first_thing + length sites) ks ≡ true) (links_same needs) stands in
         record {
           after = closed.after;
+          host = s.host;
+          has_host = refl;
+          hosting = hosting_stays s.heap closed.after s.host (stays_on s.heap g closed.after [] (function_stays c s.heap sites r round env)
+              (stays_on g j closed.after [] (names_stay c g sites running c.env running.scope_there names) closed.stays));
           place = closed.place;
           left = n;
           steps = omega arith;

@@ -54,6 +54,11 @@ define_free s at x change free =
     cond-false (is_kept s.host.nodes (class_at s at) x) (throws s.heap CannotDefine) (define_own s.heap at.0 x change)
     (free_at s.host.nodes (class_at s at) x free)
 
+-- what is kept from no object of the class
+pub define_unkept : (s : Store) (at : ObjId) (x : List ℕ) (change : Change) → is_kept s.host.nodes (class_at s at) x ≡ false
+    → define_tried s at x change ≡ define_own s.heap at.0 x change
+define_unkept s at x change free = cond-false (is_kept s.host.nodes (class_at s at) x) (throws s.heap CannotDefine) (define_own s.heap at.0 x change) free
+
 -- ---- names that are none of the host's
 
 -- no index is
@@ -121,3 +126,12 @@ pub free_prevented : (o : Object) → is_ordinary o.class ≡ true → is_ordina
 unfolding prevent_extensions
 free_prevented o free =
     same_kind (object.prevented o).after.class o.class (kinds_steps (alone o) (prevents 0 ∷ []) 0 (omega arith)).0 free
+
+-- nor is it one of another kind
+pub kind_defined : (o : Object) (x : List ℕ) (change : Change) → IsSameKind (object.define_own o x change).after.class o.class
+unfolding define_own
+kind_defined o x change = (kinds_steps (alone o) (defines 0 x change ∷ []) 0 (omega arith)).0
+
+pub kind_prevented : (o : Object) → IsSameKind (object.prevented o).after.class o.class
+unfolding prevent_extensions
+kind_prevented o = (kinds_steps (alone o) (prevents 0 ∷ []) 0 (omega arith)).0

@@ -1,12 +1,12 @@
 -- What stays where objects are made and changed: a page on which the statements of a saved page run remains one.
 use Rattle.std.proofs.Common.{◌≡◌, ◌⊎◌, inl, inr, refl, sym, ap, subst, ◌∙◌, ℕ, ◌+◌, ◌-◌, ◌<◌, ◌≤◌, Bool, true, false, not, ◌&&◌, nat_eq, nat_le, nat_lt, List, [], ◌∷◌, Some, None, length, slice_index_or, slice_set, le_refl, le_trans, lt_of_lt_of_le, length-append, length-set, arith}
-use Rattle.std.proofs.lemmas.Bool.{and_from, and_parts, eqb-false, le-leb, leb-true, lt-ltb, ltb-false, ltb-true, ne_eqb, not-true, or_parts}
+use Rattle.std.proofs.lemmas.Bool.{and_from, and_parts, eqb-false, le-leb, leb-true, lt-ltb, ltb-false, ltb-true, ne_eqb, not-true, or_parts, cases_lt, eqb-true}
 use Rattle.std.proofs.lemmas.List.Sums.{AllPass-from_list_all}
 use Rattle.std.specs.List.{list_all}
 use Rattle.std.specs.Option.{ForSome}
 use Rattle.heap_walker.specs.Things.{is_in}
 use Rattle.js_values.specs.declared.ids.ObjId.{ObjId}
-use Rattle.object_heap.proofs.Callers.{object_before, object_set_other, object_set_same, settled_same, sound_pushed}
+use Rattle.object_heap.proofs.Callers.{object_absent, object_before, object_set_other, object_set_same, settled_same, sound_pushed}
 use Rattle.object_heap.specs.Chain.{object_at}
 use Rattle.object_heap.specs.Heap.{Contents, IsFit, IsSound, with_new_object, with_object}
 use Rattle.object_heap.specs.Object.{Object, target_of}
@@ -16,7 +16,12 @@ use Rattle.page_meaning.specs.Places.{window}
 use Rattle.page_meaning.specs.Primitives.{make, next_place}
 use Rattle.page_meaning.specs.Store.{Store, with_heap}
 use Rattle.rebuilding.specs.Running.{Stays}
-use Rattle.rebuilding.specs.Scene.{IsDocument, IsRunning, Scene, frame_count, is_site}
+use Rattle.rebuilding.specs.Scene.{IsDocument, IsHosting, IsRunning, Scene, frame_count, is_site}
+use Rattle.object_heap.specs.Laws.{IsSameKind}
+use Rattle.object_heap.specs.declared.object.Class.{Class}
+use Rattle.object_heap.specs.declared.object.Class.TheVariants as class
+use Rattle.page_host.specs.Host.{Host, object_of_node}
+use Rattle.page_writer.specs.Frame.{nth_node}
 use Rattle.rebuilding.specs.Sites.{site}
 use Rattle.object_shapes.specs.Shapes.{IsWindow}
 use Rattle.rebuilding.proofs.Basics.{not_in}
@@ -158,6 +163,37 @@ running_after c h i sites r sound stays =
     running_on c h i sites [] r sound stays (subst IsWindow (sym (stays.objects window.0 (window_there c h sites r) refl)) r.window)
     (subst IsDocument (sym (stays.objects document.0 (document_there c h sites r) refl)) r.document)
     (λ k positive below. refl) refl
+
+-- ---- the host
+
+-- no object becomes one of another kind
+pub hosting_on : (h i : Contents) (g : Host) → ((k : ℕ) → k < length h.objects → IsSameKind (object_at i.objects k).class (object_at h.objects k).class)
+    → IsHosting h g → IsHosting i g
+hosting_on h i g same is = record { sound = is.sound; objects = λ k low. by k low (cases_lt (place k) (length h.objects)); clock = is.clock }
+  where
+    place : ℕ → ℕ
+    place k = (object_of_node g.objects (nth_node k)).0
+
+    one : (k : ℕ) (a b : Class) → IsSameKind a b → b ≡ class.Node (nth_node k) → a ≡ class.Node (nth_node k)
+    one k a b (inl e) node = e ∙ node
+    one k a b (inr events) node = cc (node, events.1)
+
+    by : (k : ℕ) → k < length g.nodes → (place k < length h.objects) ⊎ (length h.objects ≤ place k)
+        → (object_at i.objects (place k)).class ≡ class.Node (nth_node k)
+    by k low (inl there) = one k _ _ (same (place k) there) (is.objects k low)
+    by k low (inr past) = cc (sym (ap (λ (o : Object). o.class) (object_absent h.objects (place k) past)) ∙ is.objects k low)
+
+pub hosting_stays : (h i : Contents) (g : Host) → Stays h i [] → IsHosting h g → IsHosting i g
+hosting_stays h i g stays is = hosting_on h i g (λ k there. inl (ap (λ (o : Object). o.class) (stays.objects k there refl))) is
+
+-- nor does the one that changes
+pub hosting_changed : (h i : Contents) (g : Host) (k : ℕ) → Stays h i (k ∷ []) → IsSameKind (object_at i.objects k).class (object_at h.objects k).class
+    → IsHosting h g → IsHosting i g
+hosting_changed h i g k stays own is = hosting_on h i g (λ j there. by j there (nat_eq j k) refl) is
+  where
+    by : (j : ℕ) → j < length h.objects → (b : Bool) → nat_eq j k ≡ b → IsSameKind (object_at i.objects j).class (object_at h.objects j).class
+    by j there true e = subst (λ m. IsSameKind (object_at i.objects m).class (object_at h.objects m).class) (sym (eqb-true j k e)) own
+    by j there false e = inl (ap (λ (o : Object). o.class) (stays.objects j there (not_in j k (eqb-false j k e))))
 
 -- ---- one object more
 

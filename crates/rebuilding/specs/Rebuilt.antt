@@ -1,9 +1,10 @@
 -- That the statements of a plan can run one after another, and what they leave: the page that was saved, with its things at their sites.
-use Rattle.std.specs.Prelude.{◌≡◌, ℕ, ◌<◌, true, false, List, [], ◌∷◌, ◌++◌, Option, Some, length, slice_index_or}
+use Rattle.std.specs.Prelude.{◌≡◌, ℕ, ◌<◌, true, false, List, [], ◌∷◌, ◌++◌, Option, Some, None, is_some, length, slice_index_or, ⊤}
 use Rattle.std.specs.Option.{option_map}
 use Rattle.code_table.specs.Declarations.{name_of}
 use Rattle.heap_walker.specs.Still.{Still}
-use Rattle.dom_tree.specs.Node.{parent_at}
+use Rattle.dom_tree.specs.Node.{node_at, parent_at}
+use Rattle.dom_tree.specs.declared.content.Kind.{Kind}
 use Rattle.heap_walker.specs.Things.{IsWalk, globals_of, is_in, needs_of}
 use Rattle.js_core.specs.Tree.{Code}
 use Rattle.js_values.specs.declared.ids.EnvId.{EnvId}
@@ -19,7 +20,7 @@ use Rattle.object_heap.specs.declared.object.Class.TheVariants as class
 use Rattle.object_heap.specs.declared.object.EventParts.{EventParts}
 use Rattle.timer_queue.specs.declared.timer.Live.{Live}
 use Rattle.page_host.specs.Host.{Host, object_of_node}
-use Rattle.page_meaning.specs.Places.{document, window}
+use Rattle.page_meaning.specs.Places.{at_place, document, window}
 use Rattle.page_meaning.specs.Store.{Store}
 use Rattle.page_writer.specs.Literals.{HaveLiterals}
 use Rattle.rebuild_plan.specs.Compact.{compact, moved, moved_needs, moved_proto, moved_props, moved_value, moved_values}
@@ -82,11 +83,28 @@ abbrev pub sited_timers : List ℕ → List Live → List Live
 sited_timers sites [] = []
 sited_timers sites (t ∷ ts) = record { id = t.id; due = t.due; period = t.period; call = sited sites t.call } ∷ sited_timers sites ts
 
--- a node has the children, the attributes, the value and the listeners of the thing; an event its parts. No list of things: no place moves
-abbrev pub HostIsRebuilt : Store → List ℕ → Host → List ℕ → Object → Object → Type 0
-HostIsRebuilt s things g sites thing o =
-    (node_as g [] o.class ≡ sited_node sites (node_as s.host things thing.class))
-    × (event_as [] o.class ≡ option_map (sited_event sites) (event_as things thing.class))
+-- of an object that is no node, none
+abbrev pub kind_as : Host → Class → Option Kind
+kind_as g (class.Node k) = Some (node_at g.nodes k.0).content.kind
+kind_as g c = None
+
+-- the object at the place is the node's own
+abbrev pub IsOwned : Host → ℕ → Class → Type 0
+IsOwned g k (class.Node n) = (n.0 < length g.nodes) × (object_of_node g.objects n ≡ at_place k)
+IsOwned g k c = ⊤
+
+-- an event was dispatched where it has a target, and is not under dispatch
+abbrev pub IsRested : Class → Type 0
+IsRested (class.Event parts) = (parts.sent ≡ is_some parts.target) × (parts.current ≡ None) × (parts.phase ≡ 0)
+IsRested c = ⊤
+
+-- a node has the kind, the children, the attributes, the value and the listeners of the thing; an event its parts. No list of things: no place moves
+pub record HostIsRebuilt (s : Store) (things : List ℕ) (g : Host) (sites : List ℕ) (k : ℕ) (thing o : Object) : Type 0 where
+  pub node : node_as g [] o.class ≡ sited_node sites (node_as s.host things thing.class)
+  pub event : event_as [] o.class ≡ option_map (sited_event sites) (event_as things thing.class)
+  pub kind : kind_as g o.class ≡ kind_as s.host thing.class
+  pub own : IsOwned g k o.class
+  pub rested : IsRested o.class
 
 -- the object at the place is the thing, with the sites of what it refers to
 pub record IsRebuiltAs (c : Scene) (es : List Environment) (s : Store) (things sites : List ℕ) (k : ℕ) (thing o : Object) : Type 0 where
@@ -98,8 +116,9 @@ pub record IsRebuiltAs (c : Scene) (es : List Environment) (s : Store) (things s
 
 -- the document has no built-in names of its own
 pub record DocumentIsRebuilt (s : Store) (things : List ℕ) (g : Host) (sites : List ℕ) (thing o : Object) : Type 0 where
-  pub host : HostIsRebuilt s things g sites thing o
+  pub host : HostIsRebuilt s things g sites document.0 thing o
   pub extensible : o.extensible ≡ thing.extensible
+  pub closed : o.closed ≡ false
   pub props : o.props ≡ sited_props sites (moved_props things thing.props)
 
 abbrev pub nth : List ℕ → ℕ → ℕ
@@ -112,7 +131,7 @@ pub record IsRebuilt (c : Scene) (s : Store) (things : List ℕ) (h : Contents) 
   pub each : (n : ℕ) → n < length things
       → IsRebuiltAs c h.environments s things sites (nth sites n) (object_at s.heap.objects (nth things n)) (object_at h.objects (nth sites n))
   pub hosted : (n : ℕ) → n < length things
-      → HostIsRebuilt s things g sites (object_at s.heap.objects (nth things n)) (object_at h.objects (nth sites n))
+      → HostIsRebuilt s things g sites (nth sites n) (object_at s.heap.objects (nth things n)) (object_at h.objects (nth sites n))
   -- no node beside them has one of them for a child
   pub parents : (k p : NodeId) → is_in (object_of_node g.objects k).0 sites ≡ true → parent_at g.nodes k.0 ≡ Some p
       → is_in (object_of_node g.objects p).0 (document.0 ∷ sites) ≡ true
@@ -130,6 +149,7 @@ pub record IsFresh (c : Scene) (h : Contents) (g : Host) : Type 0 where
   pub globals : (object_at h.objects window.0).props ≡ (built_in_at window.0).props
   pub document_props : (object_at h.objects document.0).props ≡ []
   pub document_extensible : (object_at h.objects document.0).extensible ≡ true
+  pub document_open : (object_at h.objects document.0).closed ≡ false
 
 -- a page at rest is rebuilt by its plan
 abbrev pub PlansRebuild : Type 0

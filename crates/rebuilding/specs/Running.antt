@@ -24,11 +24,11 @@ use Rattle.object_heap.specs.declared.object.EventParts.{EventParts}
 use Rattle.object_heap.specs.declared.property.Change.{Change}
 use Rattle.object_heap.specs.declared.property.Prop.{Prop}
 use Rattle.dom_tree.specs.Change.{insertion_error}
-use Rattle.dom_tree.specs.Name.{folded, is_name}
+use Rattle.dom_tree.specs.Name.{folded, is_folded_name, is_name}
 use Rattle.dom_tree.specs.Node.{is_element, kind_at}
 use Rattle.dom_tree.specs.Steps.{inserts, is_there, sets_attribute, sets_value}
 use Rattle.dom_tree.specs.declared.content.Kind.TheVariants as kind
-use Rattle.page_host.specs.Host.{Host}
+use Rattle.page_host.specs.Host.{Host, object_of_node}
 use Rattle.page_host.specs.HostNames.{has_at_node, is_handler}
 use Rattle.page_host.specs.Steps.{HostStep, after_host, clears, in_nodes, is_period, listens, starts, time_limit, with_new_node}
 use Rattle.page_host.specs.declared.host_name.HostName.TheVariants.{Value as HasValue}
@@ -88,7 +88,7 @@ abbrev pub CanMake : Contents → List ℕ → Maker → Type 0
 CanMake h sites (Bind target this args) =
     IsTrue (is_function (Some (object_at h.objects (site sites target.0)).class))
     × (get h.objects (site sites target.0) (codes "bind") ≡ Some (Reference (function_at FunctionPrototypeBind)))
-CanMake h sites (Element x) = (is_name x ≡ true) × (folded x ≡ x) × Lacks (object_at h.objects document.0) (codes "createElement")
+CanMake h sites (Element x) = (is_folded_name x ≡ true) × (folded x ≡ x) × Lacks (object_at h.objects document.0) (codes "createElement")
 CanMake h sites (Text x) = Lacks (object_at h.objects document.0) (codes "createTextNode")
 CanMake h sites (Comment x) = Lacks (object_at h.objects document.0) (codes "createComment")
 CanMake h sites Event = Lacks (object_at h.objects document.0) (codes "createEvent")
@@ -140,6 +140,7 @@ pub record IsNodeHere (h : Contents) (g : Host) (sites : List ℕ) (at : ObjId) 
   pub proto : (object_here h sites at).proto ≡ Some node_prototype
   pub class : (object_here h sites at).class ≡ class.Node (node_here h sites at)
   pub there : is_there g.nodes (node_here h sites at) ≡ true
+  pub own : object_of_node g.objects (node_here h sites at) ≡ sited sites at
 
 pub record CanAppend (h : Contents) (g : Host) (sites : List ℕ) (at to : ObjId) : Type 0 where
   pub parent : IsNodeHere h g sites at

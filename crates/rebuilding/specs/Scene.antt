@@ -96,12 +96,10 @@ pub record IsRunning (c : Scene) (h : Contents) (sites : List ℕ) : Type 0 wher
   -- no more than an array has elements
   pub few : length sites ≤ 4294967295
 
--- what the host keeps beside: nodes and objects have each other
+-- what the host keeps beside: each node has its object
 pub record IsHosting (h : Contents) (g : Host) : Type 0 where
   pub sound : host.IsSound g
   pub objects : (k : ℕ) → k < length g.nodes → (object_at h.objects (object_of_node g.objects (nth_node k)).0).class ≡ class.Node (nth_node k)
-  pub nodes : (k n : ℕ) → k < length h.objects → (object_at h.objects k).class ≡ class.Node (nth_node n)
-      → (n < length g.nodes) × (object_of_node g.objects (nth_node n) ≡ at_place k)
   pub clock : g.clock ≡ 0
 
 -- after the second line: no node is in the document, nobody listens, and no timer runs

@@ -74,8 +74,12 @@ fn push_row(
     Ok(())
 }
 
-/// The rows that a keeper has, a line each: the name, the version and the bytes.
-pub fn kept_text(alloc: Global, keeper: &mut MemoryKeeper) -> io::Result<Vec<u8>> {
+/// The rows that a keeper has, a line each: the name, the version and the bytes. So many calls are made before, since they may be among
+/// those that fail.
+pub fn kept_text(alloc: Global, keeper: &mut MemoryKeeper, before: u64) -> io::Result<Vec<u8>> {
+    for _ in 0..before {
+        let _rows = keeper.list(alloc);
+    }
     let mut text = Vec::new(alloc);
     let rows = keeper.list(alloc).map_err(no_memory)?;
     for row in &rows {

@@ -121,6 +121,15 @@ impl Row {
         })
     }
 
+    // The number of the last of the keeper's calls that fail, after those that put the rows there.
+    fn last_call(&self) -> u64 {
+        let mut last = 0;
+        for call in &self.calls {
+            last = last.max(*call);
+        }
+        last.saturating_add(self.kept.len() as u64)
+    }
+
     /// How the command of the row ends, over files, an output, notes and a keeper in memory.
     pub fn run(&self, alloc: Global) -> io::Result<Ending> {
         let mut held = Vec::new(alloc);
@@ -144,7 +153,7 @@ impl Row {
             status: u64::from(status.code()),
             text: out.bytes().to_vec(alloc)?,
             note: notes.bytes().to_vec(alloc)?,
-            kept: kept_text(alloc, &mut keeper)?,
+            kept: kept_text(alloc, &mut keeper, self.last_call())?,
         })
     }
 
