@@ -23,7 +23,9 @@ use crate::status::Status;
 use event_file::{EventFault, NotEvents, events};
 use js_core::OutOfMemory;
 use js_values::{Event, Line};
-use moved_pages::{law_accepted_scripts_are_in_form, law_moved_pages_go_on};
+use moved_pages::{
+    law_accepted_pages_are_plain, law_accepted_scripts_are_in_form, law_moved_pages_go_on,
+};
 use opened_pages::{law_opened_pages_are_accepted, law_opened_pages_put_out_the_same};
 use page_check::{CheckedPage, law_one_answer};
 use page_maker::{event_list, page};
@@ -135,6 +137,7 @@ fn moved(alloc: Global, parts: u32) -> Result<(u64, u64), Status>
         (seen_between unread unread unasked unasked unwritten unwritten)) }
 {
     law_one_answer();
+    law_accepted_pages_are_plain();
     law_accepted_scripts_are_in_form();
     law_moved_pages_go_on();
     law_opened_pages_are_accepted();

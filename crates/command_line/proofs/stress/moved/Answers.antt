@@ -7,6 +7,7 @@ returns-clause-ok c =
     moved_if c.args.parts
     record {
       one = c.law_one_answer.ensures.accepted;
+      plain = c.law_accepted_pages_are_plain.ensures;
       formed = c.law_accepted_scripts_are_in_form.ensures;
       moved = c.law_moved_pages_go_on.ensures;
       accepted = c.law_opened_pages_are_accepted.ensures;
@@ -19,6 +20,7 @@ returns-clause-stops c =
     unmoved_if c.args.parts
     record {
       one = c.law_one_answer.ensures.accepted;
+      plain = c.law_accepted_pages_are_plain.ensures;
       formed = c.law_accepted_scripts_are_in_form.ensures;
       moved = c.law_moved_pages_go_on.ensures;
       accepted = c.law_opened_pages_are_accepted.ensures;
