@@ -76,14 +76,14 @@ module _ (n : ℕ) where
       → length (lines_of_run (running now) after) ≡ length (lines_after (running page) before after)
   lines_go_on page now before after on =
       let silent : lines_after (running now) [] after ≡ lines_of_run (running now) after =
-          ap (λ (ls : List Line). drop (length ls) (lines_of_run (running now) after)) on.silent in
+      ap (λ (ls : List Line). drop (length ls) (lines_of_run (running now) after)) on.silent in
       ap (λ (ls : List Line). length ls) (sym silent ∙ on.same after)
 
   module _ (laws : SavingLaws) (page : Page) (events : List Event) (made : IsMade n page events) (sound : IsSound page.nodes) where
     pub moved_gives : (lines bytes : ℕ) → IsMovedBy page (earlier events) (later events) lines bytes → IsMoved n lines bytes
     moved_gives lines bytes m =
         let moves : MovesTo (page_text n) (earlier events) (saved_page (run_of (opened page) (earlier events)) m.things) =
-            saved_moves laws (page_text n) page (earlier events) m.things made.accepted sound m.numbered m.can in
+        saved_moves laws (page_text n) page (earlier events) m.things made.accepted sound m.numbered m.can in
         let on = moves.goes_on page m.counts.page made.accepted m.counts.accepted in
         record {
           page = page;
@@ -102,7 +102,7 @@ module _ (n : ℕ) where
         inr ((page, made.accepted), inr ((events, made.holds), inl (too_large page events w h.0 made h.1)))
     unmoved_ends not_both (PageRefused (Some r)) h =
         let moves : MovesTo (page_text n) (earlier events) (saved_page (run_of (opened page) (earlier events)) h.things) =
-            saved_moves laws (page_text n) page (earlier events) h.things made.accepted sound h.numbered h.can in
+        saved_moves laws (page_text n) page (earlier events) h.things made.accepted sound h.numbered h.can in
         absurd (not_both (saved_page (run_of (opened page) (earlier events)) h.things) moves.moved r moves.page.accepted h.refused)
     unmoved_ends not_both OutOfMemory h = inl tt
     unmoved_ends not_both (PageRefused None) h = absurd h
@@ -137,8 +137,7 @@ module _ (n : ℕ) where
       let page = same_page one w.page m.page w.events m.events w.made m.made in
       let events = same_list w.page m.page w.events m.events w.made m.made in
       let lines : s.lines ≡ lines_of_run (running m.page) m.events =
-          ap (λ (t : Store). t.lines) w.state ∙ ap (λ (p : Page). lines_of_run (running p) w.events) page ∙ ap (lines_of_run (running m.page)) events in
-      (
+      ap (λ (t : Store). t.lines) w.state ∙ ap (λ (p : Page). lines_of_run (running p) w.events) page ∙ ap (lines_of_run (running m.page)) events in (
         ((m.page, m.made.accepted), ((m.events, m.made.holds), (is_movable m.page m.events m.things m.made m.walked m.little, tt))),
         record {
           page = m.page;
@@ -149,7 +148,7 @@ module _ (n : ℕ) where
           line = e ∙ ap (λ (ls : List Line). stress_line n (length ls) after bytes (last_line ls)) lines
               ∙ ap (λ (k : ℕ). stress_line n (length (lines_of_run (running m.page) m.events)) k bytes (last_line (lines_of_run (running m.page) m.events))) m.lines
               ∙ ap (λ (k : ℕ). stress_line n (length (lines_of_run (running m.page) m.events)) (length (lines_after (running m.page) (earlier m.events) (later m.events))) k
-                  (last_line (lines_of_run (running m.page) m.events))) m.size;
+              (last_line (lines_of_run (running m.page) m.events))) m.size;
         },
         refl,
       )
