@@ -8,6 +8,7 @@ use Rattle.heap_walker.specs.declared.weight.Weight.{Weight}
 use Rattle.heap_walker.proofs.Callers.{walks_are_same}
 use Rattle.js_values.specs.declared.event.Event.{Event}
 use Rattle.js_values.specs.declared.line.Line.{Line}
+use Rattle.opened_pages.specs.Opened.{HaveNumbers}
 use Rattle.page_check.specs.Accept.{IsRefused}
 use Rattle.page_check.specs.declared.page.Refusal.{Refusal}
 use Rattle.page_io.specs.Seen.{FilesSeen, KeeperSeen, SinkSeen}
@@ -18,7 +19,7 @@ use Rattle.page_meaning.specs.Store.{Store}
 use Rattle.page_writer.specs.Page.{saved_page}
 use Rattle.command_line.specs.Command.{stress}
 use Rattle.command_line.specs.Faring.{CountsLines, IsMovedBy, IsSavedInVain, IsUnmoved, IsWhole}
-use Rattle.command_line.specs.Moving.{CanBeSaved, IsOverweight}
+use Rattle.command_line.specs.Moving.{CanBeSaved, IsOverweight, IsSaved}
 use Rattle.command_line.specs.Page.{Page, IsAccepted, opened, running}
 use Rattle.command_line.specs.Reading.{IsUntaken}
 use Rattle.command_line.specs.Saving.{GoesOn, IsTooMuch, MovesTo}
@@ -33,6 +34,19 @@ use Rattle.command_line.proofs.Walking.{some_walk}
 -- nothing outside is asked
 abbrev pub alone : Seen
 alone = seen_between unread unread unasked unasked unwritten unwritten
+
+-- a saved page that is not taken
+pub untaken_is_unmoved : (page : Page) (before : List Event) (text : List ℕ) (status : Status) → HaveNumbers page.kind page.scripts
+    → IsSaved (run_of (opened page) before) text → IsUntaken text status → IsUnmoved page before status
+untaken_is_unmoved page before text (PageRefused (Some r)) numbered saved h = record {
+  things = saved.0;
+  can = saved.1;
+  numbered = numbered;
+  refused = subst (λ (b : List ℕ). IsRefused b r) saved.2 h;
+}
+untaken_is_unmoved page before text OutOfMemory numbered saved h = tt
+untaken_is_unmoved page before text (PageRefused None) numbered saved h = absurd h
+untaken_is_unmoved page before text status numbered saved h = absurd h
 
 module _ (n : ℕ) where
   -- ---- the page and its events
