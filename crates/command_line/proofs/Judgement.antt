@@ -1,6 +1,5 @@
 -- What the answer of the writer says of a page that is saved.
 use Rattle.std.proofs.Common.{◌≡◌, ◌⊎◌, inl, inr, ℕ, ◌≤◌, List, Result, Ok, Err, sym, ap, subst, arith}
-use Rattle.heap_walker.specs.Bare.{IsBare}
 use Rattle.heap_walker.specs.Things.{IsWalk}
 use Rattle.heap_walker.specs.Weight.{load_of, told}
 use Rattle.heap_walker.specs.declared.weight.Weight.{Weight}
@@ -46,22 +45,21 @@ module _ (s : Store) (things : List ℕ) (old new : SinkSeen) where
     ),
   )
 
-  pub answer_put : (r : Result (Unit {0}) (Failure NotSaved)) → IsBare s → IsWalk s things → r ≡ Ok tt → Judged (told (load_of s things)) old new (saved_page s things) r → HaveLiterals (plan (compact s things))
+  pub answer_put : (r : Result (Unit {0}) (Failure NotSaved)) → IsWalk s things → r ≡ Ok tt → Judged (told (load_of s things)) old new (saved_page s things) r → HaveLiterals (plan (compact s things))
       → (x : List ℕ) × CanBeSaved s x × Takes old.taken new.taken (saved_page s x)
-  answer_put r bare walk e (put few little whole) literals = (
+  answer_put r walk e (put few little whole) literals = (
     things,
     record {
-      bare = bare;
       walked = walk;
       little = not_much (told (load_of s things)) few little;
       literals = literals;
     },
     whole,
   )
-  answer_put r bare walk e (many more none) literals = cc e
-  answer_put r bare walk e (long few more none) literals = cc e
-  answer_put r bare walk e (fault few little front rose) literals = cc e
-  answer_put r bare walk e (memory few little front) literals = cc e
+  answer_put r walk e (many more none) literals = cc e
+  answer_put r walk e (long few more none) literals = cc e
+  answer_put r walk e (fault few little front rose) literals = cc e
+  answer_put r walk e (memory few little front) literals = cc e
 
   pub answer_large : (f : Failure NotSaved) (v : Weight) → IsWalk s things → f ≡ Cause (TooMany v) → WasJudged f
       → (new ≡ old) × ((x : List ℕ) × IsOverweight s x v)
@@ -77,15 +75,14 @@ module _ (s : Store) (things : List ℕ) (old new : SinkSeen) where
   answer_long f v walk e (fault few little front rose) = cc e
   answer_long f v walk e (memory few little front) = cc e
 
-  pub answer_fault : (f : Failure NotSaved) → IsBare s → IsWalk s things → f ≡ Cause WriteFault → WasJudged f
+  pub answer_fault : (f : Failure NotSaved) → IsWalk s things → f ≡ Cause WriteFault → WasJudged f
       → (Failed f ≡ Failed (Cause WriteFault) → HaveLiterals (plan (compact s things)))
       → (x : List ℕ) × CanBeSaved s x × TakesFront old.taken new.taken (saved_page s x) × Rose old.faults new.faults
-  answer_fault f bare walk e (many more none) literals = cc e
-  answer_fault f bare walk e (long few more none) literals = cc e
-  answer_fault f bare walk e (fault few little front rose) literals = (
+  answer_fault f walk e (many more none) literals = cc e
+  answer_fault f walk e (long few more none) literals = cc e
+  answer_fault f walk e (fault few little front rose) literals = (
     things,
     record {
-      bare = bare;
       walked = walk;
       little = not_much (told (load_of s things)) few little;
       literals = literals (ap Failed e);
@@ -93,7 +90,7 @@ module _ (s : Store) (things : List ℕ) (old new : SinkSeen) where
     front,
     rose,
   )
-  answer_fault f bare walk e (memory few little front) literals = cc e
+  answer_fault f walk e (memory few little front) literals = cc e
 
   pub answer_memory : (f : Failure NotSaved) → IsWalk s things → f ≡ OutOfMemory → WasJudged f
       → (new ≡ old) ⊎ ((x : List ℕ) × IsWalk s x × TakesFront old.taken new.taken (saved_page s x))

@@ -7,7 +7,7 @@ use Rattle.heap_walker.specs.Things.{IsWalk}
 use Rattle.heap_walker.specs.Weight.{load_of, told}
 use Rattle.js_core.specs.Tree as tree
 use Rattle.js_values.specs.declared.event.Event.{Event}
-use Rattle.moved_pages.specs.Moved.{AcceptedScriptsAreInForm, CanBeMoved, GoesOnAs, IsShort, MovedPagesGoOn}
+use Rattle.moved_pages.specs.Moved.{AcceptedPagesArePlain, AcceptedScriptsAreInForm, CanBeMoved, GoesOnAs, IsShort, MovedPagesGoOn}
 use Rattle.moved_pages.specs.Moved as moved
 use Rattle.opened_pages.specs.Opened.{HaveNumbers, OpenedPagesAreAccepted, OpenedPagesPutOutTheSame, OpensAs, PutOutTheSame, opened_text}
 use Rattle.page_check.specs.Accept.{ArePageScripts, texts_of}
@@ -49,13 +49,14 @@ little_text s things little = few_of (load_of s things).text text_limit _ (omega
 -- the laws of the crates below on moved and opened pages
 pub record SavingLaws : Type 0 where
   pub one : OneAcceptance
+  pub plain : AcceptedPagesArePlain
   pub formed : AcceptedScriptsAreInForm
   pub moved : MovedPagesGoOn
   pub accepted : OpenedPagesAreAccepted
   pub same : OpenedPagesPutOutTheSame
 
--- the frame of a saved page is read as the nodes that a bare page has
-framed_runs : (script : tree.Stmts) → running (framed_page script) ≡ in_frame script
+-- the frame of a saved page is read as its nodes
+framed_runs : (script : tree.Stmts) → running (framed_page script) ≡ in_frame (script ∷ [])
 framed_runs script = refl
 
 -- the script of a moved page goes on as the page, whichever pages they are accepted as
@@ -63,7 +64,7 @@ goes_on_by : (script : tree.Stmts) (earlier : List Event) (text : List ℕ) (pag
     → GoesOnAs text (opened page) earlier script → PutOutTheSame (opened page) (running page) → (before : Page) → before ≡ page
     → GoesOn before earlier now
 goes_on_by script earlier text page now f h alike before e =
-    let runs : running now ≡ in_frame script = ap running f ∙ framed_runs script in
+    let runs : running now ≡ in_frame (script ∷ []) = ap running f ∙ framed_runs script in
     record {
       form = ap (λ (p : Page). p.kind) f;
       silent = ap (λ (p : RunningPage). lines_of_run p []) runs ∙ h.silent;
@@ -74,10 +75,10 @@ goes_on_by script earlier text page now f h alike before e =
 
 -- and it is saved again as the same text
 again_by : (script : tree.Stmts) (text : List ℕ) (now : Page) (things : List ℕ) → now ≡ framed_page script
-    → ((ks : List ℕ) → IsWalk (run_of (in_frame script) []) ks → saved_page (run_of (in_frame script) []) ks ≡ text)
+    → ((ks : List ℕ) → IsWalk (run_of (in_frame (script ∷ [])) []) ks → saved_page (run_of (in_frame (script ∷ [])) []) ks ≡ text)
     → IsWalk (run_of (running now) []) things → saved_page (run_of (running now) []) things ≡ text
 again_by script text now things f h walk =
-    let runs : running now ≡ in_frame script = ap running f ∙ framed_runs script in
+    let runs : running now ≡ in_frame (script ∷ []) = ap running f ∙ framed_runs script in
     ap (λ (p : RunningPage). saved_page (run_of p []) things) runs
     ∙ h things (subst (λ (p : RunningPage). IsWalk (run_of p []) things) runs walk)
 
@@ -102,8 +103,8 @@ can_be_moved laws bytes page earlier things accepted sound can =
     let as_form = formed_as laws bytes page accepted in
     record {
       sound = sound;
+      plain = laws.plain bytes page accepted;
       in_form = laws.formed as_form.0 (opened_page page) as_form.1 (all_formed (texts_of as_form.1.texts) (opened_page page).scripts as_form.1.read);
-      bare = can.bare;
       walked = can.walked;
       literals = can.literals;
       few = few_things (run_of (opened page) earlier) things can.little;
@@ -115,9 +116,6 @@ pub saved_short : (laws : SavingLaws) (bytes : List ℕ) (page : Page) (earlier 
 saved_short laws bytes page earlier things accepted sound can =
     (laws.moved (opened page) earlier things (can_be_moved laws bytes page earlier things accepted sound can)).1
 
-more_steps : (script : tree.Stmts) (n : ℕ) → LoadsWithin script (2 * n) → LoadsWithin script (4 * n + 4)
-more_steps script n h = record { signal = h.signal; after = h.after; left = h.left; ends = h.ends; few = omega (arith, h.few) }
-
 pub saved_steps : (laws : SavingLaws) (bytes : List ℕ) (page : Page) (earlier : List Event) (things : List ℕ)
     → IsAccepted bytes page → IsSound page.nodes → CanBeSaved (run_of (opened page) earlier) things
     → (now : Page) (script : tree.Stmts) → IsAccepted (saved_page (run_of (opened page) earlier) things) now → now.scripts ≡ script ∷ []
@@ -125,19 +123,19 @@ pub saved_steps : (laws : SavingLaws) (bytes : List ℕ) (page : Page) (earlier 
 saved_steps laws bytes page earlier things accepted sound can now script b only =
     let text = saved_page (run_of (opened page) earlier) things in
     let n : ℕ = (load_of (run_of (opened page) earlier) things).things in
-    let found : moved.GoesOn text (opened page) earlier (2 * n) =
+    let found : moved.GoesOn text (opened page) earlier (4 * n + 4) =
     (laws.moved (opened page) earlier things (can_be_moved laws bytes page earlier things accepted sound can)).0 in
     let at_last = laws.one text now (framed_page found.script) b found.goes_on.accepted in
     let same : script ∷ [] ≡ found.script ∷ [] = sym only ∙ ap (λ (p : Page). p.scripts) at_last in
     let one_script : script ≡ found.script = cc same in
-    subst (λ (c : tree.Stmts). LoadsWithin c (4 * n + 4)) (sym one_script) (more_steps found.script n found.within)
+    subst (λ (c : tree.Stmts). LoadsWithin c (4 * n + 4)) (sym one_script) found.within
 
 pub saved_moves : (laws : SavingLaws) (bytes : List ℕ) (page : Page) (earlier : List Event) (things : List ℕ)
     → IsAccepted bytes page → IsSound page.nodes → HaveNumbers page.kind page.scripts → CanBeSaved (run_of (opened page) earlier) things
     → MovesTo bytes earlier (saved_page (run_of (opened page) earlier) things)
 saved_moves laws bytes page earlier things accepted sound numbered can =
     let text = saved_page (run_of (opened page) earlier) things in
-    let found : moved.GoesOn text (opened page) earlier (2 * (load_of (run_of (opened page) earlier) things).things) =
+    let found : moved.GoesOn text (opened page) earlier (4 * (load_of (run_of (opened page) earlier) things).things + 4) =
     (laws.moved (opened page) earlier things (can_be_moved laws bytes page earlier things accepted sound can)).0 in
     let alike = laws.same bytes page accepted sound numbered in
     record {

@@ -1,6 +1,5 @@
 -- What is answered where a page is saved as it is, by what can be reached of it.
 use Rattle.std.specs.Prelude.{ℕ, ◌≡◌, ◌⊎◌, List}
-use Rattle.heap_walker.specs.Bare.{IsBare}
 use Rattle.heap_walker.specs.Things.{IsWalk}
 use Rattle.heap_walker.specs.Weight.{load_of, told}
 use Rattle.heap_walker.specs.declared.weight.Weight.{Weight}
@@ -18,8 +17,6 @@ use Rattle.command_line.specs.declared.status.Status.TheVariants.{Ok, WriteFault
 
 -- the things of a page that can be saved
 pub record CanBeSaved (s : Store) (things : List ℕ) : Type 0 where
-  -- until nodes, listeners and timers are saved; of other pages it is said that memory ran out
-  pub bare : IsBare s
   pub walked : IsWalk s things
   pub little : ¬ IsTooMuch (told (load_of s things))
   pub literals : HaveLiterals (plan (compact s things))

@@ -36,7 +36,7 @@ pub record IsTooLarge (bytes file : List ℕ) (w : Weight) : Type 0 where
   pub weighed : w ≡ told (load_of state things)
   pub more : IsTooMuch w
 
--- there are no more, and no more text: it can be saved, where it is bare
+-- there are no more, and no more text: it can be saved
 pub record IsMovable (bytes file : List ℕ) : Type 0 where
   pub state : Store
   pub things : List ℕ

@@ -13,7 +13,9 @@ use crate::saved_text::saved_text;
 use crate::session_words::LAST_VERSION;
 use crate::status::Status;
 use js_core::{OutOfMemory, Units};
-use moved_pages::{law_accepted_scripts_are_in_form, law_moved_pages_go_on};
+use moved_pages::{
+    law_accepted_pages_are_plain, law_accepted_scripts_are_in_form, law_moved_pages_go_on,
+};
 use opened_pages::{law_opened_pages_are_accepted, law_opened_pages_put_out_the_same};
 use page_check::law_one_answer;
 use page_io::{Files, Keeper, KeeperFault, KeptName};
@@ -99,6 +101,7 @@ pub fn park<F: Files, K: Keeper>(
         (K.seen keeper.old) (K.seen keeper.new) unwritten unwritten) }
 {
     law_one_answer();
+    law_accepted_pages_are_plain();
     law_accepted_scripts_are_in_form();
     law_moved_pages_go_on();
     law_opened_pages_are_accepted();

@@ -8,7 +8,9 @@ ghost use Rattle.command_line.specs.Texts.{Answers};
 use crate::reading::read_session;
 use crate::saving::save_page;
 use crate::status::Status;
-use moved_pages::{law_accepted_scripts_are_in_form, law_moved_pages_go_on};
+use moved_pages::{
+    law_accepted_pages_are_plain, law_accepted_scripts_are_in_form, law_moved_pages_go_on,
+};
 use opened_pages::{law_opened_pages_are_accepted, law_opened_pages_put_out_the_same};
 use page_check::law_one_answer;
 use page_io::{Files, Sink};
@@ -29,6 +31,7 @@ pub fn save<F: Files, O: Sink>(
         (O.seen out.old) (O.seen out.new)) }
 {
     law_one_answer();
+    law_accepted_pages_are_plain();
     law_accepted_scripts_are_in_form();
     law_moved_pages_go_on();
     law_opened_pages_are_accepted();

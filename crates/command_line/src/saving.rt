@@ -1,7 +1,6 @@
-//! What is saved of a page, where that can be.
+//! What is saved of a page.
 
 ghost use Rattle.std.specs.Prelude.{◌≡◌, ◌≤◌};
-ghost use Rattle.heap_walker.specs.Bare.{IsBare};
 ghost use Rattle.heap_walker.specs.Things.{IsWalk};
 ghost use Rattle.page_meaning.specs.Pages.{run_of};
 ghost use Rattle.opened_pages.specs.Opened.{HaveNumbers};
@@ -10,7 +9,7 @@ ghost use Rattle.command_line.specs.Page.{opened, running};
 
 use crate::replay::run_page;
 use crate::status::Status;
-use heap_walker::{Walked, is_bare, walk};
+use heap_walker::{Walked, walk};
 use js_core::OutOfMemory;
 use js_values::Event;
 use opened_pages::open_checked;
@@ -52,28 +51,14 @@ fn save_state<O: Sink>(state: &State, out: &mut O) -> Status
     ensures later { (O.seen out.old).faults ≤ (O.seen out.new).faults }
 {
     match walk(state) {
-        Ok(walked) => save_bare(state, &walked, out),
+        Ok(walked) => save_walked(state, &walked, out),
         Err(OutOfMemory) => Status::OutOfMemory,
     }
 }
 
-// Puts the page whose things these are, where it is bare. Until nodes are saved it is said of others that memory ran out.
-fn save_bare<O: Sink>(state: &State, walked: &Walked, out: &mut O) -> Status
-    requires { IsWalk state.now walked.now.things.keys }
-    ensures answer { IsAnswer state.now (O.seen out.old) (O.seen out.new) result }
-    ensures later { (O.seen out.old).faults ≤ (O.seen out.new).faults }
-{
-    match is_bare(state, walked) {
-        Ok(true) => save_walked(state, walked, out),
-        Ok(false) => Status::OutOfMemory,
-        Err(OutOfMemory) => Status::OutOfMemory,
-    }
-}
-
-// Puts the bare page whose things these are.
+// Puts the page whose things these are.
 fn save_walked<O: Sink>(state: &State, walked: &Walked, out: &mut O) -> Status
-    requires walked { IsWalk state.now walked.now.things.keys }
-    requires bare { IsBare state.now }
+    requires { IsWalk state.now walked.now.things.keys }
     ensures answer { IsAnswer state.now (O.seen out.old) (O.seen out.new) result }
     ensures later { (O.seen out.old).faults ≤ (O.seen out.new).faults }
 {

@@ -5,7 +5,7 @@ pub use Rattle.dom_tree.proofs.Generations.{Deep, parent_depth, stable, trees_ar
 pub use Rattle.dom_tree.proofs.Kept.{has_first, new_kids, new_up, same_trees}
 pub use Rattle.dom_tree.proofs.Lists.{eq_refl, eq_sym, has_head, has_put, has_tail, has_without_other, has_without_same, id_of, same_id}
 pub use Rattle.dom_tree.proofs.Moves.{fits, ready}
-pub use Rattle.dom_tree.proofs.Proper.{folded_name}
+pub use Rattle.dom_tree.proofs.Proper.{ProperParts, folded_name, proper_parts}
 pub use Rattle.dom_tree.proofs.Replacing.{IsAccepted, is_accepted, ready_for}
 pub use Rattle.dom_tree.proofs.Stays.{new_nodes_stay_sound, stands_in_place, steps_stay_sound}
 pub use Rattle.dom_tree.proofs.Taken.{Left, left}

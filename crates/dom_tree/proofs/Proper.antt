@@ -50,22 +50,22 @@ pub element_proper : (name : Text) → is_name name ≡ true → is_proper (new_
 element_proper name h = rw (folded_name name h) (or_right (takes_value (Element (folded name))) true refl)
 
 -- the parts of a proper content
-record Parts (c : Content) : Type 0 where
-  named : has_folded_name c.kind ≡ true
-  attributes : list_all (λ a. is_folded_name a.0) c.attributes ≡ true
-  distinct : has_distinct_names c.attributes ≡ true
-  only_elements : is_element c.kind || nat_eq (length c.attributes) 0 ≡ true
-  only_inputs : takes_value c.kind || is_none c.value ≡ true
+pub record ProperParts (c : Content) : Type 0 where
+  pub named : has_folded_name c.kind ≡ true
+  pub attributes : list_all (λ a. is_folded_name a.0) c.attributes ≡ true
+  pub distinct : has_distinct_names c.attributes ≡ true
+  pub only_elements : is_element c.kind || nat_eq (length c.attributes) 0 ≡ true
+  pub only_inputs : takes_value c.kind || is_none c.value ≡ true
 
-parts : (c : Content) → is_proper c ≡ true → Parts c
-parts c h =
+pub proper_parts : (c : Content) → is_proper c ≡ true → ProperParts c
+proper_parts c h =
     let w = and_parts (has_folded_name c.kind && list_all (λ a. is_folded_name a.0) c.attributes && has_distinct_names c.attributes && (is_element c.kind || nat_eq (length c.attributes) 0)) (takes_value c.kind || is_none c.value) h in
     let x = and_parts (has_folded_name c.kind && list_all (λ a. is_folded_name a.0) c.attributes && has_distinct_names c.attributes) (is_element c.kind || nat_eq (length c.attributes) 0) w.0 in
     let y = and_parts (has_folded_name c.kind && list_all (λ a. is_folded_name a.0) c.attributes) (has_distinct_names c.attributes) x.0 in
     let z = and_parts (has_folded_name c.kind) (list_all (λ a. is_folded_name a.0) c.attributes) y.0 in
     record { named = z.0; attributes = z.1; distinct = y.1; only_elements = x.1; only_inputs = w.1 }
 
-together : (c : Content) → Parts c → is_proper c ≡ true
+together : (c : Content) → ProperParts c → is_proper c ≡ true
 together c p = rw (p.named, p.attributes, p.distinct, p.only_elements, p.only_inputs) refl
 
 pub text_proper : (k : Kind) (attributes : Pairs) (value : Option Text) (text : Text) → has_text k ≡ true
@@ -77,7 +77,7 @@ text_proper (Element name) attributes value text h p = p
 
 pub value_proper : (c : Content) (text : Text) → takes_value c.kind ≡ true → is_proper c ≡ true → is_proper (with_value c text) ≡ true
 value_proper c text h p =
-    let q = parts c p in
+    let q = proper_parts c p in
     together (with_value c text) (record { named = q.named; attributes = q.attributes; distinct = q.distinct; only_elements = q.only_elements; only_inputs = rw h refl })
 
 set_all : (name v : Text) (as' : Pairs) → is_folded_name name ≡ true → list_all (λ a. is_folded_name a.0) as' ≡ true → list_all (λ a. is_folded_name a.0) (with_value_of name v as') ≡ true
@@ -160,12 +160,12 @@ remove_distinct name (a ∷ as') h =
 
 pub attribute_proper : (c : Content) (name v : Text) → is_name name ≡ true → is_element c.kind ≡ true → is_proper c ≡ true → is_proper (with_attribute c name v) ≡ true
 attribute_proper c name v n h p =
-    let q = parts c p in
+    let q = proper_parts c p in
     together (with_attribute c name v) (record { named = q.named; attributes = set_all (folded name) v c.attributes (folded_name name n) q.attributes; distinct = set_distinct (folded name) v c.attributes q.distinct; only_elements = rw h refl; only_inputs = q.only_inputs })
 
 pub without_attribute_proper : (c : Content) (name : Text) → is_element c.kind ≡ true → is_proper c ≡ true → is_proper (without_attribute c name) ≡ true
 without_attribute_proper c name h p =
-    let q = parts c p in
+    let q = proper_parts c p in
     together (without_attribute c name) (record { named = q.named; attributes = remove_all (folded name) c.attributes q.attributes; distinct = remove_distinct (folded name) c.attributes q.distinct; only_elements = rw h refl; only_inputs = q.only_inputs })
 
 -- with another text it stays what it is

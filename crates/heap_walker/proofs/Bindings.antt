@@ -20,7 +20,8 @@ use Rattle.object_shapes.specs.Links.{all_below, bound_links, event_links, parts
 use Rattle.page_meaning.specs.Store.{Store}
 use Rattle.scope_analysis.specs.Needs.{needed_variables}
 use Rattle.heap_walker.specs.Still.{Still, made_links}
-use Rattle.heap_walker.specs.Things.{Reach, bound_value, bound_values, class_links, links, needs_links, needs_of}
+use Rattle.heap_walker.specs.Things.{Reach, bound_value, bound_values, class_links, host_links, links, needs_links, needs_of}
+use Rattle.heap_walker.proofs.Hosted.{host_below}
 use Rattle.heap_walker.proofs.Walks.{thing_of}
 
 -- ---- what names are bound to
@@ -94,9 +95,10 @@ links_there s still k =
     let whole = below_parts n (shapes.made_links o) (event_links o.class ++ props_links o.props) (still.shaped.there k) in
     let props = below_parts n (event_links o.class) (props_links o.props) whole.1 in
     let made = below_parts n (proto_links o.proto) (parts_links o.class) whole.0 in
-    below_join n (proto_links o.proto) (class_links s o.class ++ props_links o.props) made.0
-    (below_join n (class_links s o.class) (props_links o.props)
-    (class_below s n o.class made.1 (λ source env is. needs_below s still env (needed_variables source))) props.1)
+    below_join n (proto_links o.proto) (class_links s o.class ++ (host_links s.host o.class ++ props_links o.props)) made.0
+    (below_join n (class_links s o.class) (host_links s.host o.class ++ props_links o.props)
+    (class_below s n o.class made.1 (λ source env is. needs_below s still env (needed_variables source)))
+    (below_join n (host_links s.host o.class) (props_links o.props) (host_below s still.shaped.host o.class props.0) props.1))
 
 pub made_below : (s : Store) → Still s → (k : ℕ) → Reach s k → all_below k (made_links s (object_at s.heap.objects k)) ≡ true
 made_below s still k reach =

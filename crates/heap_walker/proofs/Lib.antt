@@ -1,9 +1,11 @@
-pub mod Bareness
 pub mod Bindings
 pub mod Callers
+pub mod Groups
+pub mod Hosted
 pub mod Joining
 pub mod Needing
 pub mod Places
 pub mod Resting
+pub mod Siblings
 pub mod Walks
 pub mod Weights

@@ -1,4 +1,4 @@
-pub mod Bare
+pub mod Heard
 pub mod Laws
 pub mod Remade
 pub mod Still

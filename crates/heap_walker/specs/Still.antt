@@ -14,8 +14,10 @@ use Rattle.object_heap.specs.Environment.{environment_at, value_of}
 use Rattle.object_heap.specs.Heap.{IsSound, look_in}
 use Rattle.object_heap.specs.Object.{Object}
 use Rattle.object_heap.specs.declared.object.Class.TheVariants as class
+use Rattle.object_heap.specs.declared.object.EventParts.{EventParts}
 use Rattle.object_shapes.specs.Links.{all_below, proto_links}
 use Rattle.object_shapes.specs.Shapes.{IsShaped}
+use Rattle.page_host.specs.Sound.{ArePlain}
 use Rattle.page_meaning.specs.Store.{Store}
 use Rattle.early_rules.specs.EarlyRules.{early_rule}
 use Rattle.script_rules.specs.Form.{in_form}
@@ -23,12 +25,11 @@ use Rattle.scope_analysis.specs.Needs.{needed_variables}
 use Rattle.scope_analysis.specs.Identifiers.{is_reserved}
 use Rattle.early_rules.specs.Limits.{function_height_limit}
 use Rattle.scope_analysis.specs.Uses.{expr_uses}
-use Rattle.heap_walker.specs.Bare.{IsBare}
 use Rattle.heap_walker.specs.Things.{Reach, class_links, needs_links, needs_of}
 
 -- ---- references
 
--- what an object refers to from when it is made: its prototype, the parts of a bound function, the needed variables of a function
+-- what an object refers to from when it is made, all of it older: its prototype, the parts of a bound function, the needed variables of a function
 abbrev pub made_links : Store → Object → List ℕ
 made_links s o = proto_links o.proto ++ class_links s o.class
 
@@ -68,18 +69,24 @@ pub record IsFunctionAtRest (s : Store) (k : ℕ) (c : tree.Code) (env : Option 
   pub orderly : early_rule (wrapped c) ≡ None
   pub low : code_height c + 1 ≤ function_height_limit
 
+-- ---- events
+
+-- it is not under dispatch
+pub record IsQuiet (e : EventParts) : Type 0 where
+  pub phase : e.phase ≡ 0
+  pub current : e.current ≡ None
+
+abbrev pub EventsAreQuiet : Store → Type 0
+EventsAreQuiet s = (k : ℕ) (parts : EventParts) → (object_at s.heap.objects k).class ≡ class.Event parts → IsQuiet parts
+
 -- ---- the page
 
--- at rest, whatever its nodes, listeners and timers
-pub record Rests (s : Store) : Type 0 where
-  pub sound : IsSound s.heap
-  -- objects are as their makers left them, but for what scripts may change
-  pub shaped : IsShaped s
-  pub functions : (k : ℕ) (c : tree.Code) (env : Option EnvId) → Reach s k → (object_at s.heap.objects k).class ≡ class.Page c env → IsFunctionAtRest s k c env
-
--- at rest, and bare: so it can be saved
+-- at rest: so it can be saved
 pub record Still (s : Store) : Type 0 where
   pub sound : IsSound s.heap
+  -- objects, nodes, listeners and timers are as their makers left them, but for what scripts may change
   pub shaped : IsShaped s
   pub functions : (k : ℕ) (c : tree.Code) (env : Option EnvId) → Reach s k → (object_at s.heap.objects k).class ≡ class.Page c env → IsFunctionAtRest s k c env
-  pub bare : IsBare s
+  pub events : EventsAreQuiet s
+  -- no attribute's name begins with `on`
+  pub plain : ArePlain s.host.nodes

@@ -14,7 +14,7 @@ abbrev pub joined : Store → List ℕ → List ℕ → List ℕ
 joined s seen [] = seen
 joined s seen (k ∷ ks) = joined s (with_seen s seen k) ks
 
--- what was seen can be reached, holds the things that globals refer to, and those that its first ones refer to
+-- what was seen can be reached, holds the things that the page begins from, and those that its first ones refer to
 pub record IsPart (s : Store) (first : ℕ) (seen : List ℕ) : Type 0 where
   pub sound : (k : ℕ) → IsTrue (is_in k seen) → Reach s k
   pub roots : (k : ℕ) → IsTrue (is_thing s k) → IsTrue (is_in k (roots s)) → IsTrue (is_in k seen)

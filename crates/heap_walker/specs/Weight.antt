@@ -1,5 +1,11 @@
--- What a page weighs that is saved: how many things, properties, arguments and needed variables there are, and how long their texts are.
-use Rattle.std.specs.Prelude.{◌≡◌, ℕ, ◌+◌, ◌*◌, ◌^◌, ◌-◌, Bool, true, false, List, [], ◌∷◌, ◌&&◌, min, length, bytes_eq, if◌then◌else◌}
+-- What a page weighs that is saved: how many things, properties, arguments, needed variables, attributes, listeners and timers there are, and how
+-- long their texts are.
+use Rattle.std.specs.Prelude.{◌≡◌, ℕ, ◌+◌, ◌*◌, ◌^◌, ◌-◌, Bool, true, false, List, [], ◌∷◌, ◌&&◌, Option, Some, None, min, max, length, bytes_eq, if◌then◌else◌}
+use Rattle.dom_tree.specs.Attributes.{Pairs}
+use Rattle.dom_tree.specs.Node.{node_at}
+use Rattle.dom_tree.specs.declared.content.Content.{Content}
+use Rattle.dom_tree.specs.declared.content.Kind.{Kind}
+use Rattle.dom_tree.specs.declared.content.Kind.TheVariants as kind
 use Rattle.js_core.specs.Tree as tree
 use Rattle.js_print.specs.Printing.{code_text}
 use Rattle.js_values.specs.declared.value.Value.{Value}
@@ -9,9 +15,14 @@ use Rattle.object_heap.specs.Define.{length_name}
 use Rattle.object_heap.specs.Object.{Object}
 use Rattle.object_heap.specs.Property.{Props}
 use Rattle.object_heap.specs.declared.object.Class.{Class}
-use Rattle.object_heap.specs.declared.object.Class.TheVariants.{Bound, Page}
+use Rattle.object_heap.specs.declared.object.Class.TheVariants.{Bound, Event, Node, Page}
+use Rattle.js_values.specs.declared.ids.NodeId.{NodeId}
+use Rattle.page_host.specs.Host.{Host}
+use Rattle.page_host.specs.declared.listener.Listener.{Listener}
+use Rattle.page_meaning.specs.Places.{document}
 use Rattle.page_meaning.specs.Store.{Store}
-use Rattle.heap_walker.specs.Things.{IsWalk, globals_of, needs_of}
+use Rattle.timer_queue.specs.declared.timer.Live.{Live}
+use Rattle.heap_walker.specs.Things.{IsWalk, globals_of, heard_at, needs_of}
 use Rattle.heap_walker.specs.declared.weight.Weight.{Weight}
 
 -- ---- sums without a bound
@@ -62,10 +73,51 @@ arguments_load (v ∷ vs) = together (argument_load v) (arguments_load vs)
 abbrev pub code_load : tree.Code → Load
 code_load c = load 0 (length (code_text c))
 
+-- ---- nodes
+
+-- a text that is no thing of its own
+abbrev pub text_load : List ℕ → Load
+text_load t = load 0 (units (length t))
+
+abbrev pub kind_load : Kind → Load
+kind_load kind.Document = load 0 0
+kind_load (kind.Element name) = text_load name
+kind_load (kind.Text text) = text_load text
+kind_load (kind.Comment text) = text_load text
+
+abbrev pub set_load : Option (List ℕ) → Load
+set_load None = load 0 0
+set_load (Some text) = text_load text
+
+abbrev pub attribute_load : List ℕ × List ℕ → Load
+attribute_load a = load 1 (units (length a.0 + length a.1))
+
+abbrev pub attributes_load : Pairs → Load
+attributes_load [] = load 0 0
+attributes_load (a ∷ as') = together (attribute_load a) (attributes_load as')
+
+abbrev pub content_load : Content → Load
+content_load c = together (kind_load c.kind) (together (attributes_load c.attributes) (set_load c.value))
+
+abbrev pub listener_load : Listener → Load
+listener_load l = load 1 (units (length l.kind))
+
+abbrev pub listeners_load : List Listener → Load
+listeners_load [] = load 0 0
+listeners_load (l ∷ ls) = together (listener_load l) (listeners_load ls)
+
+-- a node with its listeners
+abbrev pub node_load : Host → NodeId → Load
+node_load h k = together (content_load (node_at h.nodes k.0).content) (listeners_load (heard_at k.0 h.listeners))
+
+-- ---- things
+
 -- what an object is besides its properties
 abbrev pub class_load : Store → Class → Load
 class_load s (Page c env) = together (code_load c) (needs_load (needs_of s env c))
 class_load s (Bound target this args) = together (value_load this) (arguments_load args)
+class_load s (Node k) = node_load s.host k
+class_load s (Event parts) = text_load parts.kind
 class_load s c = load 0 0
 
 -- the `length` of these is not written
@@ -82,16 +134,34 @@ written made (e ∷ es) = if made && bytes_eq e.0 length_name then written made 
 abbrev pub written_of : Object → Props
 written_of o = written (has_made_length o.class) o.props
 
+abbrev pub object_load : Store → Object → Load
+object_load s o = together (class_load s o.class) (props_load (written_of o))
+
 abbrev pub thing_load : Store → Object → Load
-thing_load s o = together (load 1 0) (together (class_load s o.class) (props_load (written_of o)))
+thing_load s o = together (load 1 0) (object_load s o)
 
 abbrev pub things_load : Store → List ℕ → Load
 things_load s [] = load 0 0
 things_load s (k ∷ ks) = together (thing_load s (object_at s.heap.objects k)) (things_load s ks)
 
+-- ---- the page
+
+-- the greatest id of a live timer
+abbrev pub greatest : List Live → ℕ
+greatest [] = 0
+greatest (t ∷ ts) = max t.id (greatest ts)
+
+-- each timer, and each id up to the greatest
+abbrev pub timers_load : List Live → Load
+timers_load ts = load (length ts + greatest ts) 0
+
+-- the document is no thing, but what it has is saved
+abbrev pub document_load : Store → Load
+document_load s = object_load s (object_at s.heap.objects document.0)
+
 -- all that is saved, where these things can be reached
 abbrev pub load_of : Store → List ℕ → Load
-load_of s ks = together (props_load (globals_of s)) (things_load s ks)
+load_of s ks = together (props_load (globals_of s)) (together (document_load s) (together (timers_load s.host.timers) (things_load s ks)))
 
 -- ---- what is told of them: a sum above 2^64 - 1 is told as that
 

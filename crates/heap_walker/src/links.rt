@@ -2,19 +2,26 @@
 
 ghost use Rattle.std.specs.Prelude.{◌≡◌, ◌++◌, OnOk, [], ◌∷◌, drop};
 ghost use Rattle.object_heap.specs.Chain.{object_at};
+ghost use Rattle.dom_tree.specs.Node.{parent_at};
+ghost use Rattle.heap_walker.specs.Heard.{AreHeard};
 ghost use Rattle.heap_walker.specs.Things as spec;
 ghost use Rattle.heap_walker.specs.Walking.{joined};
 ghost use Rattle.object_shapes.specs.Links as shape;
+ghost use Rattle.page_meaning.specs.Places.{document};
 ghost use Rattle.page_meaning.specs.Properties.{class_at};
 
+use crate::heard::Heard;
 use crate::needs::needs_of;
+use crate::nodes::{children, parent};
 use crate::{BUILT_IN_COUNT, BUILT_IN_GLOBALS};
 use code_table::FunctionCode;
 use indexmap::IndexSet;
 use js_core::{OutOfMemory, Units};
-use js_values::{EnvId, ObjId, Value};
+use js_values::{EnvId, NodeId, ObjId, Value};
 use object_heap::Class;
-use page_state::{State, WINDOW, further};
+use page_host::Listener;
+use page_state::{DOCUMENT, State, WINDOW, further};
+use timer_queue::Live;
 
 // The object is seen, if it is a thing.
 #[tactic(auto, unfolding(page_meaning::specs::Places::built_in_count))]
@@ -144,22 +151,176 @@ fn see_class(state: &State, at: ObjId, seen: &mut IndexSet<u64>) -> Result<(), O
     }
 }
 
+// The object of a node.
+fn see_node_object(state: &State, node: NodeId, seen: &mut IndexSet<u64>) -> Result<(), OutOfMemory>
+    ensures { OnOk result (seen.new.keys ≡ joined state.now seen.old.keys
+        (spec.nodes_links state.now.host.objects (node ∷ []))) }
+{
+    see(state, state.host().object_of(node), seen)
+}
+
+fn see_parent(state: &State, node: NodeId, seen: &mut IndexSet<u64>) -> Result<(), OutOfMemory>
+    ensures { OnOk result (seen.new.keys ≡ joined state.now seen.old.keys
+        (spec.parent_links state.now.host.objects (parent_at state.now.host.nodes node.0))) }
+{
+    match parent(state.host().dom(), node) {
+        Some(parent) => see_node_object(state, parent, seen),
+        None => Ok(()),
+    }
+}
+
+// The objects of nodes.
+fn see_nodes(state: &State, nodes: &[NodeId], seen: &mut IndexSet<u64>) -> Result<(), OutOfMemory>
+    ensures { OnOk result (seen.new.keys ≡ joined state.now seen.old.keys
+        (spec.nodes_links state.now.host.objects nodes.now)) }
+{
+    let mut rest = nodes;
+    while let [node, after @ ..] = rest {
+        see_node_object(state, *node, seen)?;
+        rest = after;
+    }
+    Ok(())
+}
+
+// The functions of listeners.
+fn see_calls(
+    state: &State,
+    listeners: &[Listener],
+    seen: &mut IndexSet<u64>,
+) -> Result<(), OutOfMemory>
+    ensures { OnOk result (seen.new.keys
+        ≡ joined state.now seen.old.keys (spec.calls_links listeners.now)) }
+{
+    let mut rest = listeners;
+    while let [listener, after @ ..] = rest {
+        see(state, listener.call, seen)?;
+        rest = after;
+    }
+    Ok(())
+}
+
+// The nodes next to a node, and its listeners.
+#[tactic(auto, using(crate::proofs::Joining::joined_both))]
+fn see_node(
+    state: &State,
+    heard: &Heard,
+    node: NodeId,
+    seen: &mut IndexSet<u64>,
+) -> Result<(), OutOfMemory>
+    requires { AreHeard state.now.host.listeners heard.now }
+    ensures { OnOk result (seen.new.keys
+        ≡ joined state.now seen.old.keys (spec.node_links state.now.host node)) }
+{
+    see_parent(state, node, seen)?;
+    let children = children(state.alloc(), state.host().dom(), node)?;
+    see_nodes(state, children.as_slice(), seen)?;
+    see_calls(state, heard.at(node), seen)
+}
+
+// The target of an event.
+fn see_target(
+    state: &State,
+    target: Option<ObjId>,
+    seen: &mut IndexSet<u64>,
+) -> Result<(), OutOfMemory>
+    ensures { OnOk result (seen.new.keys
+        ≡ joined state.now seen.old.keys (shape.proto_links target)) }
+{
+    match target {
+        Some(at) => see(state, at, seen),
+        None => Ok(()),
+    }
+}
+
+// What only nodes and events refer to.
+fn see_host(
+    state: &State,
+    heard: &Heard,
+    at: ObjId,
+    seen: &mut IndexSet<u64>,
+) -> Result<(), OutOfMemory>
+    requires { AreHeard state.now.host.listeners heard.now }
+    ensures { OnOk result (seen.new.keys ≡ joined state.now seen.old.keys
+        (spec.host_links state.now.host (class_at state.now at))) }
+{
+    match state.class(at) {
+        Class::Node(node) => see_node(state, heard, *node, seen),
+        Class::Event(parts) => see_target(state, parts.target, seen),
+        Class::Plain
+        | Class::List
+        | Class::Page { .. }
+        | Class::Native(_)
+        | Class::Bound { .. }
+        | Class::Fault
+        | Class::Math
+        | Class::Window => Ok(()),
+    }
+}
+
 /// All that an object refers to is seen, as far as it is a thing.
 #[tactic(auto, using(crate::proofs::Joining::joined_both))]
-pub fn see_links(state: &State, at: ObjId, seen: &mut IndexSet<u64>) -> Result<(), OutOfMemory>
+pub fn see_links(
+    state: &State,
+    heard: &Heard,
+    at: ObjId,
+    seen: &mut IndexSet<u64>,
+) -> Result<(), OutOfMemory>
+    requires { AreHeard state.now.host.listeners heard.now }
     ensures { OnOk result (seen.new.keys
         ≡ joined state.now seen.old.keys (spec.links state.now at.0)) }
 {
     see_proto(state, at, seen)?;
     see_class(state, at, seen)?;
+    see_host(state, heard, at, seen)?;
     see_properties(state, at, 0, seen)
 }
 
-/// What globals refer to is seen, as far as it is a thing.
+// The functions of timers.
+fn see_live(state: &State, timers: &[Live], seen: &mut IndexSet<u64>) -> Result<(), OutOfMemory>
+    ensures { OnOk result (seen.new.keys
+        ≡ joined state.now seen.old.keys (spec.timers_links timers.now)) }
+{
+    let mut rest = timers;
+    while let [timer, after @ ..] = rest {
+        see(state, timer.call, seen)?;
+        rest = after;
+    }
+    Ok(())
+}
+
+fn see_timers(state: &State, seen: &mut IndexSet<u64>) -> Result<(), OutOfMemory>
+    ensures { OnOk result (seen.new.keys
+        ≡ joined state.now seen.old.keys (spec.timers_links state.now.host.timers)) }
+{
+    see_live(state, state.host().timers(), seen)
+}
+
+// What globals refer to.
 #[tactic(auto, unfolding(page_meaning::specs::Pristine::built_in_globals))]
-pub fn see_globals(state: &State, seen: &mut IndexSet<u64>) -> Result<(), OutOfMemory>
+fn see_globals(state: &State, seen: &mut IndexSet<u64>) -> Result<(), OutOfMemory>
+    ensures { OnOk result (seen.new.keys ≡ joined state.now seen.old.keys
+        (shape.props_links (spec.globals_of state.now))) }
+{
+    see_properties(state, WINDOW, BUILT_IN_GLOBALS, seen)
+}
+
+#[tactic(auto, unfolding(page_meaning::specs::Places::built_in_count))]
+fn see_document(state: &State, heard: &Heard, seen: &mut IndexSet<u64>) -> Result<(), OutOfMemory>
+    requires { AreHeard state.now.host.listeners heard.now }
+    ensures { OnOk result (seen.new.keys
+        ≡ joined state.now seen.old.keys (spec.links state.now document.0)) }
+{
+    see_links(state, heard, DOCUMENT, seen)
+}
+
+/// What globals, the document and timers refer to is seen, as far as it is a thing.
+#[tactic(auto, using(crate::proofs::Joining::joined_both))]
+pub fn see_roots(state: &State, heard: &Heard, seen: &mut IndexSet<u64>) -> Result<(), OutOfMemory>
+    requires { AreHeard state.now.host.listeners heard.now }
     ensures { OnOk result (seen.new.keys
         ≡ joined state.now seen.old.keys (spec.roots state.now)) }
 {
-    see_properties(state, WINDOW, BUILT_IN_GLOBALS, seen)
+    see_globals(state, seen)?;
+    see_document(state, heard, seen)?;
+    see_timers(state, seen)
 }

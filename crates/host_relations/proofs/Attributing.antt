@@ -21,7 +21,7 @@ all_stay (u ∷ us) h =
     let rest = all_stay us parts.1 in
     λ i. first i ∷ rest i
 
-folded_is : (name : Text) → is_folded_name name ≡ true → folded name ≡ name
+pub folded_is : (name : Text) → is_folded_name name ≡ true → folded name ≡ name
 folded_is name h = all_stay name (and_parts (is_name name) (list_all (λ u. not (is_ascii_uppercase u)) name) h).1
 
 last : (name v : Text) (acc : Pairs) → value_of name acc ≡ None → with_value_of name v acc ≡ acc ++ (name, v) ∷ []

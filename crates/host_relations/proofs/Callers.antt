@@ -28,17 +28,18 @@ use Rattle.host_relations.specs.Paths.{PlaceRel}
 use Rattle.host_relations.specs.Timers.{Clocks, TimerRel, MomentRel}
 -- the theorems as they stand
 pub use Rattle.host_relations.proofs.Appending.{alone_at, appends_rebuild}
-pub use Rattle.host_relations.proofs.Attributing.{attributes_are_rebuilt}
+pub use Rattle.host_relations.proofs.Attributing.{attributes_are_rebuilt, folded_is}
 pub use Rattle.host_relations.proofs.Carrying.{alone_trees, appends_carry}
 pub use Rattle.host_relations.proofs.Compacting.{equal_nodes_agree}
+pub use Rattle.host_relations.proofs.Distinct.{AreNew, passed_new}
 pub use Rattle.host_relations.proofs.Joining.{new_nodes_join}
 pub use Rattle.host_relations.proofs.JoiningHeaps.{node_objects_join}
 pub use Rattle.host_relations.proofs.Larger.{heard_up, hosts_stay, linked_up, listener_up, nodes_up, timers_up}
 pub use Rattle.host_relations.proofs.NodePairs.{made_nodes_agree, new_nodes_agree, others_do_not_count}
 pub use Rattle.host_relations.proofs.NodeReads.{nodes_agree}
 pub use Rattle.host_relations.proofs.NodeSteps.{node_steps_keep}
-pub use Rattle.host_relations.proofs.Rehearing.{listeners_are_rebuilt}
-pub use Rattle.host_relations.proofs.Restarts.{rebuilt_timers_agree, timers_are_rebuilt}
+pub use Rattle.host_relations.proofs.Rehearing.{AreOf, all_of_node, heard_of, listeners_are_rebuilt, with_more}
+pub use Rattle.host_relations.proofs.Restarts.{AreAll, again_is, all_again, all_filled, none_yet, rebuilt_timers_agree, timers_are_rebuilt}
 pub use Rattle.host_relations.proofs.Steps.{steps_keep}
 pub use Rattle.host_relations.proofs.TimersKept.{timers_keep_agreement}
 

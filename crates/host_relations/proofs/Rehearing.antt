@@ -16,11 +16,11 @@ end [] = refl
 end (x ∷ l) = ap (λ m. x ∷ m) (end l)
 
 -- what is added to those of a node
-abbrev with_more : (ℕ → List Listener) → ℕ → List Listener → ℕ → List Listener
+abbrev pub with_more : (ℕ → List Listener) → ℕ → List Listener → ℕ → List Listener
 with_more f k m j = f j ++ (if nat_eq j k then m else [])
 
 -- all of them are of the node
-abbrev AreOf : ℕ → List Listener → Type 0
+abbrev pub AreOf : ℕ → List Listener → Type 0
 AreOf k [] = Unit {0}
 AreOf k (l ∷ ls) = (l.node.0 ≡ k) × AreOf k ls
 
@@ -30,7 +30,7 @@ one_added f l k acc e h new j =
     let absent : is_registered acc l ≡ false = same_here l acc ∙ ap (λ z. is_registered z l) (ap (λ i. heard_at i acc) e ∙ h k) ∙ new in
     rw (absent, appends (λ m. nat_eq j m.node.0) acc (l ∷ []), h j, e) refl
 
-all_of_node : (f : ℕ → List Listener) (k : ℕ) (m before acc : List Listener) → AreOf k m → AreNew before m → f k ≡ before → ((j : ℕ) → heard_at j acc ≡ f j)
+pub all_of_node : (f : ℕ → List Listener) (k : ℕ) (m before acc : List Listener) → AreOf k m → AreNew before m → f k ≡ before → ((j : ℕ) → heard_at j acc ≡ f j)
     → (j : ℕ) → heard_at j (added m acc) ≡ with_more f k m j
 all_of_node f k [] before acc of new at h j = h j ∙ sym (ap (λ l. f j ++ l) (both (nat_eq j k)) ∙ end (f j))
   where
@@ -49,7 +49,7 @@ all_of_node f k (l ∷ m) before acc of new at h j =
     seam true = refl
     seam false = refl
 
-heard_of : (k : ℕ) (ls : List Listener) → AreOf k (heard_at k ls)
+pub heard_of : (k : ℕ) (ls : List Listener) → AreOf k (heard_at k ls)
 heard_of k [] = tt
 heard_of k (l ∷ ls) = by (nat_eq k l.node.0) refl (heard_of k ls)
   where

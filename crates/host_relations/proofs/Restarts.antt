@@ -57,10 +57,10 @@ none_there [] h = refl
 none_there (u ∷ us) h = let e : ((u.id == u.id) || is_live us u.id) ≡ false = h u.id in let f = is_same u.id u.id refl in absurd (cc)
 
 -- live are exactly the ids from 1 to n
-record AreAll (n : ℕ) (us : List Live) : Type 0 where
-  nought : is_live us 0 ≡ false
-  inside : (id : ℕ) → 0 < id → id ≤ n → is_live us id ≡ true
-  outside : (id : ℕ) → n < id → is_live us id ≡ false
+pub record AreAll (n : ℕ) (us : List Live) : Type 0 where
+  pub nought : is_live us 0 ≡ false
+  pub inside : (id : ℕ) → 0 < id → id ≤ n → is_live us id ≡ true
+  pub outside : (id : ℕ) → n < id → is_live us id ≡ false
 
 -- ---- fillers
 
@@ -94,14 +94,14 @@ all_started n us t e h = record {
     by id above low (inr (inl x)) = absurd (omega (arith, low, x))
     by id above low (inr (inr x)) = inr (is_same t.id id (e ∙ sym x))
 
-all_filled : (n k : ℕ) (call : ObjId) (us : List Live) → AreAll k us → AreAll (k + n) (filled n call us)
+pub all_filled : (n k : ℕ) (call : ObjId) (us : List Live) → AreAll k us → AreAll (k + n) (filled n call us)
 all_filled zero k call us h = subst (λ i. AreAll i us) (omega arith) h
 all_filled (suc n) k call us h =
     let t : Live = record { id = least_free us; due = 0 + 0; period = None; call = call } in
     subst (λ i. AreAll i (filled n call (started us 0 0 None call))) (omega arith)
     (all_filled n (suc k) call (started us 0 0 None call) (all_started k us t (next_is k us h) h))
 
-none_yet : AreAll 0 []
+pub none_yet : AreAll 0 []
 none_yet = record { nought = refl; inside = λ id above low. absurd (omega (arith, above, low)); outside = λ id high. refl }
 
 plain : (n : ℕ) → 0 + n ≡ n
@@ -118,7 +118,7 @@ abbrev AreWithin : ℕ → List Live → Type 0
 AreWithin n [] = Unit {0}
 AreWithin n (t ∷ ts) = (0 < t.id) × (t.id ≤ n) × AreWithin n ts
 
-all_again : (n : ℕ) (us : List Live) (t u : Live) → u.id ≡ t.id → 0 < t.id → t.id ≤ n → AreAll n us → AreAll n (cleared us t.id ++ u ∷ [])
+pub all_again : (n : ℕ) (us : List Live) (t u : Live) → u.id ≡ t.id → 0 < t.id → t.id ≤ n → AreAll n us → AreAll n (cleared us t.id ++ u ∷ [])
 all_again n us t u e above low h = record {
   nought = one_more (cleared us t.id) u 0 ∙ both_false (is_live (cleared us t.id) 0) (u.id == 0) (cleared_stays_free us t.id 0 h.nought) (is_other u.id 0 (λ f. omega (arith, e, f, above)));
   inside = λ id pos small. one_more (cleared us t.id) u id ∙ either_true (is_live (cleared us t.id) id) (u.id == id) (by id (h.inside id pos small) (t.id == id) refl);
@@ -129,7 +129,7 @@ all_again n us t u e above low h = record {
     by id live true f = inr (is_same u.id id (e ∙ same_id t.id id f))
     by id live false f = inl (live_cleared us t.id id f live)
 
-again_is : (n : ℕ) (us : List Live) (t : Live) → 0 < t.id → t.id ≤ n → AreAll n us → least_free (cleared us t.id) ≡ t.id
+pub again_is : (n : ℕ) (us : List Live) (t : Live) → 0 < t.id → t.id ≤ n → AreAll n us → least_free (cleared us t.id) ≡ t.id
 again_is n us t above low h =
     least_is (cleared us t.id) t.id above (cleared_frees us t.id)
     (λ k pos small. live_cleared us t.id k (is_other t.id k (λ f. omega (arith, f, small))) (h.inside k pos (omega (arith, small, low))))

@@ -1,15 +1,15 @@
 -- That the text of a saved page is accepted as a form page, with its script.
-use Rattle.std.proofs.Common.{◌≡◌, ◌∙◌, ℕ, true, false, List, [], ◌∷◌, ◌++◌, refl, sym, ap, subst, append_assoc}
+use Rattle.std.proofs.Common.{◌≡◌, ◌∙◌, ℕ, true, List, ◌++◌, refl, sym, ap, subst, append_assoc}
 use Rattle.std.specs.Prelude.{codes}
 use Rattle.js_print.specs.Lexemes.{stmts_lexemes}
 use Rattle.js_print.specs.Lined.{LinedScriptsAreReadAgain, lined_text}
 use Rattle.js_print.specs.ReadAgain.{begins_strict}
 use Rattle.page_check.specs.Accept.{IsAccepted}
 use Rattle.page_writer.specs.FormScripts.{SavedScriptsAreForm}
-use Rattle.page_writer.specs.Page.{lines, page_head, page_of}
+use Rattle.page_writer.specs.Page.{page_of, script_text}
 use Rattle.page_writer.specs.Script.{saved_script}
 use Rattle.printed_pages.proofs.Callers.{ScriptPages, framed_scripts_are_accepted}
-use Rattle.printed_pages.specs.Printed.{framed, framed_page, page_back}
+use Rattle.printed_pages.specs.Printed.{framed, framed_page, page_front}
 use Rattle.rebuild_plan.specs.Compact.{compact}
 use Rattle.rebuild_plan.specs.Plan.{plan}
 use Rattle.rebuild_plan.specs.declared.statement.Rebuild.{Rebuild}
@@ -18,7 +18,7 @@ use Rattle.moved_pages.proofs.LinedPage.{page_marks, script_is_lined, script_may
 
 saved_is_framed : (rs : List Rebuild) → page_of rs ≡ framed (lined_text (page_marks rs) (stmts_lexemes (saved_script rs)))
 saved_is_framed rs =
-    ap (λ (t : List ℕ). page_head ++ t) (sym (append_assoc (lines rs) (codes "}") page_back))
+    ap (λ (t : List ℕ). page_front ++ t) (append_assoc (script_text rs) (codes "</script>") (codes "</html>"))
     ∙ ap framed (sym (script_is_lined rs))
 
 saved_begins_strict : (rs : List Rebuild) → begins_strict (saved_script rs) ≡ true

@@ -3,7 +3,7 @@ use Rattle.std.proofs.Common.{refl, subst, sym}
 use Rattle.page_meaning.specs.Laws.{LinesGrow}
 use Rattle.page_meaning.specs.Pages.{do_event, load_of, run_all, run_of}
 use Rattle.page_meaning.specs.Store.{Store}
-use Rattle.moved_pages.specs.Moved.{FollowsFrom, MovesJoin}
+use Rattle.moved_pages.specs.Moved.{MovesJoin}
 use Rattle.moved_pages.proofs.EventStores.{Events, Follows, joined, run_append}
 
 -- pages, as stores to which each event appends lines

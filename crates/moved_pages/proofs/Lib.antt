@@ -1,8 +1,9 @@
 pub mod Accepted
-pub mod InForm
 pub mod EventStores
+pub mod InForm
 pub mod Joining
 pub mod LinedPage
 pub mod Moved
+pub mod PlainPages
 pub mod UsedNames
 pub mod Written

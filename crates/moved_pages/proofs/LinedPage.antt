@@ -14,8 +14,8 @@ use Rattle.js_print.specs.Lined.{lined_after, lined_text, may_be_lined, opening}
 use Rattle.js_print.specs.Places.{placed}
 use Rattle.js_print.specs.ReadBack.{kind_of}
 use Rattle.js_print.specs.Spelling.{is_word, lexeme_text, space_between, text_after, text_of}
-use Rattle.page_writer.specs.Page.{line, lines}
-use Rattle.page_writer.specs.Script.{saved_script, statements}
+use Rattle.page_writer.specs.Page.{line, lines, script_head}
+use Rattle.page_writer.specs.Script.{clearing, saved_script, statements}
 use Rattle.page_writer.specs.Statements.{rebuild_expr, statement}
 use Rattle.rebuild_plan.specs.declared.statement.Rebuild.{Rebuild}
 
@@ -31,10 +31,14 @@ abbrev line_of : List Lexeme → List Bool
 line_of [] = []
 line_of (x ∷ xs) = true ∷ none_of xs
 
--- one stands before each statement, and before the brace behind them
+-- one stands before each statement, and before the brace after them
 abbrev marks_of : List Rebuild → List Bool
 marks_of [] = true ∷ []
 marks_of (r ∷ rs) = line_of (stmt_lexemes (statement r)) ++ marks_of rs
+
+-- and before the statement that takes the frame's nodes out, which comes first
+abbrev all_marks : List Rebuild → List Bool
+all_marks rs = line_of (stmt_lexemes clearing) ++ marks_of rs
 
 -- what stands before the statements
 abbrev head_lexemes : List Lexeme
@@ -49,8 +53,11 @@ mark = Punct punct.Semicolon
 abbrev behind_head : List Rebuild → List Lexeme
 behind_head rs = stmts_lexemes (statements rs) ++ Punct punct.RightBrace ∷ []
 
+abbrev cleared : List Rebuild → List Lexeme
+cleared rs = stmt_lexemes clearing ++ behind_head rs
+
 abbrev pub page_marks : List Rebuild → List Bool
-page_marks rs = none_of head_lexemes ++ marks_of rs
+page_marks rs = none_of head_lexemes ++ all_marks rs
 
 -- the last of them, or the one before them
 abbrev last_of : Lexeme → List Lexeme → Lexeme
@@ -65,8 +72,14 @@ last_is_mark (x ∷ xs) b = last_is_mark xs x
 abbrev body_of : Rebuild → List Lexeme
 body_of r = placed Statement (rebuild_expr r) (expr_lexemes (rebuild_expr r))
 
-script_lexemes : (rs : List Rebuild) → stmts_lexemes (saved_script rs) ≡ head_lexemes ++ behind_head rs
-script_lexemes rs = ap (λ (t : List Lexeme). head_lexemes ++ t) (append-nil ((behind_head rs ++ [])) ∙ append-nil (behind_head rs))
+-- the same of the statement that takes the frame's nodes out
+abbrev clearing_body : List Lexeme
+clearing_body =
+    Name (codes "document") ∷ Punct punct.Dot ∷ Name (codes "removeChild") ∷ Punct punct.LeftParenthesis ∷ Name (codes "document") ∷ Punct punct.Dot
+    ∷ Name (codes "documentElement") ∷ Punct punct.RightParenthesis ∷ []
+
+script_lexemes : (rs : List Rebuild) → stmts_lexemes (saved_script rs) ≡ head_lexemes ++ cleared rs
+script_lexemes rs = ap (λ (t : List Lexeme). head_lexemes ++ t) (append-nil ((cleared rs ++ [])) ∙ append-nil (cleared rs))
 
 more_lexemes : (r : Rebuild) (rs : List Rebuild) → behind_head (r ∷ rs) ≡ (body_of r ++ mark ∷ []) ++ behind_head rs
 more_lexemes r rs = append_assoc (body_of r ++ mark ∷ []) (stmts_lexemes (statements rs)) (Punct punct.RightBrace ∷ [])
@@ -104,17 +117,27 @@ lines_text (r ∷ rs) w =
     ∙ ap (λ (t : List ℕ). 10 ∷ (text ++ t)) (lines_text rs false)
     ∙ ap (λ (t : List ℕ). 10 ∷ t) (sym (append_assoc text (10 ∷ []) (lines rs ++ codes "}")) ∙ sym (append_assoc (line r) (lines rs) (codes "}")))
 
+clearing_text : text_of (clearing_body ++ mark ∷ []) ++ 10 ∷ [] ≡ codes "document.removeChild(document.documentElement);\n"
+unfolding lib.Utf8.encode
+clearing_text = refl
+
+-- with the statement before them
+cleared_text : (rs : List Rebuild) (w : Bool) → lined_after w (all_marks rs) (cleared rs) ≡ 10 ∷ (codes "document.removeChild(document.documentElement);\n" ++ (lines rs ++ codes "}"))
+cleared_text rs w =
+    line_text clearing_body (behind_head rs) w (marks_of rs)
+    ∙ ap (λ (t : List ℕ). 10 ∷ (text_of (clearing_body ++ mark ∷ []) ++ t)) (lines_text rs false)
+    ∙ ap (λ (t : List ℕ). 10 ∷ t) (sym (append_assoc (text_of (clearing_body ++ mark ∷ [])) (10 ∷ []) (lines rs ++ codes "}")) ∙ ap (λ (t : List ℕ). t ++ (lines rs ++ codes "}")) clearing_text)
+
 head_text : text_of head_lexemes ≡ codes "\"use strict\";try{throw[];}catch($$){"
 head_text = ap (λ (d : List ℕ). codes "\"use strict\";try{throw[];}catch(" ++ ((d ++ (d ++ [])) ++ codes "){")) (encode_ascii 36 (lit< tt))
 
 -- the text of the script, in whose lines the statements stand
-pub script_is_lined : (rs : List Rebuild) →
-    lined_text (page_marks rs) (stmts_lexemes (saved_script rs)) ≡ codes "\"use strict\";try{throw[];}catch($$){\n" ++ (lines rs ++ codes "}")
+pub script_is_lined : (rs : List Rebuild) → lined_text (page_marks rs) (stmts_lexemes (saved_script rs)) ≡ script_head ++ (lines rs ++ codes "}")
 script_is_lined rs =
     ap (lined_text (page_marks rs)) (script_lexemes rs)
-    ∙ plain_text head_lexemes (behind_head rs) opening (marks_of rs)
-    ∙ ap (λ (t : List ℕ). t ++ lined_after false (marks_of rs) (behind_head rs)) head_text
-    ∙ ap (λ (t : List ℕ). codes "\"use strict\";try{throw[];}catch($$){" ++ t) (lines_text rs false)
+    ∙ plain_text head_lexemes (cleared rs) opening (all_marks rs)
+    ∙ ap (λ (t : List ℕ). t ++ lined_after false (all_marks rs) (cleared rs)) head_text
+    ∙ ap (λ (t : List ℕ). codes "\"use strict\";try{throw[];}catch($$){" ++ t) (cleared_text rs false)
 
 -- ---- where line ends may stand
 
@@ -144,4 +167,5 @@ lines_may (r ∷ rs) b e =
 pub script_may_be_lined : (rs : List Rebuild) → may_be_lined opening (page_marks rs) (stmts_lexemes (saved_script rs)) ≡ true
 script_may_be_lined rs =
     ap (may_be_lined opening (page_marks rs)) (script_lexemes rs)
-    ∙ none_may head_lexemes (behind_head rs) opening (marks_of rs) ∙ lines_may rs (Punct punct.LeftBrace) refl
+    ∙ none_may head_lexemes (cleared rs) opening (all_marks rs) ∙ line_may clearing_body (behind_head rs) (Punct punct.LeftBrace) (marks_of rs) refl
+    ∙ lines_may rs mark refl

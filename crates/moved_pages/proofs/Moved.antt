@@ -5,8 +5,7 @@ use Rattle.js_core.specs.Tree as tree
 use Rattle.js_print.specs.Lined.{LinedScriptsAreReadAgain}
 use Rattle.js_values.specs.declared.event.Event.{Event}
 use Rattle.js_values.specs.declared.line.Line.{Line}
-use Rattle.heap_walker.specs.Bare.{IsBare}
-use Rattle.heap_walker.specs.Still.{Rests, Still}
+use Rattle.heap_walker.specs.Still.{Still}
 use Rattle.page_meaning.specs.Pages.{Page, load_of, run_all, run_of}
 use Rattle.page_meaning.specs.Store.{Store}
 use Rattle.page_meaning.specs.Tasks.{step_limit}
@@ -31,9 +30,13 @@ use Rattle.moved_pages.proofs.Written.{are_written}
 -- ---- what a saved page is rebuilt from
 
 -- a script has more steps
-few_steps : (n load : ℕ) → n ≤ 2 * load → load ≤ 75000 → n < step_limit
+few_steps : (n load : ℕ) → n ≤ 4 * load + 1 → load ≤ 75000 → n + 1 < step_limit
 unfolding step_limit
 few_steps n load few small = omega arith
+
+-- a step for each statement, and one for that which takes the frame's nodes out
+few_within : (n load : ℕ) → n ≤ 4 * load + 1 → n + 1 ≤ 4 * load + 4
+few_within n load few = omega (arith, few)
 
 -- what takes few steps takes no more than more
 loads_within : (script : tree.Stmts) (n m : ℕ) → n ≤ m → LoadsWithin script n → LoadsWithin script m
@@ -43,19 +46,16 @@ loads_within script n m more h = record { signal = h.signal; after = h.after; le
 fits : (n things text : ℕ) → n ≤ 160 * things + text + 4096 → things ≤ things_limit → text ≤ text_limit → n ≤ longest_page
 fits n things text bound few short = omega arith
 
--- a bare page at rest can be saved
-still_of : (s : Store) → Rests s → IsBare s → Still s
-still_of s rests bare = record { sound = rests.sound; shaped = rests.shaped; functions = rests.functions; bare = bare }
-
 can_be_rebuilt : PlansAreFew → PagesRest → (page : Page) (earlier : List Event) (things : List ℕ) → CanBeMoved page earlier things
     → CanBeRebuilt (run_of page earlier) things
 can_be_rebuilt few rest page earlier things can =
     let s : Store = run_of page earlier in
+    let still : Still s = (rest page earlier things can.sound can.plain can.in_form can.walked).0 in
     record {
-      still = still_of s (rest page earlier things can.sound can.in_form can.walked).0 can.bare;
+      still = still;
       walk = can.walked;
       in_range = can.literals;
-      few = few_steps (length (plan (compact s things))) (weight.load_of s things).things (few s things) can.few;
+      few = few_steps (length (plan (compact s things))) (weight.load_of s things).things (few s things still can.walked) can.few;
     }
 
 -- ---- the law
@@ -64,8 +64,8 @@ pub moved_pages_go_on : PagesAreShort → SavedScriptsAreForm → LinedScriptsAr
     → MovedPagesGoOn
 moved_pages_go_on bound form lined pages stand few rest rebuild go_on saved_again steps page earlier things can =
     let s : Store = run_of page earlier in
-    let at_rest = rest page earlier things can.sound can.in_form can.walked in
-    let still : Still s = still_of s at_rest.0 can.bare in
+    let at_rest = rest page earlier things can.sound can.plain can.in_form can.walked in
+    let still : Still s = at_rest.0 in
     let rs : List Rebuild = plan (compact s things) in
     let t : Store = load_of (saved_in_frame rs) in
     let ready = can_be_rebuilt few rest page earlier things can in
@@ -73,7 +73,8 @@ moved_pages_go_on bound form lined pages stand few rest rebuild go_on saved_agai
     let silent : t.lines ≡ [] = (rebuild s things ready).0 in (
       record {
         script = saved_script rs;
-        within = loads_within (saved_script rs) (length rs) (2 * (weight.load_of s things).things) (few s things) (steps s things ready);
+        within = loads_within (saved_script rs) (length rs + 1) (4 * (weight.load_of s things).things + 4)
+            (few_within (length rs) (weight.load_of s things).things (few s things still can.walked)) (steps s things ready);
         goes_on = record {
           fits = fits (length (saved_page s things)) (weight.load_of s things).things (weight.load_of s things).text
               (bound s things still can.walked can.few can.literals) can.few can.short;

@@ -1,14 +1,14 @@
 -- A moved page behaves as if it had never moved.
-use Rattle.std.specs.Prelude.{◌≡◌, ℕ, ◌≤◌, true, List, [], length, ◌++◌, ◌+◌, ◌*◌}
+use Rattle.std.specs.Prelude.{◌≡◌, ℕ, ◌≤◌, true, List, [], ◌∷◌, length, ◌++◌, ◌+◌, ◌*◌}
 use Rattle.std.specs.List.{All, list_all}
 use Rattle.dom_tree.specs.Sound.{IsSound}
-use Rattle.heap_walker.specs.Bare.{IsBare}
 use Rattle.heap_walker.specs.Things.{IsWalk}
 use Rattle.heap_walker.specs.Weight.{load_of}
 use Rattle.js_core.specs.Tree as tree
 use Rattle.js_values.specs.declared.event.Event.{Event}
 use Rattle.page_check.specs.Accept.{IsAccepted}
 use Rattle.page_check.specs.Rules.{Page as Accepted}
+use Rattle.page_host.specs.Sound.{ArePlain}
 use Rattle.page_meaning.specs.Pages.{Page, lines_after, lines_of_run, run_of}
 use Rattle.page_meaning.specs.Store.{Store}
 use Rattle.page_rest.specs.Laws.{IsInForm}
@@ -22,12 +22,12 @@ use Rattle.rebuild_plan.specs.Plan.{plan}
 use Rattle.rebuilding.specs.Laws.{LoadsWithin}
 use Rattle.script_rules.specs.Form.{in_form}
 
--- a page with scripts of form pages, after whose events it is bare and these things can be reached; what they write can be written, and they
--- and their text are no more than a saved page may have
+-- a page with scripts of form pages, after whose events these things can be reached; what they write can be written, and they and their text
+-- are no more than a saved page may have
 pub record CanBeMoved (page : Page) (earlier : List Event) (things : List ℕ) : Type 0 where
   pub sound : IsSound page.nodes
+  pub plain : ArePlain page.nodes
   pub in_form : All IsInForm page.scripts
-  pub bare : IsBare (run_of page earlier)
   pub walked : IsWalk (run_of page earlier) things
   pub literals : HaveLiterals (plan (compact (run_of page earlier) things))
   pub few : (load_of (run_of page earlier) things).things ≤ things_limit
@@ -43,10 +43,10 @@ pub record GoesOnAs (text : List ℕ) (page : Page) (earlier : List Event) (scri
   pub fits : length text ≤ longest_page
   pub accepted : IsAccepted text (framed_page script)
   pub formed : in_form script ≡ true
-  pub silent : lines_of_run (in_frame script) [] ≡ []
-  pub same : (later : List Event) → lines_after (in_frame script) [] later ≡ lines_after page earlier later
+  pub silent : lines_of_run (in_frame (script ∷ [])) [] ≡ []
+  pub same : (later : List Event) → lines_after (in_frame (script ∷ [])) [] later ≡ lines_after page earlier later
   -- saved again, without events, it has the same text
-  pub again : (things : List ℕ) → IsWalk (run_of (in_frame script) []) things → saved_page (run_of (in_frame script) []) things ≡ text
+  pub again : (things : List ℕ) → IsWalk (run_of (in_frame (script ∷ [])) []) things → saved_page (run_of (in_frame (script ∷ [])) []) things ≡ text
 
 -- so does some script, which takes at most so many steps when it loads
 pub record GoesOn (text : List ℕ) (page : Page) (earlier : List Event) (steps : ℕ) : Type 0 where
@@ -61,7 +61,7 @@ IsShort s things = length (saved_page s things) ≤ 160 * (load_of s things).thi
 abbrev pub MovedPagesGoOn : Type 0
 MovedPagesGoOn =
     (page : Page) (earlier : List Event) (things : List ℕ) → CanBeMoved page earlier things
-    → GoesOn (saved_page (run_of page earlier) things) page earlier (2 * (load_of (run_of page earlier) things).things)
+    → GoesOn (saved_page (run_of page earlier) things) page earlier (4 * (load_of (run_of page earlier) things).things + 4)
     × IsShort (run_of page earlier) things
 
 -- a page goes on as another one after the earlier events, without a line of its own before
@@ -79,3 +79,7 @@ MovesJoin =
 abbrev pub AcceptedScriptsAreInForm : Type 0
 AcceptedScriptsAreInForm =
     (bytes : List ℕ) (page : Accepted) → IsAccepted bytes page → list_all in_form page.scripts ≡ true → All IsInForm page.scripts
+
+-- no attribute of an accepted page has a name that begins with `on`
+abbrev pub AcceptedPagesArePlain : Type 0
+AcceptedPagesArePlain = (bytes : List ℕ) (page : Accepted) → IsAccepted bytes page → ArePlain page.nodes

@@ -1,7 +1,7 @@
 //! What holds of moved pages.
 
 ghost use Rattle.moved_pages.specs.Accepted.{SavedPagesAreAccepted};
-ghost use Rattle.moved_pages.specs.Moved.{AcceptedScriptsAreInForm, MovedPagesGoOn, MovesJoin};
+ghost use Rattle.moved_pages.specs.Moved.{AcceptedPagesArePlain, AcceptedScriptsAreInForm, MovedPagesGoOn, MovesJoin};
 
 use js_print::{
     law_lined_scripts_are_read_again, law_syntax_is_what_tokens_have, law_tokens_can_be_written,
@@ -58,3 +58,8 @@ pub fn law_accepted_scripts_are_in_form()
     law_syntax_is_what_tokens_have();
     law_script_units();
 }
+
+/// No attribute of an accepted page has a name that begins with `on`.
+pub fn law_accepted_pages_are_plain()
+    ensures { AcceptedPagesArePlain }
+{}

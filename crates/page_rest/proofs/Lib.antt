@@ -6,6 +6,7 @@ pub mod FormParts
 pub mod LowTrees
 pub mod NeededNames
 pub mod Pieces
+pub mod Quiet
 pub mod Reached
 pub mod Remaking
 pub mod Resting

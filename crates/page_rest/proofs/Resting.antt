@@ -26,6 +26,7 @@ use Rattle.early_rules.specs.EarlyRules.{early_rule}
 use Rattle.script_rules.specs.Form.{in_form}
 use Rattle.early_rules.specs.Limits.{function_height_limit}
 use Rattle.page_rest.proofs.LowTrees.{functions_are_low}
+use Rattle.page_rest.proofs.Quiet.{run_calm}
 use Rattle.page_rest.proofs.Reached.{reached_named}
 use Rattle.page_rest.proofs.Remaking.{remade_in}
 use Rattle.page_rest.proofs.Trees.{code_is}
@@ -97,14 +98,17 @@ function_at_rest s k c env h =
 -- ---- pages
 
 pub pages_rest : StandingPagesAgree → PagesRest
-pages_rest agree page es things nodes all walk =
+pages_rest agree page es things nodes plain all walk =
     let s : Store = run_of page es in
     let h = agree (formed is_asked_low) page es nodes refl (form_pages_stand 1 page.scripts all) in
+    let calm = run_calm page es plain in
     let names : (k : ℕ) → Reach s k → Named h.world k k = reached_named h.stores (h.trees.opens ∙ ap (λ d. d.opens) h.demanded) h.none_rebuilt in (
       record {
         sound = h.stores.heap.left;
         shaped = h.stores.shaped;
         functions = λ k c env r e. function_at_rest s k c env (function_remade h (names k r) e);
+        events = calm.events;
+        plain = calm.plain;
       },
       λ k c env r e. code_is c (and_parts (keeps_code c) (is_formed c) (function_remade h (names k r) e).asked).0,
       λ k c env i e. (function_remade h (names k (walk.sound k i)) e).again,

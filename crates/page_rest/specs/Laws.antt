@@ -2,8 +2,9 @@
 use Rattle.std.specs.Prelude.{◌≡◌, ℕ, List, Option}
 use Rattle.std.specs.List.{All}
 use Rattle.dom_tree.specs.Sound.{IsSound}
-use Rattle.heap_walker.specs.Still.{Rests}
-use Rattle.heap_walker.specs.Things.{IsWalk}
+use Rattle.heap_walker.specs.Remade.{AllCanBeRemade}
+use Rattle.heap_walker.specs.Still.{Still}
+use Rattle.heap_walker.specs.Things.{IsWalk, Reach}
 use Rattle.js_core.specs.Tree as tree
 use Rattle.js_core.specs.Tree.{func}
 use Rattle.js_grammar.specs.Syntax.{IsExpr, IsSyntax}
@@ -11,10 +12,9 @@ use Rattle.js_values.specs.declared.event.Event.{Event}
 use Rattle.js_values.specs.declared.ids.EnvId.{EnvId}
 use Rattle.object_heap.specs.Chain.{object_at}
 use Rattle.object_heap.specs.declared.object.Class.TheVariants as class
-use Rattle.heap_walker.specs.Things.{Reach}
+use Rattle.page_host.specs.Sound.{ArePlain}
 use Rattle.page_meaning.specs.Pages.{Page, run_of}
 use Rattle.page_meaning.specs.Store.{Store}
-use Rattle.heap_walker.specs.Remade.{AllCanBeRemade}
 use Rattle.script_rules.specs.FormScripts.{IsFormPageScript}
 
 -- a script of a form page, as tokens have it
@@ -26,8 +26,9 @@ abbrev pub HasSyntax : Store → Type 0
 HasSyntax s =
     (k : ℕ) (c : tree.Code) (env : Option EnvId) → Reach s k → (object_at s.heap.objects k).class ≡ class.Page c env → IsExpr (func c)
 
--- after its scripts and any events a page in form is at rest, its functions can be made again, and their codes have tokens
+-- after its scripts and any events a page in form is at rest, its functions can be made again, and their codes have tokens. No attribute's name begins
+-- with `on` where it was read
 abbrev pub PagesRest : Type 0
 PagesRest =
-    (page : Page) (es : List Event) (things : List ℕ) → IsSound page.nodes → All IsInForm page.scripts → IsWalk (run_of page es) things
-    → Rests (run_of page es) × HasSyntax (run_of page es) × AllCanBeRemade (run_of page es) things
+    (page : Page) (es : List Event) (things : List ℕ) → IsSound page.nodes → ArePlain page.nodes → All IsInForm page.scripts → IsWalk (run_of page es) things
+    → Still (run_of page es) × HasSyntax (run_of page es) × AllCanBeRemade (run_of page es) things

@@ -11,3 +11,15 @@ pub five_parts : {A : Type 0} (before start first name separator last close one 
     → five ≡ before ++ (start ++ ((first ++ (separator ++ (name ++ (separator ++ (last ++ []))))) ++ close))
 five_parts before start first name separator last close one two three four five e f g h i =
     i ∙ ap (λ l. l ++ close) (h ∙ ap (λ l. l ++ last) (g ∙ ap (λ l. l ++ separator) (f ∙ ap (λ l. l ++ name) e))) ∙ simp (append_assoc, append-nil)
+
+pub six_parts : {A : Type 0} (before a b c d e f one two three four five six : List A)
+    → one ≡ before ++ a → two ≡ one ++ b → three ≡ two ++ c → four ≡ three ++ d → five ≡ four ++ e → six ≡ five ++ f
+    → six ≡ before ++ (a ++ (b ++ (c ++ (d ++ (e ++ f)))))
+six_parts before a b c d e f one two three four five six h i j k l m =
+    m ∙ ap (λ p. p ++ f) (l ∙ ap (λ p. p ++ e) (four_parts before a b c d one two three four h i j k)) ∙ simp append_assoc
+
+pub eight_parts : {A : Type 0} (before a b c d e f g h one two three four five six seven eight : List A)
+    → one ≡ before ++ a → two ≡ one ++ b → three ≡ two ++ c → four ≡ three ++ d → five ≡ four ++ e → six ≡ five ++ f → seven ≡ six ++ g → eight ≡ seven ++ h
+    → eight ≡ before ++ (a ++ (b ++ (c ++ (d ++ (e ++ (f ++ (g ++ h)))))))
+eight_parts before a b c d e f g h one two three four five six seven eight i j k l m n o p =
+    p ∙ ap (λ q. q ++ h) (o ∙ ap (λ q. q ++ g) (six_parts before a b c d e f one two three four five six i j k l m n)) ∙ simp append_assoc

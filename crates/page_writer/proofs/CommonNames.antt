@@ -33,6 +33,22 @@ pub object_is_common : is_common (codes "Object") ≡ true
 unfolding is_common
 object_is_common = refl
 
+pub document_is_common : is_common (codes "document") ≡ true
+unfolding is_common
+document_is_common = refl
+
+pub set_timeout_is_common : is_common (codes "setTimeout") ≡ true
+unfolding is_common
+set_timeout_is_common = refl
+
+pub clear_timeout_is_common : is_common (codes "clearTimeout") ≡ true
+unfolding is_common
+clear_timeout_is_common = refl
+
+pub set_interval_is_common : is_common (codes "setIntervalFrom") ≡ true
+unfolding is_common
+set_interval_is_common = refl
+
 pub kind_is_common : (k : ErrorKind) → is_common (kind_name k) ≡ true
 unfolding is_common
 kind_is_common fault.Plain = refl

@@ -16,20 +16,20 @@ use Rattle.page_writer.specs.Literals.{IsLiteral, maker_values, need_values}
 
 -- the places of what is built in and of as many things as a page may have
 abbrev pub AreLow : List ℕ → Type 0
-AreLow ks = all_below 75122 ks ≡ true
+AreLow ks = all_below 75123 ks ≡ true
 
-pub low_first : (k : ℕ) (ks : List ℕ) → AreLow (k ∷ ks) → k < 75122
-low_first k ks low = ltb-true k 75122 (and_parts (nat_lt k 75122) (all_below 75122 ks) low).0
+pub low_first : (k : ℕ) (ks : List ℕ) → AreLow (k ∷ ks) → k < 75123
+low_first k ks low = ltb-true k 75123 (and_parts (nat_lt k 75123) (all_below 75123 ks) low).0
 
 pub low_others : (k : ℕ) (ks : List ℕ) → AreLow (k ∷ ks) → AreLow ks
-low_others k ks low = (and_parts (nat_lt k 75122) (all_below 75122 ks) low).1
+low_others k ks low = (and_parts (nat_lt k 75123) (all_below 75123 ks) low).1
 
 low_parts : (js ks : List ℕ) → AreLow (js ++ ks) → AreLow js × AreLow ks
 low_parts js ks low =
-    let split : (all_below 75122 js && all_below 75122 ks) ≡ true =
-    sym (list_all-append (λ k. nat_lt k 75122) js ks) ∙ low in
-    let first : AreLow js = (and_parts (all_below 75122 js) (all_below 75122 ks) split).0 in
-    let others : AreLow ks = (and_parts (all_below 75122 js) (all_below 75122 ks) split).1 in
+    let split : (all_below 75123 js && all_below 75123 ks) ≡ true =
+    sym (list_all-append (λ k. nat_lt k 75123) js ks) ∙ low in
+    let first : AreLow js = (and_parts (all_below 75123 js) (all_below 75123 ks) split).0 in
+    let others : AreLow ks = (and_parts (all_below 75123 js) (all_below 75123 ks) split).1 in
     (first, others)
 
 pub below_more : (m n : ℕ) (ks : List ℕ) → m ≤ n → all_below m ks ≡ true → all_below n ks ≡ true
@@ -71,7 +71,7 @@ needs_fit (n ∷ ns) low whole =
 abbrev pub MakerFits : Maker → Type 0
 MakerFits (made.Plain proto) = AreLow (proto_links proto)
 MakerFits (made.Func c needs) = AllFit (need_values needs)
-MakerFits (made.Bind target this args) = (target.0 < 75122) × AllFit (this ∷ args)
+MakerFits (made.Bind target this args) = (target.0 < 75123) × AllFit (this ∷ args)
 MakerFits m = ⊤
 
 pub maker_fits : (m : Maker) → AreLow (maker_names m) → All IsLiteral (maker_values m) → MakerFits m
@@ -82,3 +82,7 @@ maker_fits (made.Func c needs) low whole = needs_fit needs low whole
 maker_fits (made.Bind target this args) low whole =
     let links : List ℕ = value_links this ++ values_links args in
     (low_first target.0 links low, values_fit (this ∷ args) (low_others target.0 links low) whole)
+maker_fits (made.Element x) low whole = tt
+maker_fits (made.Text x) low whole = tt
+maker_fits (made.Comment x) low whole = tt
+maker_fits made.Event low whole = tt

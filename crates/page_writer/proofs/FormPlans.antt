@@ -1,29 +1,30 @@
 -- Each function in the plan of a page at rest is one of a form page.
-use Rattle.std.proofs.Common.{◌≡◌, refl, ℕ, suc, Bool, true, false, ◌&&◌, All, nat_eq, List, [], ◌∷◌, ◌++◌, Option, Some, None, bytes_eq, if◌then◌else◌}
+use Rattle.std.proofs.Common.{◌≡◌, refl, ℕ, suc, true, All, nat_eq, List, [], ◌∷◌}
 use Rattle.std.proofs.lemmas.Bool.{eq-eqb, or_left, or_right}
 use Rattle.std.proofs.lemmas.List.Elements.{All-append, All-cons, All-nil}
+use Rattle.dom_tree.specs.Node.{node_at}
+use Rattle.dom_tree.specs.declared.content.Kind.{Kind}
+use Rattle.dom_tree.specs.declared.content.Kind.TheVariants as kind
 use Rattle.js_core.specs.Tree.{Code}
 use Rattle.js_values.specs.declared.ids.EnvId.{EnvId}
 use Rattle.js_values.specs.declared.ids.ObjId.{ObjId}
 use Rattle.object_heap.specs.Chain.{object_at}
-use Rattle.object_heap.specs.Define.{length_name}
-use Rattle.object_heap.specs.Function.{prototype_name}
 use Rattle.object_heap.specs.Object.{Object}
-use Rattle.object_heap.specs.Property.{Props, own_property}
 use Rattle.object_heap.specs.declared.object.Class.{Class}
 use Rattle.object_heap.specs.declared.object.Class.TheVariants as class
-use Rattle.object_heap.specs.declared.property.Prop.{Prop}
-use Rattle.page_meaning.specs.Places.{window}
 use Rattle.page_meaning.specs.Store.{Store}
 use Rattle.heap_walker.specs.Still.{IsFunctionAtRest, Still}
-use Rattle.heap_walker.specs.Things.{IsWalk, globals_of, is_in}
-use Rattle.rebuild_plan.specs.Compact.{Thing, compact, maker_as, maker_at, moved_props, things_at}
-use Rattle.rebuild_plan.specs.Plan.{define, define_length, defines, fill, fills, has_length, has_prototype, makes, plan, prevents, thing_place}
+use Rattle.heap_walker.specs.Things.{IsWalk, is_in}
+use Rattle.rebuild_plan.specs.Compact.{Compact, compact, maker_as, maker_at, things_at}
+use Rattle.rebuild_plan.specs.Nodes.{node_maker}
+use Rattle.rebuild_plan.specs.Plan.{makes, plan}
 use Rattle.rebuild_plan.specs.declared.statement.Maker.{Maker}
 use Rattle.rebuild_plan.specs.declared.statement.Maker.TheVariants as made
 use Rattle.rebuild_plan.specs.declared.statement.Rebuild.{Rebuild}
-use Rattle.rebuild_plan.specs.declared.statement.Rebuild.TheVariants.{Make, Define, DefinePrototype, DefineLength, Prevent}
+use Rattle.rebuild_plan.specs.declared.statement.Rebuild.TheVariants.{Make}
+use Rattle.std.specs.Prelude.{Option}
 use Rattle.page_writer.proofs.FormFunctions.{IsFormFunction, form_function}
+use Rattle.page_writer.proofs.Making.{MakesNothing, later, later_makes_nothing}
 
 -- a function that is made is one of a form page
 abbrev pub MakesInForm : Maker → Type 0
@@ -34,58 +35,27 @@ abbrev pub IsInForm : Rebuild → Type 0
 IsInForm (Make number m) = MakesInForm m
 IsInForm r = Unit {0}
 
--- ---- statements that make nothing
+-- ---- what makes nothing is in form
 
-one_in_form : (r : Rebuild) → IsInForm r → All IsInForm (r ∷ [])
-one_in_form r h = All-cons IsInForm r [] h (All-nil IsInForm)
+others_in_form : (r : Rebuild) → MakesNothing r → IsInForm r
+others_in_form (Make number m) h = cc h
+others_in_form r h = tt
 
-define_in_form : (a b : Bool) (at : ObjId) (x : List ℕ) (p : Prop) → All IsInForm (define a b at x p)
-define_in_form a b at x p = chosen (a && bytes_eq x length_name) (b && bytes_eq x prototype_name)
-  where
-    chosen : (c d : Bool) → All IsInForm (if c then [] else (if d then (DefinePrototype at p.value p.writable ∷ []) else (Define at x p ∷ [])))
-    chosen true d = All-nil IsInForm
-    chosen false true = one_in_form (DefinePrototype at p.value p.writable) tt
-    chosen false false = one_in_form (Define at x p) tt
-
-defines_in_form : (a b : Bool) (at : ObjId) (props : Props) → All IsInForm (defines a b at props)
-defines_in_form a b at [] = All-nil IsInForm
-defines_in_form a b at (e ∷ es) =
-    All-append IsInForm (define a b at e.0 e.1) (defines a b at es) (define_in_form a b at e.0 e.1) (defines_in_form a b at es)
-
-length_in_form : (m : Maker) (at : ObjId) (p : Option Prop) → All IsInForm (define_length m at p)
-length_in_form made.List at (Some p) = one_in_form (DefineLength at p.value p.writable) tt
-length_in_form made.List at None = All-nil IsInForm
-length_in_form (made.Plain proto) at p = All-nil IsInForm
-length_in_form (made.Fault kind) at p = All-nil IsInForm
-length_in_form (made.Func c needs) at p = All-nil IsInForm
-length_in_form (made.Bind target this args) at p = All-nil IsInForm
-
-fills_in_form : (n : ℕ) (ts : List Thing) → All IsInForm (fills n ts)
-fills_in_form n [] = All-nil IsInForm
-fills_in_form n (t ∷ ts) =
-    let at : ObjId = thing_place n in
-    let props : List Rebuild = defines (has_length t.maker) (has_prototype t.maker) at t.props in
-    let length : List Rebuild = define_length t.maker at (own_property t.props length_name) in
-    All-append IsInForm (fill at t) (fills (suc n) ts)
-    (All-append IsInForm props length (defines_in_form (has_length t.maker) (has_prototype t.maker) at t.props)
-    (length_in_form t.maker at (own_property t.props length_name)))
-    (fills_in_form (suc n) ts)
-
-prevents_in_form : (n : ℕ) (ts : List Thing) → All IsInForm (prevents n ts)
-prevents_in_form n [] = All-nil IsInForm
-prevents_in_form n (t ∷ ts) =
-    All-append IsInForm (if t.extensible then [] else (Prevent (thing_place n) ∷ [])) (prevents (suc n) ts) (chosen t.extensible)
-    (prevents_in_form (suc n) ts)
-  where
-    chosen : (b : Bool) → All IsInForm (if b then [] else (Prevent (thing_place n) ∷ []))
-    chosen true = All-nil IsInForm
-    chosen false = one_in_form (Prevent (thing_place n)) tt
+later_in_form : (c : Compact) → All IsInForm (later c)
+later_in_form c = λ k r inside. others_in_form _ (later_makes_nothing c k r inside)
 
 -- ---- what is made
+
+node_in_form : (things : List ℕ) (proto : Option ObjId) (k : Kind) → MakesInForm (node_maker things proto k)
+node_in_form things proto kind.Document = tt
+node_in_form things proto (kind.Element x) = tt
+node_in_form things proto (kind.Text x) = tt
+node_in_form things proto (kind.Comment x) = tt
 
 maker_in_form : (s : Store) (things : List ℕ) (k : ℕ) (proto : Option ObjId) (c : Class)
     → ((source : Code) (env : Option EnvId) → c ≡ class.Page source env → IsFunctionAtRest s k source env) → MakesInForm (maker_as s things proto c)
 maker_in_form s things k proto (class.Page source env) rests = form_function s things k source env (rests source env refl)
+maker_in_form s things k proto (class.Node node) rests = node_in_form things proto (node_at s.host.nodes node.0).content.kind
 maker_in_form s things k proto c rests = tt
 
 thing_in_form : (s : Store) (things : List ℕ) → Still s → IsWalk s things → (k : ℕ) → is_in k things ≡ true → MakesInForm (maker_at s things k)
@@ -103,9 +73,5 @@ makes_in_form s things (k ∷ ks) n each =
 
 pub plan_in_form : (s : Store) (things : List ℕ) → Still s → IsWalk s things → All IsInForm (plan (compact s things))
 plan_in_form s things still walk =
-    let all : List Thing = things_at s things things in
-    let globals : Props = moved_props things (globals_of s) in
-    All-append IsInForm (makes 0 all) (defines false false window globals ++ (fills 0 all ++ prevents 0 all))
-    (makes_in_form s things things 0 (thing_in_form s things still walk))
-    (All-append IsInForm (defines false false window globals) (fills 0 all ++ prevents 0 all) (defines_in_form false false window globals)
-    (All-append IsInForm (fills 0 all) (prevents 0 all) (fills_in_form 0 all) (prevents_in_form 0 all)))
+    let c : Compact = compact s things in
+    All-append IsInForm (makes 0 c.things) (later c) (makes_in_form s things things 0 (thing_in_form s things still walk)) (later_in_form c)

@@ -4,9 +4,13 @@ pub mod Costs
 pub mod Fitness
 pub mod FormFunctions
 pub mod FormPlans
+pub mod HostCosts
 pub mod Lined
 pub mod LowFunctions
+pub mod Making
+pub mod Near
 pub mod OwnUses
+pub mod Paged
 pub mod Pieces
 pub mod QuietParts
 pub mod QuietTests

@@ -1,5 +1,5 @@
 -- The reserved names that the statements of a saved page use are `$$`, and no function inside uses it.
-use Rattle.std.proofs.Common.{◌≡◌, refl, sym, ap, ◌∙◌, ℕ, ℤ, pos, negsuc, ◌-◌, Bool, true, false, not, ◌&&◌, ◌||◌, All, List, [], ◌∷◌, ◌++◌, Option, Some, None, codes, bytes_eq, if◌then◌else◌}
+use Rattle.std.proofs.Common.{◌≡◌, refl, sym, ap, ◌∙◌, ℕ, ℤ, pos, negsuc, ◌-◌, Bool, true, false, not, ◌&&◌, ◌||◌, All, List, [], ◌∷◌, ◌++◌, Option, Some, None, codes, bytes_eq, nat_eq, if◌then◌else◌}
 use Rattle.std.specs.List.{list_all, list_any}
 use Rattle.std.proofs.lemmas.Bool.{and_from, and_parts, not-true, not_from_false, or_from, or_left, or_parts}
 use Rattle.std.proofs.lemmas.List.{append-nil}
@@ -7,9 +7,9 @@ use Rattle.std.proofs.lemmas.List.Elements.{All-head, All-tail}
 use Rattle.std.proofs.lemmas.List.Folds.{list_all-append}
 use Rattle.std.proofs.lemmas.Slice.Eq.{bytes_eq-Decides}
 use Rattle.built_in_paths.specs.Paths.{names_of, path_of}
-use Rattle.page_meaning.specs.Places.{built_in_count}
+use Rattle.page_meaning.specs.Places.{document}
 use Rattle.js_core.specs.Tree as tree
-use Rattle.js_core.specs.Tree.{call, code, expr, func, member, name, no_exprs}
+use Rattle.js_core.specs.Tree.{call, code, expr, func, member, name, no_exprs, then_stmt}
 use Rattle.js_values.specs.Throw.{kind_name}
 use Rattle.js_values.specs.declared.ids.ObjId.{ObjId}
 use Rattle.js_values.specs.declared.value.Value.{Value}
@@ -18,17 +18,18 @@ use Rattle.object_heap.specs.declared.property.Prop.{Prop}
 use Rattle.rebuild_plan.specs.declared.statement.Maker.{Maker}
 use Rattle.rebuild_plan.specs.declared.statement.Maker.TheVariants as made
 use Rattle.rebuild_plan.specs.declared.statement.Rebuild.{Rebuild}
-use Rattle.rebuild_plan.specs.declared.statement.Rebuild.TheVariants.{Make, Define, DefinePrototype, DefineLength, Prevent}
+use Rattle.rebuild_plan.specs.declared.statement.Rebuild.TheVariants.{Make, Append, Attribute, SetValue, Init, Dispatch, Listen, Define, DefinePrototype, DefineLength, Filler, Clear, Timeout, Interval, Prevent}
 use Rattle.script_rules.specs.Form.{any_use_is_reserved, has_inner_declaration, has_open_reserved, in_form, scope_out_of_form}
 use Rattle.scope_analysis.specs.Identifiers.{is_reserved}
 use Rattle.scope_analysis.specs.Names.{bound_names, maybe_name, declared_names}
 use Rattle.scope_analysis.specs.Nodes.{stmts_any}
 use Rattle.scope_analysis.specs.Uses.{Use, expr_uses, exprs_uses, is_captured, leaving_clause, leaving_function, read, stmts_uses}
-use Rattle.page_writer.proofs.CommonNames.{begins_common, common_is_unreserved, begin_is_common, is_common, kind_is_common, nan_is_common, none_begin, object_is_common, path_begins}
+use Rattle.page_writer.proofs.CommonNames.{begins_common, clear_timeout_is_common, common_is_unreserved, begin_is_common, document_is_common, is_common, kind_is_common, nan_is_common, none_begin, object_is_common, path_begins, set_interval_is_common, set_timeout_is_common}
 use Rattle.page_writer.proofs.FormFunctions.{IsFormFunction, called}
 use Rattle.page_writer.proofs.FormPlans.{IsInForm, MakesInForm}
-use Rattle.page_writer.specs.Script.{statements}
-use Rattle.page_writer.specs.Statements.{binder, define_expr, function_expr, giving, maker_expr, need_exprs, path_expr, path_from, proto_expr, rebuild_expr, reference, reference_over, short_descriptor, thing_expr, value_expr, value_exprs, whole_descriptor, whole_expr}
+use Rattle.rebuild_plan.specs.Moved.{first_thing}
+use Rattle.page_writer.specs.Script.{clearing, statements}
+use Rattle.page_writer.specs.Statements.{binder, define_expr, document_expr, function_expr, giving, maker_expr, need_exprs, path_expr, path_from, proto_expr, rebuild_expr, reference, reference_over, short_descriptor, thing_expr, value_expr, value_exprs, whole_descriptor, whole_expr}
 
 -- the name of the list of things
 abbrev pub list_name : List ℕ
@@ -72,6 +73,9 @@ unreserved_are_own (u ∷ us) e =
 own_thing : (n : ℕ) → Own (expr_uses (thing_expr n))
 own_thing n = record { each = refl }
 
+document_own : Own (expr_uses document_expr)
+document_own = own_common (codes "document") document_is_common
+
 path_uses : (e : tree.Expr) (xs : List (List ℕ)) → Own (expr_uses e) → Own (expr_uses (path_from e xs))
 path_uses e [] own = own
 path_uses e (x ∷ xs) own = path_uses (member e x) xs own
@@ -82,7 +86,11 @@ path_own (x ∷ xs) e = path_uses (name x) xs (own_common x (begin_is_common x x
 
 over_own : (k : ℕ) (found : Option (List ℕ)) → path_of k ≡ found → Own (expr_uses (reference_over k found))
 over_own k (Some path) there = path_own (names_of path) (path_begins k path there)
-over_own k None there = own_thing (k - built_in_count)
+over_own k None there = by (nat_eq k document.0)
+  where
+    by : (b : Bool) → Own (expr_uses (if b then document_expr else thing_expr (k - first_thing)))
+    by true = document_own
+    by false = own_thing (k - first_thing)
 
 reference_own : (at : ObjId) → Own (expr_uses (reference at))
 reference_own at = over_own at.0 (path_of at.0) refl
@@ -147,6 +155,14 @@ function_own c (n ∷ ns) f =
 
 -- ---- statements
 
+-- a use of the document before others, and one of the function of the global object
+document_then : {us : List Use} → Own us → Own (read (codes "document") ∷ us)
+document_then own =
+    own_more (read (codes "document")) (unreserved_is_own (read (codes "document")) (common_is_unreserved (codes "document") document_is_common)) own
+
+global_then : (x : List ℕ) {us : List Use} → is_common x ≡ true → Own us → Own (read x ∷ us)
+global_then x common own = own_more (read x) (unreserved_is_own (read x) (common_is_unreserved x common)) own
+
 object_then : {us : List Use} → Own us → Own (read (codes "Object") ∷ us)
 object_then own =
     own_more (read (codes "Object")) (unreserved_is_own (read (codes "Object")) (common_is_unreserved (codes "Object") object_is_common)) own
@@ -157,6 +173,10 @@ maker_own made.List h = own_none
 maker_own (made.Fault kind) h = own_common (kind_name kind) (kind_is_common kind)
 maker_own (made.Func c needs) h = function_own c needs h
 maker_own (made.Bind target this args) h = own_both (reference_own target) (own_both (value_own this) (values_own args))
+maker_own (made.Element x) h = document_own
+maker_own (made.Text x) h = document_own
+maker_own (made.Comment x) h = document_own
+maker_own made.Event h = document_own
 
 whole_descriptor_own : (p : Prop) → Own (expr_uses (whole_descriptor p))
 whole_descriptor_own p = own_both (value_own p.value) own_none
@@ -169,14 +189,28 @@ define_own at x descriptor own = object_then (own_both (reference_own at) (own_b
 
 rebuild_own : (r : Rebuild) → IsInForm r → Own (expr_uses (rebuild_expr r))
 rebuild_own (Make number maker) h = own_more (read list_name) refl (maker_own maker h)
+rebuild_own (Append parent child) h = own_both (reference_own parent) (own_both (reference_own child) own_none)
+rebuild_own (Attribute node x v) h = own_both (reference_own node) own_none
+rebuild_own (SetValue node x) h = own_both (reference_own node) own_none
+rebuild_own (Init at kind bubbles cancelable) h = own_both (reference_own at) own_none
+rebuild_own (Dispatch target at) h = own_both (reference_own target) (own_both (reference_own at) own_none)
+rebuild_own (Listen node kind f capture) h = own_both (reference_own node) (own_both (reference_own f) own_none)
 rebuild_own (Define at x p) h = define_own at x (whole_descriptor p) (whole_descriptor_own p)
 rebuild_own (DefinePrototype at v writable) h = define_own at (codes "prototype") (short_descriptor v writable) (short_own v writable)
 rebuild_own (DefineLength at v writable) h = define_own at (codes "length") (short_descriptor v writable) (short_own v writable)
+rebuild_own Filler h = global_then (codes "setTimeout") set_timeout_is_common (object_then own_none)
+rebuild_own (Clear id) h = own_common (codes "clearTimeout") clear_timeout_is_common
+rebuild_own (Timeout f rest) h = global_then (codes "setTimeout") set_timeout_is_common (own_both (reference_own f) own_none)
+rebuild_own (Interval f rest period) h = global_then (codes "setIntervalFrom") set_interval_is_common (own_both (reference_own f) own_none)
 rebuild_own (Prevent at) h = object_then (own_both (reference_own at) own_none)
 
-pub statements_own : (rs : List Rebuild) → All IsInForm rs → Own (stmts_uses (statements rs))
+statements_own : (rs : List Rebuild) → All IsInForm rs → Own (stmts_uses (statements rs))
 statements_own [] all = own_none
 statements_own (r ∷ rs) all = own_both (rebuild_own r (All-head IsInForm r rs all)) (statements_own rs (All-tail IsInForm r rs all))
+
+-- with the statement before them that takes the nodes out
+pub body_own : (rs : List Rebuild) → All IsInForm rs → Own (stmts_uses (then_stmt clearing (statements rs)))
+body_own rs all = document_then (document_then (statements_own rs all))
 
 -- ---- what the catch clause that binds the list leaves
 

@@ -28,6 +28,7 @@ data Shape : Type 0 where
   a_void : Bool → tree.Expr → Shape
   a_minus : Bool → tree.Expr → Shape
   an_assignment : Bool → tree.Expr → tree.Expr → tree.Expr → Shape
+  a_set : Bool → tree.Expr → List ℕ → tree.Expr → Shape
   an_expression : tree.Expr → Shape
   a_throw : tree.Expr → Shape
   a_try : tree.Stmts → tree.MaybeCatch → tree.MaybeStmts → Shape
@@ -45,6 +46,7 @@ node_at (a_construct b f es) = expression b (construct f es)
 node_at (a_void b e) = expression b (unary Void e)
 node_at (a_minus b e) = expression b (unary Minus e)
 node_at (an_assignment b a c e) = expression b (assign None (index a c) e)
+node_at (a_set b a x e) = expression b (assign None (member a x) e)
 node_at (an_expression e) = statement (expr e)
 node_at (a_throw e) = statement (throw e)
 node_at (a_try ss c l) = statement (try ss c l)
@@ -68,6 +70,7 @@ quiet test names literals others = record {
   at_void = λ b e. others (a_void b e);
   at_minus = λ b e. others (a_minus b e);
   at_assign = λ b a c e. others (an_assignment b a c e);
+  at_set = λ b a x e. others (a_set b a x e);
   at_expr = λ e. others (an_expression e);
   at_throw = λ e. others (a_throw e);
   at_try = λ ss c l. others (a_try ss c l);

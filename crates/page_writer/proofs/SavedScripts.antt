@@ -5,6 +5,7 @@ use Rattle.std.proofs.lemmas.List.{append-nil}
 use Rattle.std.proofs.lemmas.List.Elements.{All-head, All-tail}
 use Rattle.js_core.specs.Height.{stmts_height}
 use Rattle.js_core.specs.Tree as tree
+use Rattle.js_core.specs.Tree.{then_stmt}
 use Rattle.js_grammar.specs.Syntax.{AreStmts, IsSyntax}
 use Rattle.js_values.specs.declared.value.Value.{Value}
 use Rattle.rebuild_plan.specs.Compact.{compact}
@@ -25,13 +26,13 @@ use Rattle.page_writer.proofs.FormFunctions.{IsFormFunction, called, none_pass}
 use Rattle.page_writer.proofs.FormPlans.{IsInForm, plan_in_form}
 use Rattle.early_rules.proofs.Callers.{KeepsRules, none_is_broken, rules_are_kept}
 use Rattle.page_writer.proofs.LowFunctions.{functions_are_low}
-use Rattle.page_writer.proofs.OwnUses.{clause_leaves, list_is_not_captured, list_name, statements_own}
+use Rattle.page_writer.proofs.OwnUses.{body_own, clause_leaves, list_is_not_captured, list_name}
 use Rattle.page_writer.proofs.QuietParts.{script_quiet}
 use Rattle.page_writer.proofs.QuietTests.{declarations_quiet, deleted_quiet, fields_quiet, form_quiet, formals_quiet, high_quiet, jumps_quiet, own_quiet, restricted_quiet, targets_quiet}
-use Rattle.page_writer.proofs.Syntax.{rebuild_fits}
+use Rattle.page_writer.proofs.Syntax.{clearing_fits, rebuild_fits}
 use Rattle.page_writer.proofs.Words.{list_is_identifier}
 use Rattle.page_writer.specs.FormScripts.{SavedScriptsAreForm}
-use Rattle.page_writer.specs.Script.{saved_script, statements}
+use Rattle.page_writer.specs.Script.{clearing, saved_script, statements}
 use Rattle.page_writer.specs.Writable.{IsWritable}
 
 -- ---- it is a tree that tokens have, and low
@@ -43,8 +44,12 @@ statements_fit (r ∷ rs) all =
     let more = statements_fit rs (All-tail IsWritable r rs all) in
     ((one.0, more.0), omega (arith, one.1, more.1))
 
+-- the statements after the one that takes the nodes out
+abbrev body : List Rebuild → tree.Stmts
+body rs = then_stmt clearing (statements rs)
+
 script_is_syntax : (rs : List Rebuild) → AreStmts false (statements rs) → IsSyntax (saved_script rs)
-script_is_syntax rs h = (refl, ((refl, (tt, tt), (list_is_identifier, h), tt), tt))
+script_is_syntax rs h = (refl, ((refl, (tt, tt), (list_is_identifier, (clearing_fits, h)), tt), tt))
 
 script_is_low : (rs : List Rebuild) → stmts_height (statements rs) ≤ 405 → stmts_height (saved_script rs) ≤ form_height_limit
 script_is_low rs h = omega (arith, h)
@@ -111,11 +116,11 @@ none_declared (r ∷ rs) = none_declared rs
 
 script_is_closed : (rs : List Rebuild) → All IsInForm rs → has_open_reserved (saved_script rs) ≡ false
 script_is_closed rs all =
-    let us : List Use = stmts_uses (statements rs) in
+    let us : List Use = stmts_uses (body rs) in
     let left : List Use = leaving_clause list_name us in
     let same : (left ++ []) ++ [] ≡ left = append-nil (left ++ []) ∙ append-nil left in
     or_from (any_use_is_reserved (stmts_uses (saved_script rs))) (any_is_reserved (declared_names (saved_script rs)))
-    (ap any_use_is_reserved same ∙ clause_leaves us (statements_own rs all).each)
+    (ap any_use_is_reserved same ∙ clause_leaves us (body_own rs all).each)
     (ap (λ names. any_is_reserved ((names ++ []) ++ [])) (none_declared rs))
 
 uncaptured : (x : List ℕ) (ss : tree.Stmts) → is_captured x (stmts_uses ss) ≡ false → is_clause_out_of_form x ss ≡ false
@@ -123,8 +128,8 @@ uncaptured x ss e = rw e refl
 
 script_has_form : (rs : List Rebuild) → All IsInForm rs → FormParts (saved_script rs)
 script_has_form rs all =
-    let caught : is_clause_out_of_form list_name (statements rs) ≡ false =
-    uncaptured list_name (statements rs) (list_is_not_captured (stmts_uses (statements rs)) (statements_own rs all).each)
+    let caught : is_clause_out_of_form list_name (body rs) ≡ false =
+    uncaptured list_name (body rs) (list_is_not_captured (stmts_uses (body rs)) (body_own rs all).each)
     in
     record {
       closed = script_is_closed rs all;

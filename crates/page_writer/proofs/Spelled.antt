@@ -1,9 +1,11 @@
 -- How wide the lexemes of references and of values are.
-use Rattle.std.proofs.Common.{◌≡◌, refl, ap, subst, ◌∙◌, ℕ, suc, pos, negsuc, neg_ℤ, ◌≤ℤ◌, ◌+◌, ◌-◌, ◌*◌, ◌<◌, ◌≤◌, Bool, true, false, nat_le, List, [], ◌∷◌, length, Option, Some, None, arith}
+use Rattle.std.proofs.Common.{◌≡◌, refl, ap, subst, ◌∙◌, ℕ, suc, pos, negsuc, neg_ℤ, ◌≤ℤ◌, ◌+◌, ◌-◌, ◌*◌, ◌<◌, ◌≤◌, Bool, true, false, nat_eq, nat_le, List, [], ◌∷◌, decimal, length, Option, Some, None, arith}
 use Rattle.std.specs.List.{list_all}
-use Rattle.std.specs.Prelude.{slice_index_or}
-use Rattle.std.proofs.lemmas.Bool.{leb-true}
+use Rattle.std.specs.Prelude.{slice_index_or, if◌then◌else◌}
+use Rattle.std.proofs.lemmas.Bool.{eqb-true, leb-true}
+use Rattle.std.proofs.lemmas.Fmt.{length-decimal-le}
 use Rattle.std.proofs.lemmas.Int.{ints}
+use Rattle.std.proofs.lemmas.List.{length-append}
 use Rattle.std.proofs.lemmas.List.Sums.{AllPass-from_list_all}
 use Rattle.std.proofs.lemmas.Option.{get_or_from_slice_get, slice_get_past, slice_get_within}
 use Rattle.built_in_paths.specs.Paths.{names_of, path_of, paths}
@@ -15,17 +17,18 @@ use Rattle.js_core.specs.declared.token.Punct.TheVariants as punct
 use Rattle.js_print.specs.Lexemes.{expr_lexemes}
 use Rattle.js_print.specs.Places.{placed}
 use Rattle.js_print.specs.declared.lexeme.Lexeme.{Lexeme}
-use Rattle.js_print.specs.declared.lexeme.Lexeme.TheVariants.{Keyword, Name, Number, Punct}
+use Rattle.js_print.specs.declared.lexeme.Lexeme.TheVariants.{Keyword, Number, Punct}
 use Rattle.js_print.specs.declared.place.Place.TheVariants.{Part}
 use Rattle.js_values.specs.declared.ids.ObjId.{ObjId}
 use Rattle.js_values.specs.declared.value.Value.{Value}
 use Rattle.js_values.specs.declared.value.Value.TheVariants as value
-use Rattle.page_meaning.specs.Places.{window}
+use Rattle.page_meaning.specs.Places.{document, window}
+use Rattle.rebuild_plan.specs.Moved.{first_thing}
 use Rattle.rebuild_plan.specs.Plan.{thing_place}
-use Rattle.page_writer.specs.Statements.{path_expr, reference, reference_over, thing_expr, value_expr}
+use Rattle.page_writer.specs.Statements.{document_expr, path_expr, reference, reference_over, thing_expr, unlisted, value_expr}
 use Rattle.page_writer.proofs.Fitness.{Fits, low_first}
 use Rattle.page_writer.proofs.Trees.{reference_part}
-use Rattle.page_writer.proofs.Widths.{count_wide, mark_wide, number_wide, text_wide, wide, wide_append, wide_between}
+use Rattle.page_writer.proofs.Widths.{count_wide, mark_wide, number_wide, text_wide, wide, wide_append}
 
 -- ---- references
 
@@ -52,43 +55,62 @@ path_count : length paths ≡ 122
 unfolding paths
 path_count = refl
 
-dollars_narrow : wide (Name (36 ∷ 36 ∷ []) ∷ Punct punct.LeftBracket ∷ []) ≡ 4
+pub thing_narrow : (n : ℕ) → n < 75000 → wide (expr_lexemes (thing_expr n)) ≤ 10
 unfolding wide lib.Utf8.encode
-dollars_narrow = refl
-
-pub thing_narrow : (n : ℕ) → n < 75000 → wide (expr_lexemes (thing_expr n)) ≤ 11
 thing_narrow n few =
-    let front : List Lexeme = Name (36 ∷ 36 ∷ []) ∷ Punct punct.LeftBracket ∷ [] in
-    let end : List Lexeme = Punct punct.RightBracket ∷ [] in
     omega (
       arith,
-      wide_between front (Number (Some (pos n)) ∷ []) end,
-      dollars_narrow,
-      count_wide n (omega (arith, few)),
-      mark_wide punct.RightBracket refl,
+      length-decimal-le 5 n (omega arith) (omega arith) (omega (arith, few)),
+      length-append (decimal n) (93 ∷ []),
     )
+
+document_narrow : wide (expr_lexemes document_expr) ≤ 9
+unfolding wide lib.Utf8.encode
+document_narrow = omega arith
 
 pub past_paths : (k : ℕ) → 122 ≤ k → path_of k ≡ None
 past_paths k past = slice_get_past paths k (omega (arith, past, path_count))
 
-pub thing_at_narrow : (n : ℕ) → n < 75000 → wide (expr_lexemes (reference (thing_place n))) ≤ 11
+past_document : (n : ℕ) → nat_eq (123 + n) 122 ≡ false
+past_document n = by (nat_eq (123 + n) 122) refl
+  where
+    by : (b : Bool) → nat_eq (123 + n) 122 ≡ b → b ≡ false
+    by true e = absurd (omega (arith, eqb-true (123 + n) 122 e))
+    by false e = refl
+
+pub thing_at_narrow : (n : ℕ) → n < 75000 → wide (expr_lexemes (reference (thing_place n))) ≤ 10
 unfolding built_in_count
 thing_at_narrow n few =
-    let same : (122 + n) - 122 ≡ n = omega arith in
-    let is : expr_lexemes (reference (thing_place n)) ≡ expr_lexemes (thing_expr n) =
-    ap (λ o. expr_lexemes (reference_over (122 + n) o)) (past_paths (122 + n) (omega arith))
-    ∙ ap (λ m. expr_lexemes (thing_expr m)) same in
-    omega (arith, ap wide is, thing_narrow n few)
+    let same : (123 + n) - 123 ≡ n = omega arith in
+    let is : reference (thing_place n) ≡ thing_expr n =
+    ap (λ o. reference_over (123 + n) o) (past_paths (123 + n) (omega arith))
+    ∙ ap (λ b. if b then document_expr else thing_expr ((123 + n) - 123)) (past_document n)
+    ∙ ap (λ m. thing_expr m) same in
+    omega (arith, ap (λ e. wide (expr_lexemes e)) is, thing_narrow n few)
 
-pub reference_narrow : (at : ObjId) → at.0 < 75122 → wide (expr_lexemes (reference at)) ≤ 40
+-- the document is reached by its name
+pub document_at_narrow : wide (expr_lexemes (reference document)) ≤ 10
 unfolding built_in_count
+document_at_narrow =
+    let is : reference document ≡ document_expr = ap (λ o. reference_over 122 o) (past_paths 122 (omega arith)) in
+    omega (arith, ap (λ e. wide (expr_lexemes e)) is, document_narrow)
+
+unlisted_narrow : (k : ℕ) → k < 75123 → wide (expr_lexemes (unlisted k)) ≤ 40
+unfolding built_in_count
+unlisted_narrow k low = by (nat_eq k document.0)
+  where
+    by : (b : Bool) → wide (expr_lexemes (if b then document_expr else thing_expr (k - first_thing))) ≤ 40
+    by true = omega (arith, document_narrow)
+    by false = omega (arith, thing_narrow (k - 123) (omega (arith, low)))
+
+pub reference_narrow : (at : ObjId) → at.0 < 75123 → wide (expr_lexemes (reference at)) ≤ 40
 reference_narrow at low = by (path_of at.0) refl
   where
     by : (o : Option (List ℕ)) → path_of at.0 ≡ o → wide (expr_lexemes (reference_over at.0 o)) ≤ 40
     by (Some path) there = path_narrow at.0 path there
-    by None there = omega (arith, thing_narrow (at.0 - 122) (omega (arith, low)))
+    by None there = unlisted_narrow at.0 low
 
-pub window_narrow : wide (expr_lexemes (reference window)) ≤ 11
+pub window_narrow : wide (expr_lexemes (reference window)) ≤ 10
 unfolding paths wide lib.Utf8.encode
 window_narrow = omega arith
 

@@ -1,14 +1,14 @@
 -- The statements of a saved page are trees that tokens have, and low.
-use Rattle.std.proofs.Common.{◌≡◌, ◌∙◌, refl, ℕ, ℤ, pos, negsuc, ◌+◌, ◌-◌, ◌≤◌, Bool, true, ◌&&◌, List, [], ◌∷◌, Option, Some, None, length, codes, arith}
-use Rattle.std.specs.Prelude.{nat_le}
+use Rattle.std.proofs.Common.{◌≡◌, ◌∙◌, refl, ℕ, ℤ, pos, negsuc, ◌+◌, ◌-◌, ◌≤◌, Bool, true, false, ◌&&◌, nat_eq, List, [], ◌∷◌, Option, Some, None, length, codes, arith}
+use Rattle.std.specs.Prelude.{nat_le, if◌then◌else◌}
 use Rattle.std.specs.List.{list_all}
 use Rattle.std.proofs.lemmas.Bool.{and_from, and_parts, leb-true}
 use Rattle.built_in_paths.specs.Paths.{names_of, path_of}
-use Rattle.page_meaning.specs.Places.{built_in_count}
+use Rattle.page_meaning.specs.Places.{document}
 use Rattle.js_core.specs.Height.{code_height, expr_height, exprs_height}
 use Rattle.js_core.specs.Tree as tree
-use Rattle.js_core.specs.Tree.{name, func, member, index, literal, no_stmts, then_stmt}
-use Rattle.js_grammar.specs.Syntax.{AreExprs, IsExpr, is_identifier}
+use Rattle.js_core.specs.Tree.{name, bool, func, member, index, literal, no_stmts, text, then_stmt}
+use Rattle.js_grammar.specs.Syntax.{AreExprs, IsExpr, IsStmt, is_identifier}
 use Rattle.js_lexer.specs.Written.{is_unit}
 use Rattle.js_values.specs.declared.ids.ObjId.{ObjId}
 use Rattle.js_values.specs.declared.value.Value.{Value}
@@ -17,10 +17,13 @@ use Rattle.object_heap.specs.declared.property.Prop.{Prop}
 use Rattle.rebuild_plan.specs.declared.statement.Maker.{Maker}
 use Rattle.rebuild_plan.specs.declared.statement.Maker.TheVariants as made
 use Rattle.rebuild_plan.specs.declared.statement.Rebuild.{Rebuild}
-use Rattle.rebuild_plan.specs.declared.statement.Rebuild.TheVariants.{Make, Define, DefinePrototype, DefineLength, Prevent}
+use Rattle.rebuild_plan.specs.declared.statement.Rebuild.TheVariants.{Make, Append, Attribute, SetValue, Init, Dispatch, Listen, Define, DefinePrototype, DefineLength, Filler, Clear, Timeout, Interval, Prevent}
 use Rattle.early_rules.specs.Limits.{function_height_limit}
-use Rattle.page_writer.proofs.Words.{are_path_names, bind_is_written, create_is_written, define_is_written, is_free_word, is_word, kind_is_identifier, list_is_identifier, nan_is_identifier, object_is_identifier, path_is_named, prevent_is_written, word_is_identifier, word_is_written}
-use Rattle.page_writer.specs.Statements.{define_expr, function_expr, maker_expr, need_exprs, need_names, path_expr, path_from, proto_expr, rebuild_expr, reference, reference_over, short_descriptor, thing_expr, value_expr, value_exprs, whole_descriptor, whole_expr}
+use Rattle.page_writer.proofs.Words.{append_is_word, are_path_names, bind_is_written, clear_timeout_is_identifier, create_comment_is_word, create_element_is_word, create_event_is_word, create_is_written, create_text_is_word, define_is_written, dispatch_is_word, document_element_is_word, document_is_identifier, init_is_word, is_free_word, is_word, kind_is_identifier, list_is_identifier, listen_is_word, nan_is_identifier, object_is_identifier, path_is_named, prevent_is_written, remove_is_word, set_attribute_is_word, set_interval_is_identifier, set_timeout_is_identifier, value_is_word, word_is_identifier, word_is_written}
+use Rattle.rebuild_plan.specs.Moved.{first_thing}
+use Rattle.page_writer.specs.HostStatements.{document_method, global_call, method, one, three, two}
+use Rattle.page_writer.specs.Script.{clearing}
+use Rattle.page_writer.specs.Statements.{define_expr, document_expr, function_expr, maker_expr, need_exprs, need_names, number_expr, path_expr, path_from, proto_expr, rebuild_expr, reference, reference_over, short_descriptor, thing_expr, unlisted, value_expr, value_exprs, whole_descriptor, whole_expr}
 use Rattle.page_writer.specs.Writable.{IsWritable, IsWritableMaker, StatementsAreSyntax, is_need, is_number, is_place, is_prototype, is_thing_number, is_writable_value}
 
 -- it is a tree that tokens have, no higher than n
@@ -54,9 +57,19 @@ path_fits (x ∷ xs) e =
     let few : length xs ≤ 2 = leb-true (length xs) 2 parts.1 in
     (path_from_is_expr (name x) xs (word_is_identifier x words.0) words.1, rw path_from_height (omega arith))
 
-over_fits : (k : ℕ) (found : Option (List ℕ)) → path_of k ≡ found → is_thing_number (k - built_in_count) ≡ true → Fits 3 (reference_over k found)
+document_fits : Fits 1 document_expr
+document_fits = (document_is_identifier, omega arith)
+
+unlisted_fits : (k : ℕ) → is_thing_number (k - first_thing) ≡ true → Fits 3 (unlisted k)
+unlisted_fits k e = by (nat_eq k document.0)
+  where
+    by : (b : Bool) → Fits 3 (if b then document_expr else thing_expr (k - first_thing))
+    by true = (document_fits.0, omega arith)
+    by false = let thing = thing_fits (k - first_thing) e in (thing.0, omega arith)
+
+over_fits : (k : ℕ) (found : Option (List ℕ)) → path_of k ≡ found → is_thing_number (k - first_thing) ≡ true → Fits 3 (reference_over k found)
 over_fits k (Some path) there e = path_fits (names_of path) (path_is_named k path there)
-over_fits k None there e = let thing = thing_fits (k - built_in_count) e in (thing.0, omega arith)
+over_fits k None there e = unlisted_fits k e
 
 reference_fits : (at : ObjId) → is_place at ≡ true → Fits 3 (reference at)
 reference_fits at e = over_fits at.0 (path_of at.0) refl e
@@ -88,7 +101,54 @@ proto_fits : (proto : Option ObjId) → is_prototype proto ≡ true → Fits 3 (
 proto_fits None e = (tt, omega arith)
 proto_fits (Some at) e = reference_fits at e
 
+-- ---- calls of methods and of functions
+
+one_fits : (e : tree.Expr) → Fits 3 e → AllFit 3 (one e)
+one_fits e h = ((h.0, tt), omega (arith, h.1))
+
+two_fit : (e f : tree.Expr) → Fits 3 e → Fits 3 f → AllFit 3 (two e f)
+two_fit e f h g = ((h.0, (g.0, tt)), omega (arith, h.1, g.1))
+
+three_fit : (e f g : tree.Expr) → Fits 3 e → Fits 3 f → Fits 3 g → AllFit 3 (three e f g)
+three_fit e f g h i j = ((h.0, (i.0, (j.0, tt))), omega (arith, h.1, i.1, j.1))
+
+text_fits : (x : List ℕ) → list_all is_unit x ≡ true → Fits 3 (text x)
+text_fits x e = (e, omega arith)
+
+truth_fits : (b : Bool) → Fits 3 (bool b)
+truth_fits b = (tt, omega arith)
+
+count_fits : (n : ℕ) → is_thing_number n ≡ true → Fits 3 (number_expr n)
+count_fits n e = (e, omega arith)
+
+member_fits : (e : tree.Expr) (x : List ℕ) → is_word x ≡ true → Fits 3 e → Fits 4 (member e x)
+member_fits e x word fits = ((fits.0, word_is_written x word), omega (arith, fits.1))
+
+method_fits : (at : ObjId) (x : List ℕ) (args : tree.Exprs) → is_place at ≡ true → is_word x ≡ true → AllFit 3 args → Fits 5 (method at x args)
+method_fits at x args place word fit =
+    let callee = member_fits (reference at) x word (reference_fits at place) in
+    ((callee.0, fit.0), omega (arith, callee.1, fit.1))
+
+document_method_fits : (x : List ℕ) (args : tree.Exprs) → is_word x ≡ true → AllFit 3 args → Fits 5 (document_method x args)
+document_method_fits x args word fit =
+    let callee = member_fits document_expr x word (document_fits.0, omega arith) in
+    ((callee.0, fit.0), omega (arith, callee.1, fit.1))
+
+global_fits : (x : List ℕ) (args : tree.Exprs) → is_identifier x ≡ true → AllFit 3 args → Fits 5 (global_call x args)
+global_fits x args it fit = ((it, fit.0), omega (arith, fit.1))
+
+-- that takes the nodes out of the document
+pub clearing_fits : IsStmt false clearing
+clearing_fits =
+    let element = member_fits document_expr (codes "documentElement") document_element_is_word (document_fits.0, omega arith) in
+    (document_method_fits (codes "removeChild") (one (member document_expr (codes "documentElement"))) remove_is_word ((element.0, tt), omega arith)).0
+
 -- ---- what makes a thing
+
+created_fits : (word x : List ℕ) → is_word word ≡ true → list_all is_unit x ≡ true → Fits 403 (document_method word (one (text x)))
+created_fits word x is units =
+    let whole = document_method_fits word (one (text x)) is (one_fits (text x) (text_fits x units)) in
+    (whole.0, omega (arith, whole.1))
 
 names_are_identifiers : (ns : List (List ℕ × Value)) → list_all is_need ns ≡ true → list_all is_identifier (need_names ns) ≡ true
 names_are_identifiers [] e = refl
@@ -124,6 +184,10 @@ maker_fits (made.Bind target this args) e =
     let two = value_fits this e.1 in
     let more = values_fit args e.2 in
     (((one.0, bind_is_written), (two.0, more.0)), omega arith)
+maker_fits (made.Element x) e = created_fits (codes "createElement") x create_element_is_word e
+maker_fits (made.Text x) e = created_fits (codes "createTextNode") x create_text_is_word e
+maker_fits (made.Comment x) e = created_fits (codes "createComment") x create_comment_is_word e
+maker_fits made.Event e = created_fits (codes "createEvent") (codes "Event") create_event_is_word refl
 
 -- ---- statements
 
@@ -142,11 +206,34 @@ define_fits at x descriptor place units fits =
     let one = reference_fits at place in
     (((object_is_identifier, define_is_written), (one.0, (units, (fits.0, tt)))), omega arith)
 
+higher : (r : Rebuild) → Fits 5 (rebuild_expr r) → Fits 404 (rebuild_expr r)
+higher r fits = (fits.0, omega (arith, fits.1))
+
 pub rebuild_fits : (r : Rebuild) → IsWritable r → Fits 404 (rebuild_expr r)
 rebuild_fits (Make number maker) e =
     let one = thing_fits number e.0 in
     let two = maker_fits maker e.1 in
     ((refl, one.0, two.0), omega arith)
+rebuild_fits (Append parent child) e =
+    higher (Append parent child) (method_fits parent (codes "appendChild") (one (reference child)) e.0 append_is_word (one_fits (reference child) (reference_fits child e.1)))
+rebuild_fits (Attribute node x v) e =
+    higher (Attribute node x v)
+    (method_fits node (codes "setAttribute") (two (text x) (text v)) e.0 set_attribute_is_word
+    (two_fit (text x) (text v) (text_fits x e.1) (text_fits v e.2)))
+rebuild_fits (SetValue node x) e =
+    let target = member_fits (reference node) (codes "value") value_is_word (reference_fits node e.0) in
+    ((refl, target.0, e.1), omega (arith, target.1))
+rebuild_fits (Init at kind bubbles cancelable) e =
+    higher (Init at kind bubbles cancelable)
+    (method_fits at (codes "initEvent") (three (text kind) (bool bubbles) (bool cancelable)) e.0 init_is_word
+    (three_fit (text kind) (bool bubbles) (bool cancelable) (text_fits kind e.1) (truth_fits bubbles) (truth_fits cancelable)))
+rebuild_fits (Dispatch target at) e =
+    higher (Dispatch target at)
+    (method_fits target (codes "dispatchEvent") (one (reference at)) e.0 dispatch_is_word (one_fits (reference at) (reference_fits at e.1)))
+rebuild_fits (Listen node kind f capture) e =
+    higher (Listen node kind f capture)
+    (method_fits node (codes "addEventListener") (three (text kind) (reference f) (bool capture)) e.0 listen_is_word
+    (three_fit (text kind) (reference f) (bool capture) (text_fits kind e.1) (reference_fits f e.2) (truth_fits capture)))
 rebuild_fits (Define at x p) e =
     let whole = define_fits at x (whole_descriptor p) e.0 e.1 (whole_fits p e.2) in
     (whole.0, omega arith)
@@ -156,6 +243,20 @@ rebuild_fits (DefinePrototype at v writable) e =
 rebuild_fits (DefineLength at v writable) e =
     let whole = define_fits at (codes "length") (short_descriptor v writable) e.0 refl (short_fits v writable e.1) in
     (whole.0, omega arith)
+rebuild_fits Filler e =
+    higher Filler
+    (global_fits (codes "setTimeout") (two (name (codes "Object")) (number_expr 0)) set_timeout_is_identifier
+    (two_fit (name (codes "Object")) (number_expr 0) (object_is_identifier, omega arith) (count_fits 0 refl)))
+rebuild_fits (Clear id) e =
+    higher (Clear id) (global_fits (codes "clearTimeout") (one (number_expr id)) clear_timeout_is_identifier (one_fits (number_expr id) (count_fits id e)))
+rebuild_fits (Timeout f rest) e =
+    higher (Timeout f rest)
+    (global_fits (codes "setTimeout") (two (reference f) (number_expr rest)) set_timeout_is_identifier
+    (two_fit (reference f) (number_expr rest) (reference_fits f e.0) (count_fits rest e.1)))
+rebuild_fits (Interval f rest period) e =
+    higher (Interval f rest period)
+    (global_fits (codes "setIntervalFrom") (three (reference f) (number_expr rest) (number_expr period)) set_interval_is_identifier
+    (three_fit (reference f) (number_expr rest) (number_expr period) (reference_fits f e.0) (count_fits rest e.1) (count_fits period e.2)))
 rebuild_fits (Prevent at) e =
     let one = reference_fits at e in
     (((object_is_identifier, prevent_is_written), (one.0, tt)), omega arith)

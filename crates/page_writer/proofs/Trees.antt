@@ -2,7 +2,7 @@
 use Rattle.std.proofs.Common.{◌≡◌, ◌∙◌, refl, sym, ap, ℕ, ◌-◌, Bool, true, false, List, [], ◌∷◌, ◌++◌, Option, Some, None, append_assoc, append-nil, nat_eq}
 use Rattle.std.specs.Prelude.{if◌then◌else◌}
 use Rattle.built_in_paths.specs.Paths.{dot, names_of, path_of, with_unit}
-use Rattle.page_meaning.specs.Places.{built_in_count}
+use Rattle.page_meaning.specs.Places.{document}
 use Rattle.js_core.specs.Tree as tree
 use Rattle.js_core.specs.Tree.{name, member}
 use Rattle.js_core.specs.declared.token.Punct.TheVariants as punct
@@ -12,8 +12,9 @@ use Rattle.js_print.specs.declared.lexeme.Lexeme.TheVariants.{Name, Punct}
 use Rattle.js_print.specs.declared.place.Place.TheVariants.{Base, Part}
 use Rattle.js_print.specs.Places.{is_bare, placed}
 use Rattle.js_values.specs.declared.ids.ObjId.{ObjId}
+use Rattle.rebuild_plan.specs.Moved.{first_thing}
 use Rattle.page_writer.specs.Dotted.{dotted}
-use Rattle.page_writer.specs.Statements.{path_expr, path_from, reference, reference_over, thing_expr}
+use Rattle.page_writer.specs.References.{document_expr, path_expr, path_from, reference, reference_over, thing_expr, unlisted}
 
 -- ---- paths
 
@@ -75,9 +76,8 @@ path_lexemes path = dotted_between [] path ∙ names_lexemes path (names_of path
 pub reference_path : (k : ℕ) (path : List ℕ) (found : Option (List ℕ)) → found ≡ Some path → dotted [] path ≡ expr_lexemes (reference_over k found)
 reference_path k path found is = path_lexemes path ∙ ap (λ o. expr_lexemes (reference_over k o)) (sym is)
 
-pub reference_thing : (k n : ℕ) (found : Option (List ℕ)) → found ≡ None → n ≡ k - 122 → expr_lexemes (thing_expr n) ≡ expr_lexemes (reference_over k found)
-unfolding built_in_count
-reference_thing k n found is counted = ap (λ m. expr_lexemes (thing_expr m)) counted ∙ ap (λ o. expr_lexemes (reference_over k o)) (sym is)
+pub reference_unlisted : (k : ℕ) (found : Option (List ℕ)) → found ≡ None → expr_lexemes (unlisted k) ≡ expr_lexemes (reference_over k found)
+reference_unlisted k found is = ap (λ o. expr_lexemes (reference_over k o)) (sym is)
 
 -- it needs no parentheses before a dot and as a part
 abbrev Bare : tree.Expr → Type 0
@@ -91,8 +91,15 @@ path_bare : (xs : List (List ℕ)) → Bare (path_expr xs)
 path_bare [] = (refl, refl)
 path_bare (x ∷ xs) = path_from_bare (name x) xs (refl, refl)
 
+unlisted_bare : (k : ℕ) → Bare (unlisted k)
+unlisted_bare k = by (nat_eq k document.0)
+  where
+    by : (b : Bool) → Bare (if b then document_expr else thing_expr (k - first_thing))
+    by true = (refl, refl)
+    by false = (refl, refl)
+
 over_bare : (k : ℕ) (found : Option (List ℕ)) → Bare (reference_over k found)
-over_bare k None = (refl, refl)
+over_bare k None = unlisted_bare k
 over_bare k (Some path) = path_bare (names_of path)
 
 pub reference_base : (at : ObjId) → placed Base (reference at) (expr_lexemes (reference at)) ≡ expr_lexemes (reference at)

@@ -102,6 +102,74 @@ pub bind_is_written : can_be_written (kind.Word (codes "bind")) ≡ true
 unfolding is_word
 bind_is_written = word_is_written (codes "bind") refl
 
+pub document_is_identifier : is_identifier (codes "document") ≡ true
+unfolding is_word is_free_word
+document_is_identifier = word_is_identifier (codes "document") refl
+
+pub set_timeout_is_identifier : is_identifier (codes "setTimeout") ≡ true
+unfolding is_word is_free_word
+set_timeout_is_identifier = word_is_identifier (codes "setTimeout") refl
+
+pub clear_timeout_is_identifier : is_identifier (codes "clearTimeout") ≡ true
+unfolding is_word is_free_word
+clear_timeout_is_identifier = word_is_identifier (codes "clearTimeout") refl
+
+pub set_interval_is_identifier : is_identifier (codes "setIntervalFrom") ≡ true
+unfolding is_word is_free_word
+set_interval_is_identifier = word_is_identifier (codes "setIntervalFrom") refl
+
+-- ---- the words of methods
+
+pub create_element_is_word : is_word (codes "createElement") ≡ true
+unfolding is_word
+create_element_is_word = refl
+
+pub create_text_is_word : is_word (codes "createTextNode") ≡ true
+unfolding is_word
+create_text_is_word = refl
+
+pub create_comment_is_word : is_word (codes "createComment") ≡ true
+unfolding is_word
+create_comment_is_word = refl
+
+pub create_event_is_word : is_word (codes "createEvent") ≡ true
+unfolding is_word
+create_event_is_word = refl
+
+pub append_is_word : is_word (codes "appendChild") ≡ true
+unfolding is_word
+append_is_word = refl
+
+pub set_attribute_is_word : is_word (codes "setAttribute") ≡ true
+unfolding is_word
+set_attribute_is_word = refl
+
+pub value_is_word : is_word (codes "value") ≡ true
+unfolding is_word
+value_is_word = refl
+
+pub listen_is_word : is_word (codes "addEventListener") ≡ true
+unfolding is_word
+listen_is_word = refl
+
+pub init_is_word : is_word (codes "initEvent") ≡ true
+unfolding is_word
+init_is_word = refl
+
+pub dispatch_is_word : is_word (codes "dispatchEvent") ≡ true
+unfolding is_word
+dispatch_is_word = refl
+
+pub remove_is_word : is_word (codes "removeChild") ≡ true
+unfolding is_word
+remove_is_word = refl
+
+pub document_element_is_word : is_word (codes "documentElement") ≡ true
+unfolding is_word
+document_element_is_word = refl
+
+-- ---- the kinds of errors
+
 kind_is_free : (k : ErrorKind) → is_free_word (kind_name k) ≡ true
 unfolding is_word is_free_word
 kind_is_free fault.Plain = refl

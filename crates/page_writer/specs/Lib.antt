@@ -1,9 +1,12 @@
 pub mod Dotted
 pub mod FormScripts
+pub mod Frame
+pub mod HostStatements
 pub mod Length
 pub mod Literals
 pub mod Page
 pub mod Putting
+pub mod References
 pub mod Script
 pub mod Sizes
 pub mod Statements

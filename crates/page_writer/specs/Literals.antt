@@ -11,9 +11,9 @@ use Rattle.page_meaning.specs.Store.{Store}
 use Rattle.rebuild_plan.specs.Compact.{compact}
 use Rattle.rebuild_plan.specs.Plan.{plan}
 use Rattle.rebuild_plan.specs.declared.statement.Maker.{Maker}
-use Rattle.rebuild_plan.specs.declared.statement.Maker.TheVariants.{Func, Bind}
+use Rattle.rebuild_plan.specs.declared.statement.Maker.TheVariants as made
 use Rattle.rebuild_plan.specs.declared.statement.Rebuild.{Rebuild}
-use Rattle.rebuild_plan.specs.declared.statement.Rebuild.TheVariants.{Make, Define, DefinePrototype, DefineLength, Prevent}
+use Rattle.rebuild_plan.specs.declared.statement.Rebuild.TheVariants.{Make, Attribute, SetValue, Init, Listen, Define, DefinePrototype, DefineLength}
 
 -- a number is NaN or one of the language, and a text is one of 16-bit units
 abbrev pub IsLiteral : Value → Type 0
@@ -27,17 +27,24 @@ need_values (n ∷ ns) = n.1 ∷ need_values ns
 
 -- the values that are written to make a thing
 abbrev pub maker_values : Maker → List Value
-maker_values (Func c needs) = need_values needs
-maker_values (Bind target this args) = this ∷ args
+maker_values (made.Func c needs) = need_values needs
+maker_values (made.Bind target this args) = this ∷ args
+maker_values (made.Element x) = Text x ∷ []
+maker_values (made.Text t) = Text t ∷ []
+maker_values (made.Comment t) = Text t ∷ []
 maker_values m = []
 
--- the values that a statement writes, the name of a property among them
+-- the values that a statement writes, the names of properties and attributes and the types of events among them
 abbrev pub values_of : Rebuild → List Value
 values_of (Make number m) = maker_values m
+values_of (Attribute node x v) = Text x ∷ Text v ∷ []
+values_of (SetValue node t) = Text t ∷ []
+values_of (Init event kind bubbles cancelable) = Text kind ∷ []
+values_of (Listen node kind call capture) = Text kind ∷ []
 values_of (Define at x p) = Text x ∷ p.value ∷ []
 values_of (DefinePrototype at v writable) = v ∷ []
 values_of (DefineLength at v writable) = v ∷ []
-values_of (Prevent at) = []
+values_of r = []
 
 abbrev pub HasLiterals : Rebuild → Type 0
 HasLiterals r = All IsLiteral (values_of r)

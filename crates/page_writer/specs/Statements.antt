@@ -1,68 +1,17 @@
 -- The statements of a saved page as trees (ECMA-262 5.1 sections 11 and 12).
-use Rattle.std.specs.Prelude.{ℕ, ℤ, pos, nat_abs, ◌-◌, Bool, List, [], ◌∷◌, Option, Some, None, codes}
-use Rattle.built_in_paths.specs.Paths.{names_of, path_of}
-use Rattle.page_meaning.specs.Places.{built_in_count}
+use Rattle.std.specs.Prelude.{ℕ, Bool, List, [], ◌∷◌, None, codes}
 use Rattle.js_core.specs.Tree as tree
-use Rattle.js_core.specs.Tree.{name, num, text, bool, null, list, literal, func, member, index, call, construct, unary, assign, no_exprs, then_expr, one_expr, no_holes, no_fields, then_field, code, expr, return, no_stmts, then_stmt}
-use Rattle.js_core.specs.declared.operators.UnaryOp.TheVariants.{Minus, Void}
+use Rattle.js_core.specs.Tree.{name, text, bool, list, literal, func, member, call, construct, assign, no_exprs, then_expr, one_expr, no_holes, no_fields, then_field, code, expr, return, no_stmts, then_stmt}
 use Rattle.js_values.specs.Throw.{kind_name}
 use Rattle.js_values.specs.declared.ids.ObjId.{ObjId}
 use Rattle.js_values.specs.declared.value.Value.{Value}
-use Rattle.js_values.specs.declared.value.Value.TheVariants as value
 use Rattle.object_heap.specs.declared.property.Prop.{Prop}
 use Rattle.rebuild_plan.specs.declared.statement.Maker.{Maker}
 use Rattle.rebuild_plan.specs.declared.statement.Maker.TheVariants as made
 use Rattle.rebuild_plan.specs.declared.statement.Rebuild.{Rebuild}
-use Rattle.rebuild_plan.specs.declared.statement.Rebuild.TheVariants.{Make, Define, DefinePrototype, DefineLength, Prevent}
-
--- ---- references and values
-
-abbrev pub number_expr : ℕ → tree.Expr
-number_expr n = num (Some (pos n))
-
--- `$$[n]`, which holds the thing with this number
-abbrev pub thing_expr : ℕ → tree.Expr
-thing_expr n = index (name (codes "$$")) (number_expr n)
-
--- names behind dots
-abbrev pub path_from : tree.Expr → List (List ℕ) → tree.Expr
-path_from e [] = e
-path_from e (x ∷ xs) = path_from (member e x) xs
-
--- `a.b.c`
-abbrev pub path_expr : List (List ℕ) → tree.Expr
-path_expr [] = null
-path_expr (x ∷ xs) = path_from (name x) xs
-
-abbrev pub reference_over : ℕ → Option (List ℕ) → tree.Expr
-reference_over k (Some path) = path_expr (names_of path)
-reference_over k None = thing_expr (k - built_in_count)
-
--- a built-in object by its path, and a thing by its number
-abbrev pub reference : ObjId → tree.Expr
-reference at = reference_over at.0 (path_of at.0)
-
--- a number, `-` and a number, or `NaN`
-abbrev pub whole_expr : Option ℤ → tree.Expr
-whole_expr None = name (codes "NaN")
-whole_expr (Some (pos n)) = number_expr n
-whole_expr (Some z) = unary Minus (number_expr (nat_abs z))
-
-abbrev pub value_expr : Value → tree.Expr
-value_expr value.Undefined = unary Void (number_expr 0)
-value_expr value.Null = null
-value_expr (value.Bool b) = bool b
-value_expr (value.Num n) = whole_expr n
-value_expr (value.Text t) = text t
-value_expr (value.Object at) = reference at
-
-abbrev pub value_exprs : List Value → tree.Exprs
-value_exprs [] = no_exprs
-value_exprs (v ∷ vs) = then_expr (value_expr v) (value_exprs vs)
-
-abbrev pub proto_expr : Option ObjId → tree.Expr
-proto_expr None = null
-proto_expr (Some at) = reference at
+use Rattle.rebuild_plan.specs.declared.statement.Rebuild.TheVariants.{Make, Append, Attribute, SetValue, Init, Dispatch, Listen, Define, DefinePrototype, DefineLength, Filler, Clear, Timeout, Interval, Prevent}
+use Rattle.page_writer.specs.HostStatements.{append_expr, attribute_expr, clear_expr, comment_expr, dispatch_expr, element_expr, event_expr, filler_expr, init_expr, interval_expr, listen_expr, set_value_expr, text_expr, timeout_expr}
+pub use Rattle.page_writer.specs.References.{document_expr, number_expr, path_expr, path_from, proto_expr, reference, reference_over, thing_expr, unlisted, value_expr, value_exprs, whole_expr}
 
 -- ---- what makes a thing
 
@@ -96,6 +45,10 @@ maker_expr made.List = list no_holes
 maker_expr (made.Fault kind) = construct (name (kind_name kind)) no_exprs
 maker_expr (made.Func c needs) = function_expr c needs
 maker_expr (made.Bind target this args) = call (member (reference target) (codes "bind")) (then_expr (value_expr this) (value_exprs args))
+maker_expr (made.Element x) = element_expr x
+maker_expr (made.Text t) = text_expr t
+maker_expr (made.Comment t) = comment_expr t
+maker_expr made.Event = event_expr
 
 -- ---- statements
 
@@ -117,9 +70,19 @@ define_expr at x descriptor =
 
 abbrev pub rebuild_expr : Rebuild → tree.Expr
 rebuild_expr (Make number maker) = assign None (thing_expr number) (maker_expr maker)
+rebuild_expr (Append parent child) = append_expr parent child
+rebuild_expr (Attribute node x v) = attribute_expr node x v
+rebuild_expr (SetValue node t) = set_value_expr node t
+rebuild_expr (Init event kind bubbles cancelable) = init_expr event kind bubbles cancelable
+rebuild_expr (Dispatch target event) = dispatch_expr target event
+rebuild_expr (Listen node kind f capture) = listen_expr node kind f capture
 rebuild_expr (Define at x p) = define_expr at x (whole_descriptor p)
 rebuild_expr (DefinePrototype at v writable) = define_expr at (codes "prototype") (short_descriptor v writable)
 rebuild_expr (DefineLength at v writable) = define_expr at (codes "length") (short_descriptor v writable)
+rebuild_expr Filler = filler_expr
+rebuild_expr (Clear id) = clear_expr id
+rebuild_expr (Timeout f rest) = timeout_expr f rest
+rebuild_expr (Interval f rest period) = interval_expr f rest period
 rebuild_expr (Prevent at) = call (object_function (codes "preventExtensions")) (then_expr (reference at) no_exprs)
 
 abbrev pub statement : Rebuild → tree.Stmt

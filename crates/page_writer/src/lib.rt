@@ -4,9 +4,11 @@
 mod laws;
 mod literals;
 mod makers;
+mod nodes;
 mod references;
 mod save_fault;
 mod statements;
+mod timers;
 mod values;
 mod writing;
 

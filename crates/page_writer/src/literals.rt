@@ -56,7 +56,8 @@ fn tell_maker(maker: &Maker)
             tell_value(this);
             tell_values(args.as_slice());
         }
-        Maker::Plain(_) | Maker::List | Maker::Fault(_) => {}
+        Maker::Element(text) | Maker::Text(text) | Maker::Comment(text) => tell_text(text),
+        Maker::Plain(_) | Maker::List | Maker::Fault(_) | Maker::Event => {}
     }
 }
 
@@ -65,6 +66,12 @@ fn tell_statement(rebuild: &Rebuild)
 {
     match rebuild {
         Rebuild::Make { maker, .. } => tell_maker(maker),
+        Rebuild::Attribute { name, value, .. } => {
+            tell_text(name);
+            tell_text(value);
+        }
+        Rebuild::SetValue { text, .. } => tell_text(text),
+        Rebuild::Init { kind, .. } | Rebuild::Listen { kind, .. } => tell_text(kind),
         Rebuild::Define { name, prop, .. } => {
             tell_text(name);
             tell_value(&prop.value);
@@ -72,7 +79,13 @@ fn tell_statement(rebuild: &Rebuild)
         Rebuild::DefinePrototype { value, .. } | Rebuild::DefineLength { value, .. } => {
             tell_value(value);
         }
-        Rebuild::Prevent { .. } => {}
+        Rebuild::Append { .. }
+        | Rebuild::Dispatch { .. }
+        | Rebuild::Filler
+        | Rebuild::Clear { .. }
+        | Rebuild::Timeout { .. }
+        | Rebuild::Interval { .. }
+        | Rebuild::Prevent { .. } => {}
     }
 }
 

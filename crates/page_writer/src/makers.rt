@@ -1,14 +1,14 @@
 //! The lexemes of what makes a thing.
 
-ghost use Rattle.std.specs.Prelude.{◌≡◌, ◌++◌, OnOk, codes};
-ghost use Rattle.js_core.specs.Tree as tree;
+ghost use Rattle.std.specs.Prelude.{◌≡◌, ◌++◌, OnOk};
 ghost use Rattle.js_print.specs.Lexemes.{code_lexemes, expr_lexemes, more_names, more_parts_lexemes, names, parts_lexemes, stmts_lexemes};
 ghost use Rattle.js_print.specs.Places.{braced, parenthesised, placed};
 ghost use Rattle.js_print.specs.declared.place.Place.TheVariants.{Part};
 ghost use Rattle.page_writer.specs.Statements as spec;
 ghost use Rattle.rebuild_plan.specs.declared.statement.Maker.TheVariants as made;
 
-use crate::references::{push_base, push_word};
+use crate::nodes::{push_created, push_new_event};
+use crate::references::{push_member, push_word};
 use crate::values::{push_more_values, push_proto, push_value};
 use code_table::FunctionCode;
 use js_core::{Keyword, OutOfMemory, Punct, Units};
@@ -44,6 +44,10 @@ pub fn push_maker(alloc: Global, maker: &Maker, out: &mut Vec<Lexeme>) -> Result
         Maker::Bind { target, this, args } => {
             push_bind(alloc, *target, this, args.as_slice(), out)
         }
+        Maker::Element(name) => push_created(alloc, b"createElement", name, out),
+        Maker::Text(text) => push_created(alloc, b"createTextNode", text, out),
+        Maker::Comment(text) => push_created(alloc, b"createComment", text, out),
+        Maker::Event => push_new_event(alloc, out),
     }
 }
 
@@ -85,25 +89,11 @@ fn push_bind(
     ensures { OnOk result (out.new.items ≡ out.old.items
         ++ expr_lexemes (spec.maker_expr (made.Bind target this.now args.now))) }
 {
-    push_bind_function(alloc, target, out)?;
+    push_member(alloc, target, b"bind", out)?;
     push_punct(Punct::LeftParenthesis, out)?;
     push_value(alloc, this, out)?;
     push_more_values(alloc, args, out)?;
     push_punct(Punct::RightParenthesis, out)
-}
-
-// `bind` of the function that is bound.
-fn push_bind_function(
-    alloc: Global,
-    target: ObjId,
-    out: &mut Vec<Lexeme>,
-) -> Result<(), OutOfMemory>
-    ensures { OnOk result (out.new.items ≡ out.old.items
-        ++ expr_lexemes (tree.member (spec.reference target) (codes "bind"))) }
-{
-    push_base(alloc, target, out)?;
-    push_punct(Punct::Dot, out)?;
-    push_word(alloc, b"bind", out)
 }
 
 // Appends a function, with its name where it is held with it.

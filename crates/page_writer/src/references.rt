@@ -1,6 +1,7 @@
 //! The lexemes of what an object is reached by, and of numbers.
 
 ghost use Rattle.std.specs.Prelude.{◌≡◌, [], ◌∷◌, ◌++◌, ℕ, List, IfOk, OnOk, Some, pos};
+ghost use Rattle.js_core.specs.Tree as tree;
 ghost use Rattle.js_print.specs.Lexemes.{expr_lexemes};
 ghost use Rattle.js_print.specs.Places.{placed};
 ghost use Rattle.js_print.specs.declared.lexeme.Lexeme.TheVariants as lexeme;
@@ -9,10 +10,11 @@ ghost use Rattle.page_writer.specs.Dotted.{dotted};
 ghost use Rattle.page_writer.specs.Statements as spec;
 
 use built_in_paths::path;
-use heap_walker::BUILT_IN_COUNT;
+use heap_walker::FIRST_THING;
 use js_core::{OutOfMemory, Punct, Units, Whole, ascii_text};
 use js_print::{Lexeme, push_lexeme, push_punct};
 use js_values::ObjId;
+use page_state::DOCUMENT;
 use std::alloc::Global;
 
 /// Appends a name of ASCII characters.
@@ -61,14 +63,25 @@ pub fn push_thing(alloc: Global, number: u64, out: &mut Vec<Lexeme>) -> Result<(
     push_punct(Punct::RightBracket, out)
 }
 
-// What an object is reached by: a built-in one by its path, a thing by its number.
+// What an object is reached by: a built-in one by its path, the document by its name, a thing by its number.
 fn push_reference(alloc: Global, at: ObjId, out: &mut Vec<Lexeme>) -> Result<(), OutOfMemory>
     ensures { OnOk result (out.new.items ≡ out.old.items ++ expr_lexemes (spec.reference at)) }
 {
     match path(at) {
         Some(path) => push_path(alloc, path, out),
-        None => push_thing(alloc, at.0.saturating_sub(BUILT_IN_COUNT), out),
+        None => push_unlisted(alloc, at, out),
     }
+}
+
+// The document by its name, and a thing by its number.
+#[tactic(auto, unfolding(page_meaning::specs::Places::built_in_count))]
+fn push_unlisted(alloc: Global, at: ObjId, out: &mut Vec<Lexeme>) -> Result<(), OutOfMemory>
+    ensures { OnOk result (out.new.items ≡ out.old.items ++ expr_lexemes (spec.unlisted at.0)) }
+{
+    if at == DOCUMENT {
+        return push_word(alloc, b"document", out);
+    }
+    push_thing(alloc, at.0.saturating_sub(FIRST_THING), out)
 }
 
 /// Appends what an object is reached by, as it stands before a dot.
@@ -87,6 +100,35 @@ pub fn push_part(alloc: Global, at: ObjId, out: &mut Vec<Lexeme>) -> Result<(), 
         ++ placed Part (spec.reference at) (expr_lexemes (spec.reference at))) }
 {
     push_reference(alloc, at, out)
+}
+
+/// Appends the name of a member of an object, after what the object is reached by.
+pub fn push_member(
+    alloc: Global,
+    at: ObjId,
+    word: &[u8],
+    out: &mut Vec<Lexeme>,
+) -> Result<(), OutOfMemory>
+    ensures { OnOk result (out.new.items ≡ out.old.items
+        ++ expr_lexemes (tree.member (spec.reference at) word.now)) }
+{
+    push_base(alloc, at, out)?;
+    push_punct(Punct::Dot, out)?;
+    push_word(alloc, word, out)
+}
+
+/// Appends the name of a member of the document, after `document`.
+pub fn push_document_member(
+    alloc: Global,
+    word: &[u8],
+    out: &mut Vec<Lexeme>,
+) -> Result<(), OutOfMemory>
+    ensures { OnOk result (out.new.items ≡ out.old.items
+        ++ expr_lexemes (tree.member spec.document_expr word.now)) }
+{
+    push_word(alloc, b"document", out)?;
+    push_punct(Punct::Dot, out)?;
+    push_word(alloc, word, out)
 }
 
 // The names between the dots of a path, with the dots.

@@ -10,7 +10,9 @@ ghost use Rattle.page_writer.specs.Statements as spec;
 ghost use Rattle.rebuild_plan.specs.declared.statement.Rebuild.TheVariants as rebuild;
 
 use crate::makers::{push_maker, push_object_function};
+use crate::nodes::{push_call_with, push_init, push_listen, push_set_attribute, push_set_value};
 use crate::references::{push_part, push_string, push_thing};
+use crate::timers::{push_clear, push_filler, push_interval, push_timeout};
 use crate::values::{push_boolean, push_value};
 use js_core::{OutOfMemory, Punct, Units};
 use js_print::{Lexeme, push_punct, push_text};
@@ -38,6 +40,28 @@ fn push_rebuild(alloc: Global, rebuild: &Rebuild, out: &mut Vec<Lexeme>) -> Resu
 {
     match rebuild {
         Rebuild::Make { number, maker } => push_make(alloc, *number, maker, out),
+        Rebuild::Append { parent, child } => {
+            push_call_with(alloc, *parent, b"appendChild", *child, out)
+        }
+        Rebuild::Attribute { node, name, value } => push_set_attribute(
+            alloc, *node, name, value, out,
+        ),
+        Rebuild::SetValue { node, text } => push_set_value(alloc, *node, text, out),
+        Rebuild::Init {
+            event,
+            kind,
+            bubbles,
+            cancelable,
+        } => push_init(alloc, *event, kind, *bubbles, *cancelable, out),
+        Rebuild::Dispatch { target, event } => {
+            push_call_with(alloc, *target, b"dispatchEvent", *event, out)
+        }
+        Rebuild::Listen {
+            node,
+            kind,
+            call,
+            capture,
+        } => push_listen(alloc, *node, kind, *call, *capture, out),
         Rebuild::Define { at, name, prop } => push_define(alloc, *at, name, prop, out),
         Rebuild::DefinePrototype {
             at,
@@ -49,6 +73,12 @@ fn push_rebuild(alloc: Global, rebuild: &Rebuild, out: &mut Vec<Lexeme>) -> Resu
             value,
             writable,
         } => { push_short(alloc, *at, b"length", value, *writable, out) }
+        Rebuild::Filler => push_filler(alloc, out),
+        Rebuild::Clear { id } => push_clear(alloc, *id, out),
+        Rebuild::Timeout { call, rest } => push_timeout(alloc, *call, *rest, out),
+        Rebuild::Interval { call, rest, period } => {
+            push_interval(alloc, *call, *rest, *period, out)
+        }
         Rebuild::Prevent { at } => push_prevent(alloc, *at, out),
     }
 }

@@ -22,9 +22,10 @@ use page_state::State;
 use rebuild_plan::{Rebuild, plan};
 use std::alloc::Global;
 
-// The mark of form pages, and the start of the script. `$$` is a list there that no name of a page reaches.
+// The mark of form pages, and the start of the script: `$$` is a list there that no name of a page reaches, and the nodes that the page is
+// read with are taken out.
 const HEAD: &[u8] =
-    b"<!--imagen 1--><html><body></body><script>\"use strict\";try{throw[];}catch($$){\n";
+    b"<!--imagen 1--><html><script>\"use strict\";try{throw[];}catch($$){\ndocument.removeChild(document.documentElement);\n";
 
 const TAIL: &[u8] = b"}</script></html>";
 

@@ -59,8 +59,8 @@ ScriptPages =
 
 pub framed_scripts_are_accepted : ScriptPages → FramedScriptsAreAccepted
 framed_scripts_are_accepted pages script text form strict again =
-    accepted_as (framed text) (script_page true) (utf16_of text ∷ []) (script ∷ []) refl
-    (pages (framed text) true (utf16_of text) (framed_is_utf8 text again.utf8) (is_framed text again.utf8 again.no_tag_in_units again.no_control))
+    accepted_as (framed text) (script_page false) (utf16_of text ∷ []) (script ∷ []) refl
+    (pages (framed text) false (utf16_of text) (framed_is_utf8 text again.utf8) (is_framed text again.utf8 again.no_tag_in_units again.no_control))
     (form_is_page_script script text form strict again, tt)
 
 -- ---- in the places of a page's scripts

@@ -146,12 +146,12 @@ framed_units t u =
 framed_stays : (us : List ℕ) → list_all stays us ≡ true → list_all stays (framed us) ≡ true
 framed_stays us all = list_all-append stays us page_back ∙ and_from _ _ all refl
 
-front_whole : (us : List ℕ) → framed us ≡ mark_text form_page_mark ++ codes "<html>" ++ body_text true ++ codes "<script>" ++ us ++ codes "</script></html>"
+front_whole : (us : List ℕ) → framed us ≡ mark_text form_page_mark ++ codes "<html>" ++ body_text false ++ codes "<script>" ++ us ++ codes "</script></html>"
 front_whole us = refl
 
 -- the text of a form page's script, in its frame
 pub is_framed : (t : List ℕ) → IsUtf8 t → HasNoEndTag (utf16_of t) → list_all is_lined (utf16_of t) ≡ true
-    → IsScriptPage (with_line_feeds (utf16_of (framed t))) true (utf16_of t)
+    → IsScriptPage (with_line_feeds (utf16_of (framed t))) false (utf16_of t)
 is_framed t u none lined =
     let units = utf16_of t in
     let kept = framed_stays units (all_stay units lined) in

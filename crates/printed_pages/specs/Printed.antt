@@ -1,6 +1,6 @@
 -- That printed scripts in the places of a page's scripts are accepted, that a script in the frame of a saved page is, and which trees the
 -- scripts of accepted pages are.
-use Rattle.std.specs.Prelude.{◌≡◌, ℕ, true, IsTrue, List, [], ◌∷◌, ◌++◌, codes, length, map}
+use Rattle.std.specs.Prelude.{◌≡◌, ℕ, true, false, IsTrue, List, [], ◌∷◌, ◌++◌, codes, length, map}
 use Rattle.std.specs.List.{All}
 use Rattle.dom_tree.specs.Node.{Nodes}
 use Rattle.js_core.specs.Tree as tree
@@ -35,7 +35,7 @@ PrintedPagesAreAccepted =
 
 -- what stands before the text of its script, and what stands after it
 abbrev pub page_front : List ℕ
-page_front = form_mark ++ codes "<html><body></body><script>"
+page_front = form_mark ++ codes "<html><script>"
 
 abbrev pub page_back : List ℕ
 page_back = codes "</script></html>"
@@ -45,7 +45,7 @@ framed text = page_front ++ (text ++ page_back)
 
 -- the page that it is with this script
 abbrev pub framed_page : tree.Stmts → Page
-framed_page script = form_page (script_page true) (script ∷ [])
+framed_page script = form_page (script_page false) (script ∷ [])
 
 -- where the text is read again as what a form page asks of a script, and this begins with the strict directive, it is accepted in this frame
 abbrev pub FramedScriptsAreAccepted : Type 0

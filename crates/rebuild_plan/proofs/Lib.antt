@@ -1,5 +1,7 @@
 pub mod Callers
 pub mod Counted
+pub mod Family
+pub mod Marking
 pub mod Moving
 pub mod Numbered
 pub mod Standing

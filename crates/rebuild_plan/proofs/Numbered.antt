@@ -8,6 +8,10 @@ use Rattle.heap_walker.proofs.Callers.{past_places, place_of_equal}
 use Rattle.rebuild_plan.specs.Compact.{Thing, thing_of, things_at}
 use Rattle.rebuild_plan.specs.declared.statement.Rebuild.{Rebuild}
 
+-- some and then others
+pub then : {X : Type 0} (old p new x y : List X) → p ≡ old ++ x → new ≡ p ++ y → new ≡ old ++ (x ++ y)
+then old p new x y first second = second ∙ ap (λ l. l ++ y) first ∙ append_assoc old x y
+
 -- those for one thing and then those for the others
 pub next_thing : (all : ℕ → List Thing → List Rebuild) (one : ℕ → Thing → List Rebuild) → ((n : ℕ) (t : Thing) (ts : List Thing) → all n (t ∷ ts) ≡ one n t ++ all (suc n) ts)
     → (s : Store) (things xs : List ℕ) (i d : ℕ) (old new : List Rebuild) → xs ≡ things → i < length things → new ≡ old ++ one i (thing_of s things (object_at s.heap.objects (get_or xs i d)))

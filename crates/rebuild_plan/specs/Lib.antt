@@ -1,4 +1,9 @@
 pub mod Compact
 pub mod Count
+pub mod Events
+pub mod Marks
+pub mod Moved
+pub mod Nodes
 pub mod Plan
 pub mod Stands
+pub mod Timers

@@ -9,7 +9,7 @@ pub fn law_plans_stand()
     ensures { PlansStand }
 {}
 
-/// A plan has at most two statements for each thing, as `Weight` counts them.
+/// A plan has at most four statements for each thing, as `Weight` counts them, and one more.
 pub fn law_plans_are_few()
     ensures { PlansAreFew }
 {}

@@ -3,20 +3,20 @@
 ghost use Rattle.std.specs.Prelude.{◌≡◌, IfOk};
 ghost use Rattle.rebuild_plan.specs.Compact as spec;
 
-use heap_walker::{BUILT_IN_COUNT, Needs, Walked};
+use heap_walker::{FIRST_THING, Needs, Walked};
 use js_core::OutOfMemory;
 use js_values::{ObjId, Value};
 use object_heap::{Prop, Values};
 use std::alloc::Global;
 
-/// The place of an object among the built-in objects and the things that were walked.
+/// The place of an object among the built-in objects, the document's and the things that were walked.
 #[tactic(auto, unfolding(page_meaning::specs::Places::built_in_count))]
 pub fn moved(walked: &Walked, at: ObjId) -> ObjId
     ensures { result ≡ spec.moved walked.now.things.keys at }
 {
     let _count = walked.things.len();
     match walked.things.get_index_of(&at.0) {
-        Some(number) => ObjId(BUILT_IN_COUNT + number as u64),
+        Some(number) => ObjId(FIRST_THING + number as u64),
         None => at,
     }
 }

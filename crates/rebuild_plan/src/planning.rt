@@ -1,25 +1,23 @@
 //! The plan of a page.
 
-ghost use Rattle.std.specs.Prelude.{◌≡◌, ◌++◌, ◌∷◌, [], ℕ, List, Option, IfOk, OnOk, false, option_copied, option_map};
-ghost use Rattle.js_values.specs.declared.ids.ObjId.{ObjId as Id};
+ghost use Rattle.std.specs.Prelude.{◌≡◌, ◌++◌, ◌∷◌, [], IfOk, OnOk, if◌then◌else◌};
+ghost use Rattle.heap_walker.specs.Heard.{AreHeard};
 ghost use Rattle.object_heap.specs.Chain.{object_at};
-ghost use Rattle.object_heap.specs.Define.{length_name};
-ghost use Rattle.object_heap.specs.Property.{Props, own_property};
-ghost use Rattle.heap_walker.specs.Things.{globals_of, needs_of};
-ghost use Rattle.page_meaning.specs.Places.{window};
-ghost use Rattle.page_meaning.specs.Store.{Store};
 ghost use Rattle.rebuild_plan.specs.Compact as saved;
 ghost use Rattle.rebuild_plan.specs.Plan as spec;
-ghost use Rattle.rebuild_plan.specs.declared.statement.Maker.TheVariants.{Func, List as Array};
+ghost use Rattle.rebuild_plan.specs.declared.statement.Rebuild.TheVariants.{Prevent};
 
-use crate::moved::{moved, moved_needs, moved_prop, moved_proto, moved_value, moved_values};
-use crate::statement::{Maker, Rebuild};
-use code_table::FunctionCode;
-use heap_walker::{BUILT_IN_COUNT, BUILT_IN_GLOBALS, Walked, needs_of};
-use js_core::{OutOfMemory, Units, ascii_text};
-use js_values::{EnvId, ErrorKind, ObjId};
-use object_heap::{Class, Prop};
-use page_state::{State, WINDOW, error_prototype, further};
+use crate::events::push_event;
+use crate::makers::maker_of;
+use crate::nodes::{push_children, push_contents, push_listeners};
+use crate::phase::Phase;
+use crate::properties::{push_fill, push_globals};
+use crate::statement::Rebuild;
+use crate::timers::push_timers;
+use heap_walker::{FIRST_THING, Heard, Walked};
+use js_core::OutOfMemory;
+use js_values::ObjId;
+use page_state::{DOCUMENT, State, further};
 
 /// The statements that rebuild a page, of which these are the things that can be reached. The work and the memory are in proportion to
 /// what the things hold.
@@ -27,11 +25,17 @@ pub fn plan(state: &State, walked: &Walked) -> Result<Vec<Rebuild>, OutOfMemory>
     ensures { IfOk result (λ plan.
         plan.items ≡ spec.plan (saved.compact state.now walked.now.things.keys)) }
 {
+    let heard = Heard::of_page(state)?;
     let mut plan = Vec::new(state.alloc());
     push_makes(state, walked, &mut plan)?;
+    push_whole(state, &heard, walked, Phase::Children, &mut plan)?;
+    push_whole(state, &heard, walked, Phase::Contents, &mut plan)?;
+    push_whole(state, &heard, walked, Phase::Events, &mut plan)?;
+    push_whole(state, &heard, walked, Phase::Listeners, &mut plan)?;
     push_globals(state, walked, &mut plan)?;
-    push_fills(state, walked, &mut plan)?;
-    push_prevents(state, walked, &mut plan)?;
+    push_whole(state, &heard, walked, Phase::Properties, &mut plan)?;
+    push_timers(state, walked, &mut plan)?;
+    push_whole(state, &heard, walked, Phase::Ends, &mut plan)?;
     Ok(plan)
 }
 
@@ -50,92 +54,58 @@ fn push_makes(state: &State, walked: &Walked, plan: &mut Vec<Rebuild>) -> Result
     Ok(())
 }
 
-// What makes an object.
-fn maker_of(state: &State, walked: &Walked, at: ObjId) -> Result<Maker, OutOfMemory>
-    ensures { IfOk result (λ m. m ≡ saved.maker_at state.now walked.now.things.keys at.0) }
-{
-    match state.class(at) {
-        Class::List => Ok(Maker::List),
-        Class::Fault => Ok(Maker::Fault(kind_of(state.proto(at)))),
-        Class::Page { code, env } => function_maker(state, walked, code, *env),
-        Class::Bound { target, this, args } => Ok(Maker::Bind {
-            target: moved(walked, *target),
-            this: moved_value(walked, this)?,
-            args: moved_values(state.alloc(), walked, args.as_slice())?,
-        }),
-        Class::Plain
-        | Class::Native(_)
-        | Class::Math
-        | Class::Window
-        | Class::Node(_)
-        | Class::Event(_) => Ok(Maker::Plain(moved_proto(walked, state.proto(at)))),
-    }
-}
-
-// What makes a function.
-fn function_maker(
+// The statements of a phase: those of the document, and then those of each thing.
+fn push_whole(
     state: &State,
+    heard: &Heard,
     walked: &Walked,
-    code: &FunctionCode,
-    env: Option<EnvId>,
-) -> Result<Maker, OutOfMemory>
-    ensures { IfOk result (λ m. m ≡ Func code.now
-        (saved.moved_needs walked.now.things.keys (needs_of state.now env code.now))) }
+    phase: Phase,
+    plan: &mut Vec<Rebuild>,
+) -> Result<(), OutOfMemory>
+    requires { AreHeard state.now.host.listeners heard.now }
+    ensures { OnOk result (plan.new.items ≡ plan.old.items
+        ++ spec.whole phase (saved.compact state.now walked.now.things.keys)) }
 {
-    let needs = needs_of(state, code, env)?;
-    Ok(Maker::Func {
-        code: code.clone()?,
-        needs: moved_needs(state.alloc(), walked, &needs)?,
-    })
-}
-
-// The kind of errors with this prototype.
-fn kind_of(proto: Option<ObjId>) -> ErrorKind
-    ensures { result ≡ saved.kind_of proto }
-{
-    match proto {
-        Some(at) => kind_at(at),
-        None => ErrorKind::Plain,
-    }
-}
-
-fn kind_at(at: ObjId) -> ErrorKind
-    ensures { result ≡ saved.kind_at at.0 }
-{
-    if at == error_prototype(ErrorKind::Type) {
-        ErrorKind::Type
-    } else if at == error_prototype(ErrorKind::Range) {
-        ErrorKind::Range
-    } else if at == error_prototype(ErrorKind::Reference) {
-        ErrorKind::Reference
-    } else {
-        ErrorKind::Plain
-    }
-}
-
-// The globals that scripts made are defined.
-#[tactic(auto, unfolding(page_meaning::specs::Pristine::built_in_globals))]
-fn push_globals(state: &State, walked: &Walked, plan: &mut Vec<Rebuild>) -> Result<(), OutOfMemory>
-    ensures { OnOk result (plan.new.items ≡ plan.old.items ++ spec.defines false false window
-        (saved.moved_props walked.now.things.keys (globals_of state.now))) }
-{
-    let mut place = BUILT_IN_GLOBALS;
-    while let Some((name, prop)) = state.own_at(WINDOW, place) {
-        push_property(walked, WINDOW, false, false, name, prop, plan)?;
-        place = further(place, 1)?;
-    }
+    push_statements(state, heard, walked, phase, DOCUMENT, DOCUMENT, plan)?;
+    push_each(state, heard, walked, phase, plan)?;
     Ok(())
 }
 
-// The properties of the things are defined.
-fn push_fills(state: &State, walked: &Walked, plan: &mut Vec<Rebuild>) -> Result<(), OutOfMemory>
-    ensures { OnOk result (plan.new.items ≡ plan.old.items ++ spec.fills 0
+fn push_each(
+    state: &State,
+    heard: &Heard,
+    walked: &Walked,
+    phase: Phase,
+    plan: &mut Vec<Rebuild>,
+) -> Result<(), OutOfMemory>
+    requires { AreHeard state.now.host.listeners heard.now }
+    ensures { OnOk result (plan.new.items ≡ plan.old.items ++ spec.each phase 0
         (saved.things_at state.now walked.now.things.keys walked.now.things.keys)) }
 {
     for number in 0..walked.things.len() {
         let at = ObjId(walked.things.as_slice()[number]);
-        push_fill(state, walked, at, number, plan)?;
+        push_thing(state, heard, walked, phase, at, number, plan)?;
     }
+    Ok(())
+}
+
+// Those of the thing with this number.
+fn push_thing(
+    state: &State,
+    heard: &Heard,
+    walked: &Walked,
+    phase: Phase,
+    at: ObjId,
+    number: usize,
+    plan: &mut Vec<Rebuild>,
+) -> Result<(), OutOfMemory>
+    requires { AreHeard state.now.host.listeners heard.now }
+    ensures { OnOk result (plan.new.items ≡ plan.old.items
+        ++ spec.statements_of phase (spec.thing_place number)
+        (saved.thing_at state.now walked.now.things.keys at.0)) }
+{
+    let place = thing_place(number)?;
+    push_statements(state, heard, walked, phase, at, place, plan)?;
     Ok(())
 }
 
@@ -144,187 +114,46 @@ fn push_fills(state: &State, walked: &Walked, plan: &mut Vec<Rebuild>) -> Result
 fn thing_place(number: usize) -> Result<ObjId, OutOfMemory>
     ensures { IfOk result (λ at. at ≡ spec.thing_place number) }
 {
-    Ok(ObjId(further(BUILT_IN_COUNT, number as u64)?))
+    Ok(ObjId(further(FIRST_THING, number as u64)?))
 }
 
-// The properties of the thing with this number are defined.
-fn push_fill(
+// The statements of a phase for an object, which gets this place.
+fn push_statements(
     state: &State,
+    heard: &Heard,
     walked: &Walked,
-    at: ObjId,
-    number: usize,
-    plan: &mut Vec<Rebuild>,
-) -> Result<(), OutOfMemory>
-    ensures { OnOk result (plan.new.items ≡ plan.old.items ++ spec.fill (spec.thing_place number)
-        (saved.thing_of state.now walked.now.things.keys (object_at state.now.heap.objects at.0))) }
-{
-    let place = thing_place(number)?;
-    push_properties(state, walked, at, place, plan)?;
-    push_length(state, walked, at, place, plan)?;
-    Ok(())
-}
-
-// All but an array's length.
-fn push_properties(
-    state: &State,
-    walked: &Walked,
+    phase: Phase,
     at: ObjId,
     place: ObjId,
     plan: &mut Vec<Rebuild>,
 ) -> Result<(), OutOfMemory>
-    ensures { OnOk result (plan.new.items ≡ plan.old.items ++ spec.defines
-        (spec.has_length (saved.maker_at state.now walked.now.things.keys at.0))
-        (spec.has_prototype (saved.maker_at state.now walked.now.things.keys at.0))
-        place (saved.props_at state.now walked.now.things.keys at.0)) }
+    requires { AreHeard state.now.host.listeners heard.now }
+    ensures { OnOk result (plan.new.items ≡ plan.old.items ++ spec.statements_of phase place
+        (saved.thing_at state.now walked.now.things.keys at.0)) }
 {
-    let length = has_length(state.class(at));
-    let prototype = has_prototype(state.class(at));
-    let mut index = 0;
-    while let Some((name, prop)) = state.own_at(at, index) {
-        push_property(walked, place, length, prototype, name, prop, plan)?;
-        index = further(index, 1)?;
-    }
-    Ok(())
-}
-
-// Whether an object of the class is made with a `length`.
-fn has_length(class: &Class) -> bool
-    ensures { (s : Store) (things : List ℕ) (proto : Option Id) →
-        result ≡ spec.has_length (saved.maker_as s things proto class.now) }
-{
-    match class {
-        Class::List | Class::Page { .. } | Class::Bound { .. } => true,
-        Class::Plain
-        | Class::Native(_)
-        | Class::Fault
-        | Class::Math
-        | Class::Window
-        | Class::Node(_)
-        | Class::Event(_) => false,
+    match phase {
+        Phase::Children => push_children(state, walked, at, place, plan),
+        Phase::Contents => push_contents(state, walked, at, place, plan),
+        Phase::Events => push_event(state, walked, at, place, plan),
+        Phase::Listeners => push_listeners(state, heard, walked, at, place, plan),
+        Phase::Properties => push_fill(state, walked, at, place, plan),
+        Phase::Ends => push_prevent(state, at, place, plan),
     }
 }
 
-// Whether an object of the class is made with a `prototype`.
-fn has_prototype(class: &Class) -> bool
-    ensures { (s : Store) (things : List ℕ) (proto : Option Id) →
-        result ≡ spec.has_prototype (saved.maker_as s things proto class.now) }
-{
-    match class {
-        Class::Page { .. } => true,
-        Class::Plain
-        | Class::List
-        | Class::Native(_)
-        | Class::Bound { .. }
-        | Class::Fault
-        | Class::Math
-        | Class::Window
-        | Class::Node(_)
-        | Class::Event(_) => false,
-    }
-}
-
-// A property of an object that is made with a `length` or not, and with a `prototype` or not.
-fn push_property(
-    walked: &Walked,
-    place: ObjId,
-    length: bool,
-    prototype: bool,
-    name: &Units,
-    prop: &Prop,
-    plan: &mut Vec<Rebuild>,
-) -> Result<(), OutOfMemory>
-    ensures { OnOk result (plan.new.items
-        ≡ plan.old.items ++ spec.define length prototype place name.now
-        (saved.moved_prop walked.now.things.keys prop.now)) }
-{
-    if length && name.spells(b"length") {
-        return Ok(());
-    }
-    let moved = moved_prop(walked, prop)?;
-    if prototype && name.spells(b"prototype") {
-        plan.push(Rebuild::DefinePrototype {
-            at: place,
-            value: moved.value,
-            writable: moved.writable,
-        })?;
-        return Ok(());
-    }
-    plan.push(Rebuild::Define {
-        at: place,
-        name: name.clone()?,
-        prop: moved,
-    })?;
-    Ok(())
-}
-
-// An array's length.
-fn push_length(
-    state: &State,
-    walked: &Walked,
-    at: ObjId,
-    place: ObjId,
-    plan: &mut Vec<Rebuild>,
-) -> Result<(), OutOfMemory>
-    ensures { OnOk result (plan.new.items ≡ plan.old.items ++ spec.define_length
-        (saved.maker_at state.now walked.now.things.keys at.0) place
-        (own_property (saved.props_at state.now walked.now.things.keys at.0) length_name)) }
-{
-    if !state.class(at).is_list() {
-        return Ok(());
-    }
-    let name = ascii_text(state.alloc(), b"length")?;
-    push_own_length(walked, place, state.own(at, &name), plan)?;
-    Ok(())
-}
-
-// The length that an array may have.
-fn push_own_length(
-    walked: &Walked,
-    place: ObjId,
-    own: Option<&Prop>,
-    plan: &mut Vec<Rebuild>,
-) -> Result<(), OutOfMemory>
-    ensures { OnOk result (plan.new.items ≡ plan.old.items ++ spec.define_length Array place
-        (option_map (saved.moved_prop walked.now.things.keys) (option_copied own.entry))) }
-{
-    let Some(prop) = own else {
-        return Ok(());
-    };
-    plan.push(Rebuild::DefineLength {
-        at: place,
-        value: moved_value(walked, &prop.value)?,
-        writable: prop.writable,
-    })?;
-    Ok(())
-}
-
-// Things that get no new properties any more.
-fn push_prevents(state: &State, walked: &Walked, plan: &mut Vec<Rebuild>) -> Result<(), OutOfMemory>
-    ensures { OnOk result (plan.new.items ≡ plan.old.items ++ spec.prevents 0
-        (saved.things_at state.now walked.now.things.keys walked.now.things.keys)) }
-{
-    for number in 0..walked.things.len() {
-        let at = ObjId(walked.things.as_slice()[number]);
-        push_prevent(state, walked, at, number, plan)?;
-    }
-    Ok(())
-}
-
+// A thing that gets no new properties any more.
 fn push_prevent(
     state: &State,
-    walked: &Walked,
     at: ObjId,
-    number: usize,
+    place: ObjId,
     plan: &mut Vec<Rebuild>,
 ) -> Result<(), OutOfMemory>
-    ensures { OnOk result (plan.new.items
-        ≡ plan.old.items ++ spec.prevent (spec.thing_place number)
-        (saved.thing_of state.now walked.now.things.keys (object_at state.now.heap.objects at.0))) }
+    ensures { OnOk result (plan.new.items ≡ plan.old.items
+        ++ (if (object_at state.now.heap.objects at.0).extensible then []
+        else Prevent place ∷ [])) }
 {
     if !state.is_extensible(at) {
-        plan.push(Rebuild::Prevent {
-            at: thing_place(number)?,
-        })?;
+        plan.push(Rebuild::Prevent { at: place })?;
     }
     Ok(())
 }

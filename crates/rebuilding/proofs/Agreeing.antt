@@ -1,42 +1,49 @@
 -- The page that was saved and the one that was rebuilt agree.
-use Rattle.std.proofs.Common.{◌≡◌, ◌⊎◌, inl, inr, refl, sym, subst, ◌∙◌, ℕ, zero, suc, ◌+◌, ◌-◌, ◌<◌, ◌≤◌, true, not, ◌&&◌, nat_eq, nat_le, nat_lt, List, [], ◌∷◌, Option, Some, length, arith}
+use Rattle.std.proofs.Common.{◌≡◌, ◌⊎◌, inl, inr, refl, sym, subst, ◌∙◌, ℕ, zero, suc, ◌+◌, ◌<◌, ◌≤◌, true, List, [], ◌∷◌, Option, Some, length, arith}
 use Rattle.std.proofs.lemmas.List.{append-nil}
-use Rattle.std.proofs.lemmas.Bool.{and_parts, cases_lt, leb-true, ltb-true, ne_eqb}
+use Rattle.std.proofs.lemmas.Bool.{cases_lt}
 use Rattle.code_table.specs.Declarations.{name_of}
 use Rattle.js_core.specs.Tree.{Code}
 use Rattle.js_values.specs.declared.ids.EnvId.{EnvId}
+use Rattle.js_values.specs.declared.ids.NodeId.{NodeId}
 use Rattle.object_heap.specs.Chain.{object_at}
 use Rattle.object_heap.specs.Environment.{Bound}
-use Rattle.object_heap.specs.Heap.{Contents, new_object}
+use Rattle.object_heap.specs.Heap.{Contents}
+use Rattle.object_heap.specs.Object.{Object}
 use Rattle.object_heap.specs.declared.object.Class.{Class}
 use Rattle.object_heap.specs.declared.object.Class.TheVariants as class
+use Rattle.page_host.specs.Host.{Host}
 use Rattle.page_meaning.specs.Store.{Store}
 use Rattle.heap_relations.specs.Naming.{Base, BaseRel, Frame, In, Named, named, Round, Slot, SlotsRel, World, based, outermost}
 use Rattle.heap_relations.specs.Naming as naming
-use Rattle.heap_relations.specs.Related.{ClassRel, ObjectRel, ObjectsRel, array, bound, event, fault, math, native, node, page, plain, window}
+use Rattle.heap_relations.specs.Related.{ClassRel, Entries, Maybe, ObjectIds, ObjectRel, ObjectsRel, PropRel, array, bound, event, fault, math, native, node, page, plain, some, window}
 use Rattle.agreement.specs.Acts.{HasBuiltIns, IsOlder, IsPlaced, StoreRel, outermost_older, rebuilt_older}
 use Rattle.agreement.specs.Trees.{code_fits}
 use Rattle.agreement.proofs.Callers.{built_in_itself}
 use Rattle.heap_walker.specs.Still.{Still}
-use Rattle.heap_walker.specs.Things.{bound_value, IsWalk, needs_of}
+use Rattle.heap_walker.proofs.Callers.{document_among, props_among, roots_in_walk}
+use Rattle.heap_walker.specs.Things.{bound_value, is_in, IsWalk, needs_of}
 use Rattle.rebuild_plan.specs.Compact.{moved_needs}
 use Rattle.rebuilding.specs.Frames.{round_frame}
 use Rattle.rebuilding.specs.Laws.{Agrees}
 use Rattle.rebuilding.specs.Rebuilt as rebuilt
 use Rattle.rebuilding.specs.Rebuilt.{ClassIsRebuilt, IsRebuilt, nth}
-use Rattle.rebuilding.specs.Scene.{IsRoundOf, Scene, frame_count, is_site, page_with}
-use Rattle.heap_walker.specs.Bare.{nth_node}
-use Rattle.page_meaning.specs.Places.{node_prototype}
-use Rattle.rebuilding.proofs.Hosts.{hosts_rel, node_is, node_rel, node_there, past_nodes}
+use Rattle.rebuilding.specs.Scene.{IsRoundOf, Scene, page_with}
+use Rattle.page_writer.specs.Frame.{nth_node}
+use Rattle.rebuild_plan.proofs.Callers.{document_class}
+use Rattle.rebuild_plan.specs.Moved.{first_thing}
+use Rattle.rebuilding.proofs.Hosts.{document_linked, hosts_rel}
+use Rattle.rebuilding.proofs.OneToOne.{same_places, site_parts}
+use Rattle.rebuilding.proofs.Placed.{node_low}
 use Rattle.rebuilding.specs.Sites.{sited_needs}
-use Rattle.rebuilding.proofs.Counterparts.{need_known, rest_at, there_at, thing_rel, value_rel}
+use Rattle.rebuilding.proofs.Counterparts.{IsKnown, need_known, props_rel, rest_at, there_at, thing_rel, value_rel}
 use Rattle.rebuilding.proofs.Frames.{fits_at_rest}
 use Rattle.rebuilding.proofs.WindowsAgree.{window_rel}
-use Rattle.rebuilding.proofs.Naming.{base_at, built_in, built_in_paired, IsPair, pair_is, rebuilt_trees, rebuilt_world, rising_places, thing, thing_paired}
+use Rattle.rebuilding.proofs.Naming.{base_at, built_in, built_in_paired, IsPair, pair_is, rebuilt_trees, rebuilt_world, thing, thing_paired}
 use Rattle.rebuilding.proofs.Rounds.{base_rel}
-use Rattle.object_shapes.specs.Shapes.{built_in_at}
-use Rattle.rebuilding.proofs.Basics.{all_at}
-use Rattle.page_meaning.specs.Places.{built_in_count}
+use Rattle.object_shapes.specs.Links.{props_links}
+use Rattle.object_shapes.specs.Shapes.{HasShape, built_in_at}
+use Rattle.page_meaning.specs.Places.{built_in_count, document, node_prototype}
 
 -- ---- places
 
@@ -48,6 +55,8 @@ round_of c h s things sites k a b rebuilt.plain source other env round one two =
 round_of c h s things sites k a b rebuilt.list source other env round one two = absurd (cc one)
 round_of c h s things sites k a b rebuilt.fault source other env round one two = absurd (cc one)
 round_of c h s things sites k a b rebuilt.bound source other env round one two = absurd (cc one)
+round_of c h s things sites k a b rebuilt.node source other env round one two = absurd (cc one)
+round_of c h s things sites k a b rebuilt.event source other env round one two = absurd (cc one)
 round_of c h s things sites k a b (rebuilt.page {code = own} {env = from} {round = around} r) source other env round one two =
     let same : own ≡ source = cc one in
     let same_env : from ≡ env = cc one in
@@ -75,21 +84,23 @@ placed_round none k window = tt
 placed_round none k (node n) = tt
 placed_round none k (event p) = tt
 
-module _ (c : Scene) (s : Store) (things : List ℕ) (h : Contents) (sites : List ℕ) (still : Still s) (walk : IsWalk s things)
-    (is : IsRebuilt c s things h sites) where
+-- what has the shape of a node inherits from the nodes' prototype
+pub shape_proto : (s : Store) (o : Object) (d : Class) (k : NodeId) → d ≡ class.Node k → HasShape s o d → o.proto ≡ Some node_prototype
+shape_proto s o (class.Node j) k e h = h.0
+shape_proto s o class.Plain k e h = absurd (cc e)
+shape_proto s o class.List k e h = absurd (cc e)
+shape_proto s o class.Fault k e h = absurd (cc e)
+shape_proto s o class.Math k e h = absurd (cc e)
+shape_proto s o class.Window k e h = absurd (cc e)
+shape_proto s o (class.Native which) k e h = absurd (cc e)
+shape_proto s o (class.Page source env) k e h = absurd (cc e)
+shape_proto s o (class.Bound target this args) k e h = absurd (cc e)
+shape_proto s o (class.Event parts) k e h = absurd (cc e)
+
+module _ (c : Scene) (s : Store) (things : List ℕ) (h : Contents) (g : Host) (sites : List ℕ) (still : Still s) (walk : IsWalk s things)
+    (is : IsRebuilt c s things h g sites) where
   abbrev W : World
   W = rebuilt_world s h things sites
-
-  site_below : (n : ℕ) → n < length things → n < length sites
-  site_below n below = subst (λ m. n < m) (sym is.count) below
-
-  pub site_parts : (n : ℕ) → n < length things → (frame_count ≤ nth sites n) × (nth sites n < length h.objects)
-  site_parts n below =
-      let k : ℕ = nth sites n in
-      let all : is_site c h k ≡ true = all_at (is_site c h) sites n is.running.stand (site_below n below) in
-      let one = and_parts (nat_le frame_count k) (nat_lt k (length h.objects) && not (nat_eq k c.list)) all in
-      let two = and_parts (nat_lt k (length h.objects)) (not (nat_eq k c.list)) one.1 in
-      (leb-true frame_count k one.0, ltb-true k (length h.objects) two.0)
 
   -- ---- what is built in
 
@@ -97,57 +108,53 @@ module _ (c : Scene) (s : Store) (things : List ℕ) (h : Contents) (sites : Lis
   built_ins_named k low = record { named = built_in_paired things sites k (omega (arith, low)) }
 
   built_in_rel : (k : ℕ) → k < built_in_count → ObjectRel (named W) (object_at s.heap.objects k) (object_at h.objects k)
-  built_in_rel zero low = window_rel c s things h sites still walk is built_ins_named
+  built_in_rel zero low = window_rel c s things h g sites still walk is built_ins_named
   built_in_rel (suc k) low =
       subst (λ o. ObjectRel (named W) o (object_at h.objects (suc k))) (sym (still.shaped.built_ins (suc k) (omega arith) low))
       (subst (λ p. ObjectRel (named W) (built_in_at (suc k)) p) (sym (is.running.built_ins (suc k) (omega arith) low))
       (built_in_itself built_ins_named (suc k)))
 
-  -- and so are the objects of the nodes
-  begun_rel : (k : ℕ) → k < frame_count → ObjectRel (named W) (object_at s.heap.objects k) (object_at h.objects k)
+  -- the document's object
+  document_rel : ObjectRel (named W) (object_at s.heap.objects document.0) (object_at h.objects document.0)
+  document_rel =
+      let o : Object = object_at s.heap.objects document.0 in
+      let p : Object = object_at h.objects document.0 in
+      let left : o.class ≡ class.Node (nth_node 0) = document_class s things still walk in
+      let right : p.class ≡ class.Node (nth_node 0) = is.running.document.class in
+      let kind : ClassRel (named W) (class.Node (nth_node 0)) (class.Node (nth_node 0)) = node (document_linked c s things h g sites still walk is) in
+      let above : Maybe (ObjectIds (named W)) (Some node_prototype) (Some node_prototype) =
+      some (record { linked = built_ins_named node_prototype.0 (omega (arith, node_low)) })
+      in
+      let inherited : o.proto ≡ Some node_prototype = shape_proto s o o.class (nth_node 0) left still.shaped.document in
+      let held : (j : ℕ) → is_in j (props_links o.props) ≡ true → IsKnown things j =
+      λ j i. roots_in_walk s things still walk j (document_among s j (props_among s document.0 j i))
+      in
+      record {
+        class = subst (λ d. ClassRel (named W) d p.class) (sym left) (subst (λ d. ClassRel (named W) (class.Node (nth_node 0)) d) (sym right) kind);
+        proto = subst (λ q. Maybe (ObjectIds (named W)) q p.proto) (sym inherited) (subst (λ q. Maybe (ObjectIds (named W)) (Some node_prototype) q) (sym is.running.document.proto) above);
+        extensible = sym is.document.extensible;
+        closed = still.shaped.document_open ∙ sym is.document.closed;
+        props = subst (λ qs. Entries (PropRel (named W)) o.props qs) (sym is.document.props) (props_rel s h things sites walk is.count o.props held);
+      }
+
+  begun_rel : (k : ℕ) → k < first_thing → ObjectRel (named W) (object_at s.heap.objects k) (object_at h.objects k)
   begun_rel k low = by (cases_lt k built_in_count)
     where
       by : (k < built_in_count) ⊎ (built_in_count ≤ k) → ObjectRel (named W) (object_at s.heap.objects k) (object_at h.objects k)
       by (inl first) = built_in_rel k first
       by (inr past) =
-          let m : ℕ = k - built_in_count in
-          let small : m < 4 = omega (arith, low, past) in
-          let there : built_in_count + m ≡ k = omega (arith, past) in
-          subst (λ j. ObjectRel (named W) (object_at s.heap.objects j) (object_at h.objects j)) there
-          (subst (λ o. ObjectRel (named W) o (object_at h.objects (built_in_count + m))) (sym (node_is s still m small))
-          (subst (λ o. ObjectRel (named W) (new_object (class.Node (nth_node m)) (Some node_prototype)) o) (sym (is.running.nodes m small))
-          (node_rel s h things sites m small)))
+          let same : document.0 ≡ k = omega (arith, low, past) in
+          subst (λ j. ObjectRel (named W) (object_at s.heap.objects j) (object_at h.objects j)) same document_rel
 
   -- ---- all objects
 
-  begun_there : (k : ℕ) → k < frame_count → k < length s.heap.objects
-  begun_there k low = let last = node_there s still 3 (omega arith) in omega (arith, low, last)
-
   inside : (a b : ℕ) → IsPair things sites a b → (a < length s.heap.objects) × (b < length h.objects)
-  inside a b (built_in same low) =
-      (begun_there a low, omega (arith, low, same, is.running.list_young, is.running.list_there))
+  inside a b (built_in same low) = (
+    let all = still.shaped.all_there in omega (arith, all, low),
+    omega (arith, low, same, is.running.list_young, is.running.list_there),
+  )
   inside a b (thing p) =
-      (omega (arith, p.one, there_at s things walk p.place p.below), omega (arith, p.two, (site_parts p.place p.below).1))
-
-  differ : (a b i j : ℕ) → (a ≡ b → ⊥) → (i ≡ j → ⊥) → nat_eq a b ≡ nat_eq i j
-  differ a b i j far away = ne_eqb a b far ∙ sym (ne_eqb i j away)
-
-  same_places : (a b i j : ℕ) → IsPair things sites a b → IsPair things sites i j → nat_eq a i ≡ nat_eq b j
-  same_places a b i j (built_in one low) (built_in two small) = rw (one, two)
-  same_places a b i j (built_in one low) (thing p) =
-      differ a i b j (λ e. absurd (omega (arith, e, low, p.one, past_nodes s still things walk p.place p.below)))
-      (λ e. absurd (omega (arith, e, low, one, p.two, (site_parts p.place p.below).0)))
-  same_places a b i j (thing p) (built_in two small) =
-      differ a i b j (λ e. absurd (omega (arith, e, small, p.one, past_nodes s still things walk p.place p.below)))
-      (λ e. absurd (omega (arith, e, small, two, p.two, (site_parts p.place p.below).0)))
-  same_places a b i j (thing p) (thing q) =
-      let left : nat_eq (nth things p.place) (nth things q.place) ≡ nat_eq p.place q.place =
-      rising_places things p.place q.place walk.rising p.below q.below
-      in
-      let right : nat_eq (nth sites p.place) (nth sites q.place) ≡ nat_eq p.place q.place =
-      rising_places sites p.place q.place is.running.rising (site_below p.place p.below) (site_below q.place q.below)
-      in
-      rw (p.one, p.two, q.one, q.two) (left ∙ sym right)
+      (omega (arith, p.one, there_at s things walk p.place p.below), omega (arith, p.two, (site_parts c s things h g sites walk is p.place p.below).1))
 
   code_fits_at : (n : ℕ) → n < length things → (source : Code) (env : Option EnvId)
       → (object_at s.heap.objects (nth things n)).class ≡ class.Page source env → code_fits (round_frame source ∷ []) source ≡ true
@@ -160,13 +167,13 @@ module _ (c : Scene) (s : Store) (things : List ℕ) (h : Contents) (sites : Lis
   object_rel a b (thing p) =
       subst (λ k. ObjectRel (named W) (object_at s.heap.objects k) (object_at h.objects b)) (sym p.one)
       (subst (λ k. ObjectRel (named W) (object_at s.heap.objects (nth things p.place)) (object_at h.objects k)) (sym p.two)
-      (thing_rel s h things sites walk is.count c p.place p.below still (code_fits_at p.place p.below) (is.each p.place p.below)))
+      (thing_rel s h things sites walk is.count c g p.place p.below still (code_fits_at p.place p.below) (is.each p.place p.below) (is.hosted p.place p.below)))
 
   objects_rel : ObjectsRel (named W) s.heap.objects h.objects
   objects_rel = record {
     at = λ a b i. object_rel a b (pair_is things sites a b i.named);
     inside = λ a b i. inside a b (pair_is things sites a b i.named);
-    one_to_one = record { same = λ a b d e i j. same_places a b d e (pair_is things sites a b i.named) (pair_is things sites d e j.named) };
+    one_to_one = record { same = λ a b d e i j. same_places c s things h g sites walk is a b d e (pair_is things sites a b i.named) (pair_is things sites d e j.named) };
   }
 
   -- ---- environments
@@ -199,11 +206,11 @@ module _ (c : Scene) (s : Store) (things : List ℕ) (h : Contents) (sites : Lis
     bases = λ b i. based_rel b i;
   }
 
-  stores_rel : StoreRel W s (page_with h)
+  pub stores_rel : StoreRel (rebuilt_world s h things sites) s (page_with h g)
   stores_rel = record {
     heap = record { objects = objects_rel; slots = slots_rel; left = still.sound; right = is.running.sound };
     lines = record { more = []; one = sym (append-nil s.lines); two = refl };
-    host = hosts_rel s h things sites still;
+    host = hosts_rel c s things h g sites still walk is;
     built_ins = built_ins_named;
     shaped = still.shaped;
     kept = record {
@@ -215,10 +222,10 @@ module _ (c : Scene) (s : Store) (things : List ℕ) (h : Contents) (sites : Lis
 
 -- ---- the two pages
 
-pub rebuilt_agrees : (c : Scene) (s : Store) (things : List ℕ) (h : Contents) (sites : List ℕ) → Still s → IsWalk s things
-    → IsRebuilt c s things h sites → Agrees s (page_with h)
-rebuilt_agrees c s things h sites still walk is = record {
+pub rebuilt_agrees : (c : Scene) (s : Store) (things : List ℕ) (h : Contents) (g : Host) (sites : List ℕ) → Still s → IsWalk s things
+    → IsRebuilt c s things h g sites → Agrees s (page_with h g)
+rebuilt_agrees c s things h g sites still walk is = record {
   world = rebuilt_world s h things sites;
   trees = rebuilt_trees s h things sites;
-  stores = stores_rel c s things h sites still walk is;
+  stores = stores_rel c s things h g sites still walk is;
 }

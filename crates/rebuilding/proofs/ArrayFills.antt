@@ -27,6 +27,11 @@ use Rattle.rebuilding.proofs.Going.{Allowed, Going, define_next}
 use Rattle.rebuilding.proofs.WindowStays.{is_built}
 use Rattle.rebuilding.proofs.PropertyNames.{apart_from_first, distinct_rest, flipped, is_new, one_more}
 use Rattle.object_shapes.specs.Shapes.{made_property}
+use Rattle.object_heap.specs.declared.object.Class.TheVariants as class
+use Rattle.object_heap.specs.declared.object.Class.{Class}
+use Rattle.dom_tree.specs.Node.{Nodes}
+use Rattle.page_meaning.specs.HostNames.{is_kept}
+use Rattle.page_host.specs.Host.{Host}
 
 -- the array with this length, which can be written or not, and these elements
 abbrev pub array_of : Object → ℕ → Bool → Props → Object
@@ -88,17 +93,23 @@ module _ (o : Object) (count l : ℕ) (ps : Props) (x : List ℕ) (change : Chan
 
 -- ---- all
 
-module _ (c : Scene) (End : Contents → List ℕ → Type 0) (sites : List ℕ) (g : Contents) (at : ObjId) (o : Object) (count : ℕ)
+-- nothing is kept from an array
+pub list_free : (t : Nodes) (a : Class) (x : List ℕ) → is_list a ≡ true → is_kept t a x ≡ false
+list_free t (class.Node k) x e = cc e
+list_free t (class.Event parts) x e = cc e
+list_free t a x e = refl
+
+module _ (c : Scene) (End : Contents → Host → List ℕ → Type 0) (sites : List ℕ) (g : Contents) (w : Host) (at : ObjId) (o : Object) (count : ℕ)
     (closed : o.closed ≡ false) (extensible : o.extensible ≡ true) (array : is_list o.class ≡ true) (off : nat_eq at.0 window.0 ≡ false) where
   pub elements_succeed : (es : Props) (h : Contents) (l : ℕ) (ps : Props) (rs : List Rebuild)
-      → Going c g h sites (site sites at.0) (array_of o l true ps) → l ≤ count
+      → Going c g h w sites (site sites at.0) (array_of o l true ps) → l ≤ count
       → list_all (λ e. is_below count (index_of e.0)) es ≡ true → IsDistinct bytes_eq (length_name ∷ (keys_of ps ++ keys_of es))
       → Allowed (length sites) (defines false false at es ++ rs)
-      → ((i : Contents) (m : ℕ) → m ≤ count → Going c g i sites (site sites at.0) (array_of o m true (ps ++ sited_props sites es))
-      → Allowed (length sites) rs → Succeeds c End i sites rs)
-      → Succeeds c End h sites (defines false false at es ++ rs)
+      → ((i : Contents) (m : ℕ) → m ≤ count → Going c g i w sites (site sites at.0) (array_of o m true (ps ++ sited_props sites es))
+      → Allowed (length sites) rs → Succeeds c End i w sites rs)
+      → Succeeds c End h w sites (defines false false at es ++ rs)
   elements_succeed [] h l ps rs going small below distinct allowed later =
-      later h l small (subst (λ (qs : Props). Going c g h sites (site sites at.0) (array_of o l true qs)) (sym (append-nil ps)) going) allowed
+      later h l small (subst (λ (qs : Props). Going c g h w sites (site sites at.0) (array_of o l true qs)) (sym (append-nil ps)) going) allowed
   elements_succeed (e ∷ es) h l ps rs going small below distinct allowed later =
       let last : Props = (e.0, sited_prop sites e.1) ∷ [] in
       let far : bytes_eq e.0 length_name ≡ false = flipped length_name e.0 (apart_from_first length_name (keys_of ps) e.0 (keys_of es) distinct) in
@@ -107,14 +118,14 @@ module _ (c : Scene) (End : Contents → List ℕ → Type 0) (sites : List ℕ)
       (is_new ps e.0 (keys_of es) (distinct_rest length_name (keys_of ps ++ e.0 ∷ keys_of es) distinct)) small
       (and_parts (is_below count (index_of e.0)) (list_all (λ q. is_below count (index_of q.0)) es) below).0
       in
-      define_next c End sites g h at e.0 e.1 (defines false false at es ++ rs) (array_of o l true ps)
+      define_next c End sites g w h at e.0 e.1 (defines false false at es ++ rs) (array_of o l true ps)
       (array_of o first.new true (ps ++ last)) going allowed
-      (and_right (is_list o.class) (bytes_eq e.0 length_name) far) (ap (λ b. b && is_built e.0) off) first.defined
+      (and_right (is_list o.class) (bytes_eq e.0 length_name) far) (list_free w.nodes o.class e.0 array) (ap (λ b. b && is_built e.0) off) first.defined
       (λ i now more. elements_succeed es i first.new (ps ++ last) rs now first.small
       (and_parts (is_below count (index_of e.0)) (list_all (λ q. is_below count (index_of q.0)) es) below).1
       (subst (λ ks. IsDistinct bytes_eq (length_name ∷ ks)) (sym (one_more ps e.0 (sited_prop sites e.1) (keys_of es))) distinct) more
       (λ j m less most. later j m less
-      (subst (λ (qs : Props). Going c g j sites (site sites at.0) (array_of o m true qs)) (append_assoc ps last (sited_props sites es)) most)))
+      (subst (λ (qs : Props). Going c g j w sites (site sites at.0) (array_of o m true qs)) (append_assoc ps last (sited_props sites es)) most)))
 
 -- ---- the length
 

@@ -1,5 +1,6 @@
 -- What names the site of a thing is moved back to where the thing was moved, and the sites of links are the links of what is sited.
-use Rattle.std.proofs.Common.{◌≡◌, inl, inr, refl, sym, ap, ◌∙◌, ℕ, ◌+◌, ◌<◌, ◌≤◌, Bool, true, false, nat_eq, map, List, [], ◌∷◌, ◌++◌, Option, Some, None, length, arith}
+use Rattle.std.specs.Prelude.{unwrap_or}
+use Rattle.std.proofs.Common.{◌≡◌, inl, inr, refl, sym, ap, ◌∙◌, ℕ, ◌+◌, ◌-◌, ◌<◌, ◌≤◌, Bool, true, false, nat_eq, map, List, [], ◌∷◌, ◌++◌, Option, Some, None, length, arith}
 use Rattle.std.proofs.Math.Bool.{or-true}
 use Rattle.std.proofs.lemmas.Bool.{eq-eqb, eqb-true}
 use Rattle.std.proofs.lemmas.List.{map-append}
@@ -7,16 +8,22 @@ use Rattle.std.proofs.lemmas.List.Folds.{list_any-append}
 use Rattle.std.proofs.lemmas.List.Quantifiers.{position-Some}
 use Rattle.std.specs.List.{position}
 use Rattle.std.specs.List.Sorted.{IsStrictlyIncreasing}
-use Rattle.heap_walker.specs.Things.{is_in, needs_links}
+use Rattle.heap_walker.specs.Things.{calls_links, is_in, needs_links, nodes_links, timers_links}
 use Rattle.js_values.specs.declared.ids.ObjId.{ObjId}
 use Rattle.js_values.specs.declared.value.Value.{Value}
 use Rattle.js_values.specs.declared.value.Value.TheVariants as value
 use Rattle.object_heap.specs.Define.{with_value}
 use Rattle.object_heap.specs.Property.{Props}
-use Rattle.page_meaning.specs.Places.{built_in_count}
+use Rattle.js_values.specs.declared.ids.NodeId.{NodeId}
+use Rattle.page_host.specs.Host.{object_of_node}
+use Rattle.page_host.specs.declared.listener.Listener.{Listener}
+use Rattle.timer_queue.specs.declared.timer.Live.{Live}
 use Rattle.object_shapes.specs.Links.{props_links, proto_links, value_links, values_links}
 use Rattle.rebuild_plan.specs.Compact.{moved_needs, moved_props, moved_proto, moved_value, moved_values, place_of, placed}
-use Rattle.rebuilding.specs.Rebuilt.{nth}
+use Rattle.rebuild_plan.specs.Moved.{first_thing}
+use Rattle.rebuild_plan.specs.Nodes.{moved_listeners, moved_nodes}
+use Rattle.rebuild_plan.specs.Timers.{moved_timers}
+use Rattle.rebuilding.specs.Rebuilt.{nth, sited_ids, sited_listeners, sited_timers}
 use Rattle.rebuilding.specs.Sites.{site, sited_needs, sited_props, sited_proto, sited_value, sited_values}
 use Rattle.rebuilding.proofs.Counterparts.{IsKnown}
 use Rattle.rebuilding.proofs.Naming.{rising_places, site_of_built_in}
@@ -57,13 +64,25 @@ in_right j ks js h = list_any-append (nat_eq j) ks js ∙ rw h (or-true (is_in j
 self_in : (k : ℕ) → is_in k (k ∷ []) ≡ true
 self_in k = rw (eq-eqb k k refl) refl
 
+pub head_in : (k : ℕ) (ks : List ℕ) → is_in k (k ∷ ks) ≡ true
+head_in k ks = rw (eq-eqb k k refl) refl
+
+pub tail_in : (j k : ℕ) (ks : List ℕ) → is_in j ks ≡ true → is_in j (k ∷ ks) ≡ true
+tail_in j k ks h = rw h (or-true (nat_eq j k))
+
+pub heads_same : {A : Type 0} {x y : A} {xs ys : List A} → (x ∷ xs) ≡ (y ∷ ys) → x ≡ y
+heads_same e = cc e
+
+pub tails_same : {A : Type 0} {x y : A} {xs ys : List A} → (x ∷ xs) ≡ (y ∷ ys) → xs ≡ ys
+tails_same e = cc e
+
 -- ---- places
 
--- none of these is built in
+-- each of these is a thing's
 abbrev pub AreYoung : List ℕ → Type 0
-AreYoung ks = (n : ℕ) → n < length ks → built_in_count ≤ nth ks n
+AreYoung ks = (n : ℕ) → n < length ks → first_thing ≤ nth ks n
 
-place_low : (ks : List ℕ) (k : ℕ) → AreYoung ks → k < built_in_count → place_of ks k ≡ k
+place_low : (ks : List ℕ) (k : ℕ) → AreYoung ks → k < first_thing → place_of ks k ≡ k
 place_low ks k young low = by (position (nat_eq k) ks) refl
   where
     by : (o : Option ℕ) → position (nat_eq k) ks ≡ o → place_of ks k ≡ k
@@ -73,12 +92,12 @@ place_low ks k young low = by (position (nat_eq k) ks) refl
         absurd (omega (arith, low, young i found.0, eqb-true k (nth ks i) found.1))
 
 -- of numbers that rise, the nth has the nth place
-pub place_at : (ks : List ℕ) (n : ℕ) → IsStrictlyIncreasing ks → n < length ks → place_of ks (nth ks n) ≡ built_in_count + n
+pub place_at : (ks : List ℕ) (n : ℕ) → IsStrictlyIncreasing ks → n < length ks → place_of ks (nth ks n) ≡ first_thing + n
 place_at ks n rises inside =
     let m = number_at ks (nth ks n) (place_in ks n inside) in
     let tested : nat_eq m.0 n ≡ true = sym (rising_places ks m.0 n rises m.2 inside) ∙ eq-eqb (nth ks m.0) (nth ks n) m.3 in
     let same : m.0 ≡ n = eqb-true m.0 n tested in
-    m.1 ∙ ap (λ i. built_in_count + i) same
+    m.1 ∙ ap (λ i. first_thing + i) same
 
 -- where what is named so stands in the page that is rebuilt
 abbrev pub carried : List ℕ → List ℕ → ℕ → ℕ
@@ -172,6 +191,53 @@ module _ (things sites : List ℕ) where
         → moved_proto sites (sited_proto sites (moved_proto things p)) ≡ moved_proto things p
     proto_back None known = refl
     proto_back (Some at) known = ap (λ k. Some (record { 0 = k })) (place_back at.0 (known at.0 (self_in at.0)))
+
+    -- what was moved so and stands there is moved back
+    pub nodes_back : (objects others : List ObjId) (cs ds : List NodeId) → ((j : ℕ) → is_in j (nodes_links objects cs) ≡ true → IsKnown things j)
+        → moved_nodes [] others ds ≡ sited_ids sites (moved_nodes things objects cs) → moved_nodes sites others ds ≡ moved_nodes things objects cs
+    nodes_back objects others [] [] known e = refl
+    nodes_back objects others [] (d ∷ ds) known e = absurd (cc e)
+    nodes_back objects others (k ∷ cs) [] known e = absurd (cc e)
+    nodes_back objects others (k ∷ cs) (d ∷ ds) known e =
+        let at : ℕ = (object_of_node objects k).0 in
+        let first : place_of sites (object_of_node others d).0 ≡ place_of things at =
+        ap (λ o. place_of sites o.0) (heads_same e) ∙ place_back at (known at (head_in at (nodes_links objects cs)))
+        in
+        let rest = nodes_back objects others cs ds (λ j h. known j (tail_in j at (nodes_links objects cs) h)) (tails_same e) in
+        (λ i. record { 0 = first i } ∷ rest i)
+
+    pub listeners_back : (ls ms : List Listener) → ((j : ℕ) → is_in j (calls_links ls) ≡ true → IsKnown things j)
+        → moved_listeners [] ms ≡ sited_listeners sites (moved_listeners things ls) → moved_listeners sites ms ≡ moved_listeners things ls
+    listeners_back [] [] known e = refl
+    listeners_back [] (m ∷ ms) known e = absurd (cc e)
+    listeners_back (l ∷ ls) [] known e = absurd (cc e)
+    listeners_back (l ∷ ls) (m ∷ ms) known e =
+        let same = heads_same e in
+        let first : place_of sites m.call.0 ≡ place_of things l.call.0 =
+        ap (λ x. place_of sites x.call.0) same ∙ place_back l.call.0 (known l.call.0 (head_in l.call.0 (calls_links ls)))
+        in
+        let kind : m.kind ≡ l.kind = ap (λ x. x.kind) same in
+        let capture : m.capture ≡ l.capture = ap (λ x. x.capture) same in
+        let rest = listeners_back ls ms (λ j h. known j (tail_in j l.call.0 (calls_links ls) h)) (tails_same e) in
+        (λ i. record { kind = kind i; call = record { 0 = first i }; capture = capture i } ∷ rest i)
+
+    pub target_back : (p q : Option ObjId) → ((j : ℕ) → is_in j (proto_links p) ≡ true → IsKnown things j)
+        → moved_proto [] q ≡ sited_proto sites (moved_proto things p) → moved_proto sites q ≡ moved_proto things p
+    target_back None None known e = refl
+    target_back None (Some b) known e = absurd (cc e)
+    target_back (Some a) None known e = absurd (cc e)
+    target_back (Some a) (Some b) known e =
+        let same : b.0 ≡ site sites (place_of things a.0) = ap (λ o. (unwrap_or o a).0) e in
+        ap (λ k. Some (record { 0 = k })) (ap (place_of sites) same ∙ place_back a.0 (known a.0 (self_in a.0)))
+
+    pub timers_back : (clock : ℕ) (ts : List Live) → ((j : ℕ) → is_in j (timers_links ts) ≡ true → IsKnown things j)
+        → moved_timers sites 0 (sited_timers sites (moved_timers things clock ts)) ≡ moved_timers things clock ts
+    timers_back clock [] known = refl
+    timers_back clock (t ∷ ts) known =
+        let first = place_back t.call.0 (known t.call.0 (head_in t.call.0 (timers_links ts))) in
+        let due : (t.due - clock) - 0 ≡ t.due - clock = omega arith in
+        let rest = timers_back clock ts (λ j h. known j (tail_in j t.call.0 (timers_links ts) h)) in
+        (λ i. record { id = t.id; due = due i; period = t.period; call = record { 0 = first i } } ∷ rest i)
 
     -- what is bound
     pub bound_back : (target : ObjId) (this : Value) (args : List Value)

@@ -29,6 +29,8 @@ use Rattle.rebuilding.proofs.Going.{Allowed, Going, define_next}
 use Rattle.rebuilding.proofs.PropertyNames.{distinct_next, is_new}
 use Rattle.rebuilding.proofs.WindowStays.{is_built}
 use Rattle.object_shapes.specs.Shapes.{made_property}
+use Rattle.page_meaning.specs.HostNames.{is_kept}
+use Rattle.page_host.specs.Host.{Host}
 
 -- what is not the global object may have any names
 pub all_own : (b : Bool) (es : Props) → b ≡ false → list_all (λ e. not (b && is_built e.0)) es ≡ true
@@ -49,28 +51,31 @@ and_props o ps = with_props o (o.props ++ ps)
 pub and_none : (o : Object) → o ≡ and_props o []
 and_none o = ap (with_props o) (sym (append-nil o.props))
 
-module _ (c : Scene) (End : Contents → List ℕ → Type 0) (sites : List ℕ) (g : Contents) where
-  pub defines_succeed : (es : Props) (h : Contents) (at : ObjId) (o : Object) (rs : List Rebuild) → Going c g h sites (site sites at.0) o
+module _ (c : Scene) (End : Contents → Host → List ℕ → Type 0) (sites : List ℕ) (g : Contents) (w : Host) where
+  pub defines_succeed : (es : Props) (h : Contents) (at : ObjId) (o : Object) (rs : List Rebuild) → Going c g h w sites (site sites at.0) o
       → o.closed ≡ false → o.extensible ≡ true → is_list o.class ≡ false → IsDistinct bytes_eq (keys_of o.props ++ keys_of es)
       → list_all (λ e. not (nat_eq at.0 window.0 && is_built e.0)) es ≡ true
+      → list_all (λ e. not (is_kept w.nodes o.class e.0)) es ≡ true
       → Allowed (length sites) (defines false false at es ++ rs)
-      → ((i : Contents) → Going c g i sites (site sites at.0) (and_props o (sited_props sites es)) → Allowed (length sites) rs
-      → Succeeds c End i sites rs)
-      → Succeeds c End h sites (defines false false at es ++ rs)
-  defines_succeed [] h at o rs going closed extensible ordinary distinct own allowed later =
-      later h (subst (Going c g h sites (site sites at.0)) (and_none o) going) allowed
-  defines_succeed (e ∷ es) h at o rs going closed extensible ordinary distinct own allowed later =
+      → ((i : Contents) → Going c g i w sites (site sites at.0) (and_props o (sited_props sites es)) → Allowed (length sites) rs
+      → Succeeds c End i w sites rs)
+      → Succeeds c End h w sites (defines false false at es ++ rs)
+  defines_succeed [] h at o rs going closed extensible ordinary distinct own free allowed later =
+      later h (subst (Going c g h w sites (site sites at.0)) (and_none o) going) allowed
+  defines_succeed (e ∷ es) h at o rs going closed extensible ordinary distinct own free allowed later =
       let last : Props = (e.0, sited_prop sites e.1) ∷ [] in
       let none : own_property o.props e.0 ≡ None = is_new o.props e.0 (keys_of es) distinct in
-      define_next c End sites g h at e.0 e.1 (defines false false at es ++ rs) o (and_props o last) going allowed
+      define_next c End sites g w h at e.0 e.1 (defines false false at es ++ rs) o (and_props o last) going allowed
       (ap (λ b. b && bytes_eq e.0 length_name) ordinary)
+      (not-true (is_kept w.nodes o.class e.0) (and_parts _ (list_all (λ q. not (is_kept w.nodes o.class q.0)) es) free).0)
       (not-true (nat_eq at.0 window.0 && is_built e.0) (and_parts _ (list_all (λ q. not (nat_eq at.0 window.0 && is_built q.0)) es) own).0)
       (define_new o e.0 (whole_change sites e.1) (open_for o e.0 closed none) ordinary none extensible)
       (λ i now more. defines_succeed es i at (and_props o last) rs now closed extensible ordinary
       (distinct_next o.props e.0 (sited_prop sites e.1) (keys_of es) distinct)
-      (and_parts (not (nat_eq at.0 window.0 && is_built e.0)) (list_all (λ q. not (nat_eq at.0 window.0 && is_built q.0)) es) own).1 more
+      (and_parts (not (nat_eq at.0 window.0 && is_built e.0)) (list_all (λ q. not (nat_eq at.0 window.0 && is_built q.0)) es) own).1
+      (and_parts (not (is_kept w.nodes o.class e.0)) (list_all (λ q. not (is_kept w.nodes o.class q.0)) es) free).1 more
       (λ j most. later j
-      (subst (λ ps. Going c g j sites (site sites at.0) (with_props o ps)) (append_assoc o.props last (sited_props sites es)) most)))
+      (subst (λ ps. Going c g j w sites (site sites at.0) (with_props o ps)) (append_assoc o.props last (sited_props sites es)) most)))
 
 -- the `prototype` of a function becomes another value, and can be written or not
 pub prototype_defined : (o : Object) (first : Prop) (old v : Value) (writable : Bool) → o.closed ≡ false → is_list o.class ≡ false

@@ -1,7 +1,7 @@
 -- The globals that scripts made are defined behind those that are built in.
 use Rattle.std.proofs.Common.{◌≡◌, refl, sym, ap, subst, ◌∙◌, ℕ, true, false, not, ◌&&◌, is_none, is_some, drop, Option, Some, None, List, [], ◌∷◌, ◌++◌, length, bytes_eq}
 use Rattle.std.proofs.Math.Seq.{drop-append_seam}
-use Rattle.std.proofs.lemmas.Bool.{lt-ltb}
+use Rattle.std.proofs.lemmas.Bool.{and_from}
 use Rattle.std.specs.List.{IsDistinct, list_all}
 use Rattle.std.specs.Map.{keys_of}
 use Rattle.heap_walker.specs.Still.{Still}
@@ -11,14 +11,18 @@ use Rattle.object_heap.specs.Heap.{Contents}
 use Rattle.object_heap.specs.Object.{Object, is_list}
 use Rattle.object_heap.specs.Property.{HasDistinctNames, Props, own_property}
 use Rattle.object_heap.specs.declared.property.Prop.{Prop}
+use Rattle.dom_tree.specs.Node.{Nodes}
+use Rattle.object_heap.specs.declared.object.Class.{Class}
+use Rattle.object_heap.specs.declared.object.Class.TheVariants as class
+use Rattle.page_host.specs.Host.{Host}
+use Rattle.page_meaning.specs.HostNames.{is_kept}
 use Rattle.page_meaning.specs.Places.{window}
 use Rattle.page_meaning.specs.Store.{Store}
 use Rattle.rebuild_plan.specs.Compact.{moved_props}
 use Rattle.rebuild_plan.specs.Plan.{defines}
 use Rattle.rebuild_plan.specs.declared.statement.Rebuild.{Rebuild}
 use Rattle.rebuilding.specs.Rebuilt.{Succeeds}
-use Rattle.heap_walker.specs.Bare.{is_ordinary}
-use Rattle.rebuilding.specs.Scene.{IsRunning, Scene}
+use Rattle.rebuilding.specs.Scene.{IsHosting, IsRunning, Scene}
 use Rattle.rebuilding.specs.Sites.{site}
 use Rattle.rebuilding.proofs.Defining.{and_props, defines_succeed}
 use Rattle.rebuilding.proofs.Going.{Allowed, Going, going_begins}
@@ -26,11 +30,10 @@ use Rattle.rebuilding.proofs.PropertyNames.{both_keys, moved_all, moved_keys, re
 use Rattle.rebuilding.proofs.WindowStays.{is_built}
 use Rattle.object_shapes.specs.Shapes.{IsWindow, built_in_at}
 use Rattle.page_meaning.specs.Pristine.{built_in_globals}
-use Rattle.rebuilding.proofs.Placed.{some_built_in}
-use Rattle.page_meaning.specs.Places.{built_in_count}
+use Rattle.rebuilding.proofs.Placed.{site_built_in, some_built_in}
 
 pub at_window : (sites : List ℕ) → site sites window.0 ≡ window.0
-at_window sites = rw (lt-ltb 0 built_in_count some_built_in) refl
+at_window sites = site_built_in sites 0 some_built_in
 
 -- ---- which globals scripts made
 
@@ -70,23 +73,30 @@ globals_own others left things own same =
 
 -- ---- they are defined
 
-pub globals_succeed : (c : Scene) (End : Contents → List ℕ → Type 0) (s : Store) (things sites : List ℕ) (h : Contents) (rs : List Rebuild)
-    → Still s → IsRunning c h sites → (object_at h.objects window.0).props ≡ (built_in_at window.0).props
+-- nothing is kept from the global object
+none_kept : (t : Nodes) (d : Class) (es : Props) → d ≡ class.Window → list_all (λ e. not (is_kept t d e.0)) es ≡ true
+none_kept t d [] is = refl
+none_kept t d (e ∷ es) is =
+    and_from (not (is_kept t d e.0)) (list_all (λ x. not (is_kept t d x.0)) es) (ap (λ k. not (is_kept t k e.0)) is) (none_kept t d es is)
+
+pub globals_succeed : (c : Scene) (End : Contents → Host → List ℕ → Type 0) (s : Store) (things sites : List ℕ) (h : Contents) (w : Host) (rs : List Rebuild)
+    → Still s → IsRunning c h sites → IsHosting h w → (object_at h.objects window.0).props ≡ (built_in_at window.0).props
     → Allowed (length sites) (defines false false window (moved_props things (globals_of s)) ++ rs)
-    → ((i : Contents) → Going c h i sites window.0 (and_props (object_at h.objects window.0) (rebuilt_props sites things (globals_of s)))
-    → Allowed (length sites) rs → Succeeds c End i sites rs)
-    → Succeeds c End h sites (defines false false window (moved_props things (globals_of s)) ++ rs)
-globals_succeed c End s things sites h rs still running now allowed later =
+    → ((i : Contents) → Going c h i w sites window.0 (and_props (object_at h.objects window.0) (rebuilt_props sites things (globals_of s)))
+    → Allowed (length sites) rs → Succeeds c End i w sites rs)
+    → Succeeds c End h w sites (defines false false window (moved_props things (globals_of s)) ++ rs)
+globals_succeed c End s things sites h w rs still running hosting now allowed later =
     let o : Object = object_at h.objects window.0 in
-    let w : IsWindow (object_at s.heap.objects window.0) = still.shaped.window in
-    let left : globals_of s ≡ w.others = globals_are (object_at s.heap.objects window.0) w in
+    let rest : IsWindow (object_at s.heap.objects window.0) = still.shaped.window in
+    let left : globals_of s ≡ rest.others = globals_are (object_at s.heap.objects window.0) rest in
     let ordinary : is_list o.class ≡ false = ap is_list running.window.class in
-    defines_succeed c End sites h (moved_props things (globals_of s)) h window o rs
-    (going_begins c h sites (site sites window.0) o running (ap is_ordinary running.window.class) (ap (object_at h.objects) (at_window sites)))
+    defines_succeed c End sites h w (moved_props things (globals_of s)) h window o rs
+    (going_begins c h w sites (site sites window.0) o running hosting (ap (object_at h.objects) (at_window sites)))
     running.window.closed running.window.extensible ordinary
-    (globals_new (built_in_at window.0).props w.others (object_at s.heap.objects window.0).props o.props (globals_of s) things left w.props
+    (globals_new (built_in_at window.0).props rest.others (object_at s.heap.objects window.0).props o.props (globals_of s) things left rest.props
     (still.sound.names window.0) now)
-    (globals_own w.others (globals_of s) things (sym (own_names w.others) ∙ w.own) left)
+    (globals_own rest.others (globals_of s) things (sym (own_names rest.others) ∙ rest.own) left)
+    (none_kept w.nodes o.class (moved_props things (globals_of s)) running.window.class)
     allowed
     (λ i now_there more. later i
-    (subst (λ k. Going c h i sites k (and_props o (rebuilt_props sites things (globals_of s)))) (at_window sites) now_there) more)
+    (subst (λ k. Going c h i w sites k (and_props o (rebuilt_props sites things (globals_of s)))) (at_window sites) now_there) more)

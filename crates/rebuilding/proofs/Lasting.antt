@@ -15,7 +15,7 @@ use Rattle.page_meaning.specs.Store.{Store}
 use Rattle.rebuild_plan.specs.Compact.{maker_as, moved, moved_needs, moved_proto, moved_value, moved_values}
 use Rattle.rebuild_plan.specs.Stands.{maker_names}
 use Rattle.rebuild_plan.specs.declared.statement.Maker.TheVariants.{Bind}
-use Rattle.rebuilding.specs.Rebuilt.{ClassIsRebuilt, bound, fault, list, page, plain}
+use Rattle.rebuilding.specs.Rebuilt.{ClassIsRebuilt, bound, fault, list, page, plain, event, node}
 use Rattle.rebuilding.specs.Scene.{IsBinding, IsRoundOf, Scene, bare, named, needed, none_needed}
 use Rattle.rebuilding.specs.Sites.{site, sited, sited_proto, sited_value, sited_values}
 use Rattle.rebuilding.proofs.Placed.{array_low, error_low, event_low, function_low, node_low, needs_stay, proto_built_in, proto_stays, site_stays, value_stays, values_stay}
@@ -23,6 +23,7 @@ use Rattle.rebuilding.proofs.Stages.{IsFresh}
 use Rattle.page_meaning.specs.Places.{built_in_count}
 use Rattle.object_shapes.specs.Links.{value_links, values_links, all_below}
 use Rattle.object_shapes.specs.Shapes.{HasShape}
+use Rattle.rebuild_plan.specs.Moved.{first_thing}
 
 -- ---- prototypes
 
@@ -34,7 +35,7 @@ module _ (s : Store) (things sites : List ℕ) (walk : IsWalk s things) where
 
 -- so it is the same among more things
 proto_same : (s : Store) (things sites : List ℕ) (place : ℕ) (o : Object) (a : Class) → IsWalk s things → HasShape s o a
-    → all_below (built_in_count + length sites) (maker_names (maker_as s things o.proto a)) ≡ true
+    → all_below (first_thing + length sites) (maker_names (maker_as s things o.proto a)) ≡ true
     → sited_proto (sites ++ place ∷ []) (moved_proto things o.proto) ≡ sited_proto sites (moved_proto things o.proto)
 proto_same s things sites place o class.Plain walk made stands = proto_stays sites place (moved_proto things o.proto) stands
 proto_same s things sites place o class.List walk made stands =
@@ -58,13 +59,13 @@ proto_same s things sites place o (class.Event parts) walk made stands =
 
 -- the class of a bound function is the same among more things
 pub bound_same : (things sites : List ℕ) (place : ℕ) (target : ObjId) (this : Value) (args : List Value)
-    → all_below (built_in_count + length sites) (maker_names (Bind (moved things target) (moved_value things this) (moved_values things args))) ≡ true
+    → all_below (first_thing + length sites) (maker_names (Bind (moved things target) (moved_value things this) (moved_values things args))) ≡ true
     → let after = sites ++ place ∷ [] in
     class.Bound (sited after (moved things target)) (sited_value after (moved_value things this)) (sited_values after (moved_values things args))
     ≡ class.Bound (sited sites (moved things target)) (sited_value sites (moved_value things this)) (sited_values sites (moved_values things args))
 bound_same things sites place target this args stands =
     let split =
-    sym (list_all-append (λ k. nat_lt k (built_in_count + length sites)) (value_links (moved_value things this))
+    sym (list_all-append (λ k. nat_lt k (first_thing + length sites)) (value_links (moved_value things this))
     (values_links (moved_values things args))) ∙ (and_parts _ _ stands).1
     in
     let at : site (sites ++ place ∷ []) (moved things target).0 ≡ site sites (moved things target).0 =
@@ -91,11 +92,13 @@ module _ (c : Scene) (es fs : List Environment) (more : length es ≤ length fs)
   round_stays (named e b there is) = named e (binding_stays b) (omega (arith, there, more)) (same e there ∙ is)
 
   class_stays : (s : Store) (things sites : List ℕ) (place k : ℕ) (proto : Option ObjId) {a d : Class} → ClassIsRebuilt c es s things sites k a d
-      → all_below (built_in_count + length sites) (maker_names (maker_as s things proto a)) ≡ true
+      → all_below (first_thing + length sites) (maker_names (maker_as s things proto a)) ≡ true
       → ClassIsRebuilt c fs s things (sites ++ place ∷ []) k a d
   class_stays s things sites place k proto plain stands = plain
   class_stays s things sites place k proto list stands = list
   class_stays s things sites place k proto fault stands = fault
+  class_stays s things sites place k proto node stands = node
+  class_stays s things sites place k proto event stands = event
   class_stays s things sites place k proto (page {code = source} {env = env} {round = round} r) stands =
       page {env = env} (subst (λ ns. IsRoundOf c fs k ns (name_of source) round)
       (sym (needs_stay sites place (moved_needs things (needs_of s env source)) stands)) (round_stays r))
@@ -105,7 +108,7 @@ module _ (c : Scene) (es fs : List Environment) (more : length es ≤ length fs)
 
   -- what it refers to from its maker on stands, so it keeps its site
   pub fresh_stays : (s : Store) (things sites : List ℕ) (place k : ℕ) (thing o : Object) → IsWalk s things → HasShape s thing thing.class
-      → all_below (built_in_count + length sites) (maker_names (maker_as s things thing.proto thing.class)) ≡ true
+      → all_below (first_thing + length sites) (maker_names (maker_as s things thing.proto thing.class)) ≡ true
       → IsFresh c es s things sites k thing o → IsFresh c fs s things (sites ++ place ∷ []) k thing o
   fresh_stays s things sites place k thing o walk made stands fresh = record {
     class = class_stays s things sites place k thing.proto fresh.class stands;

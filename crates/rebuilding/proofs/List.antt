@@ -24,10 +24,10 @@ use Rattle.object_heap.specs.declared.property.Prop.{Prop}
 use Rattle.page_meaning.specs.Descriptors.{open_property}
 use Rattle.page_meaning.specs.Places.{array_prototype, array_prototype_place, at_place, object_prototype, window}
 use Rattle.page_meaning.specs.Pristine.{array_prototype_props, built, object_prototype_props}
-use Rattle.rebuilding.specs.Scene.{IsRunning, Scene, elements, frame_count, is_site, list_length, list_of}
+use Rattle.rebuilding.specs.Scene.{IsDocument, IsRunning, Scene, elements, frame_count, is_site, list_length, list_of}
 use Rattle.rebuilding.proofs.Indices.{are_named, decimal_not_length, decimal_other, decimal_same, index_of_decimal, no_index_among}
 use Rattle.object_shapes.specs.Shapes.{IsWindow, built_in_at}
-use Rattle.page_meaning.specs.Places.{built_in_count}
+use Rattle.page_meaning.specs.Places.{built_in_count, document}
 use Rattle.object_shapes.specs.Links.{all_below}
 
 -- ---- elements
@@ -201,7 +201,7 @@ module _ (c : Scene) (h : Contents) (sites : List ℕ) (r : IsRunning c h sites)
         sound = subst IsSound (ap (λ (a : Attempt Contents). a.after) (thing_put_in (length sites) k refl few))
             (sound_put h r.sound c.list (decimal (length sites)) (Reference (at_place k)));
         built_ins = λ j some low. object_set_other h.objects c.list j o (λ e. omega (arith, e, low, r.list_young)) ∙ r.built_ins j some low;
-        nodes = λ j below. object_set_other h.objects c.list (built_in_count + j) o (λ e. omega (arith, e, below, r.list_young)) ∙ r.nodes j below;
+        document = subst IsDocument (sym (object_set_other h.objects c.list document.0 o (λ e. omega (arith, e, r.list_young)))) r.document;
         window = subst IsWindow
             (sym (object_set_other h.objects c.list window.0 o (λ e. omega (arith, e, window_built_in, r.list_young)))) r.window;
         list = object_set_same h.objects c.list o r.list_there;

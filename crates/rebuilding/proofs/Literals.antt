@@ -29,7 +29,7 @@ use Rattle.page_host.specs.declared.host_name.HostName.TheVariants.{Value as Has
 use Rattle.page_meaning.specs.HostNames.{Seen, held, see}
 use Rattle.page_meaning.specs.Reading.{seen_at}
 use Rattle.page_meaning.specs.Store.{Store, with_heap}
-use Rattle.heap_walker.specs.Bare.{is_ordinary}
+use Rattle.rebuilding.proofs.Ordinary.{is_ordinary}
 use Rattle.rebuilding.proofs.Ordinary.{define_free}
 use Rattle.page_meaning.specs.declared.signal.Signal.TheVariants.{Value as Val}
 use Rattle.page_writer.specs.Literals.{IsLiteral}
@@ -44,6 +44,7 @@ use Rattle.rebuilding.proofs.Staying.{low_there, make_run, none_below, running_m
 use Rattle.object_shapes.specs.Shapes.{built_in_at}
 use Rattle.page_meaning.specs.Places.{built_in_count}
 use Rattle.object_shapes.specs.Links.{value_links, all_below}
+use Rattle.rebuild_plan.specs.Moved.{first_thing}
 
 -- ---- an object literal in the heap
 
@@ -113,7 +114,7 @@ module _ (c : Scene) (s : Store) (sites : List ℕ) (r : IsRunning c s.heap site
       (none_below (length s.heap.objects)))
 
   -- the two fields that each descriptor has
-  data_run : (v : Value) (writable : Bool) (fs : tree.Fields) → IsLiteral v → all_below (built_in_count + length sites) (value_links v) ≡ true
+  data_run : (v : Value) (writable : Bool) (fs : tree.Fields) → IsLiteral v → all_below (first_thing + length sites) (value_links v) ≡ true
       → (bind new_plain (λ o. eval_fields calls (inside c) (value_and_writable (value_expr v) writable fs) o)).run s n
       ≡ (eval_fields calls (inside c) fs (next_place s.heap)).run
       (with_heap s (with_literal s.heap (short_fields (sited_value sites v) writable))) n
@@ -125,13 +126,13 @@ module _ (c : Scene) (s : Store) (sites : List ℕ) (r : IsRunning c s.heap site
       (value_read c t sites (literal_running c s.heap sites r [] no_names) calls n lead each v range there)
       ∙ field_run c s s.heap calls n (codes "writable") (bool writable) fs (value.Bool writable) first refl refl
 
-  pub short_read : (v : Value) (writable : Bool) → IsLiteral v → all_below (built_in_count + length sites) (value_links v) ≡ true
+  pub short_read : (v : Value) (writable : Bool) → IsLiteral v → all_below (first_thing + length sites) (value_links v) ≡ true
       → (eval calls (inside c) (short_descriptor v writable)).run s n
       ≡ Ended (Val (Reference (next_place s.heap)))
       (with_heap s (with_literal s.heap (short_fields (sited_value sites v) writable))) n
   short_read v writable range there = data_run v writable no_fields range there
 
-  pub whole_read : (p : Prop) → IsLiteral p.value → all_below (built_in_count + length sites) (value_links p.value) ≡ true
+  pub whole_read : (p : Prop) → IsLiteral p.value → all_below (first_thing + length sites) (value_links p.value) ≡ true
       → (eval calls (inside c) (whole_descriptor p)).run s n
       ≡ Ended (Val (Reference (next_place s.heap))) (with_heap s (with_literal s.heap (descriptor_props (sited_prop sites p)))) n
   whole_read p range there =

@@ -6,23 +6,26 @@ use Rattle.page_meaning.specs.Calls.{calls_at}
 use Rattle.page_meaning.specs.Laws.{LoadsSound}
 use Rattle.page_meaning.specs.Pages.{load_of}
 use Rattle.page_meaning.specs.Places.{window}
-use Rattle.heap_walker.specs.Bare.{frame_nodes}
+use Rattle.page_host.specs.Host.{Host}
+use Rattle.page_writer.specs.Frame.{frame_nodes}
 use Rattle.page_meaning.specs.Pristine.{pristine}
 use Rattle.page_meaning.specs.Statements.{exec_all}
 use Rattle.page_meaning.specs.Store.{Store}
 use Rattle.page_meaning.specs.Tasks.{depth_limit, finished, Script, step_limit, task_of}
 use Rattle.page_writer.specs.Script.{saved_in_frame, saved_script, statements}
 use Rattle.rebuild_plan.specs.Compact.{compact, Thing, things_at}
-use Rattle.rebuild_plan.specs.Plan.{defines, fills, makes, plan, prevents}
+use Rattle.rebuild_plan.specs.Plan.{defines, makes, plan, timers, whole}
+use Rattle.rebuild_plan.specs.declared.phase.Phase.TheVariants as phase
 use Rattle.rebuild_plan.specs.declared.statement.Rebuild.{Rebuild}
 use Rattle.rebuilding.specs.Laws.{Agrees, CanBeRebuilt, LoadsWithin, ScriptsRebuild, ScriptsTakeFewSteps}
-use Rattle.rebuilding.specs.Rebuilt.{IsRebuilt, PlansRebuild, Succeeds}
+use Rattle.rebuilding.specs.Rebuilt.{IsFresh, IsRebuilt, PlansRebuild, Succeeds}
 use Rattle.rebuilding.specs.Running.{StatementsRun}
-use Rattle.rebuilding.specs.Scene.{inside, IsRunning, page_with}
+use Rattle.rebuilding.specs.Scene.{inside, page_with}
 use Rattle.rebuilding.proofs.Agreeing.{rebuilt_agrees}
 use Rattle.rebuilding.proofs.InOrder.{all_run, Finishes}
 use Rattle.rebuilding.proofs.Settling.{settled_heap, settled_is, settled_quiet, still_rebuilt}
-use Rattle.rebuilding.proofs.Scripts.{begun, begun_running, begun_window, scene, script_run}
+use Rattle.rebuilding.proofs.FrameSound.{frame_host_sound}
+use Rattle.rebuilding.proofs.Scripts.{begun, cleared, cleared_fresh, scene, script_run}
 
 -- ---- limits
 
@@ -44,55 +47,78 @@ as_many s things (k ∷ ks) = ap suc (as_many s things ks)
 
 plan_long : (s : Store) (things : List ℕ) → length things ≤ length (plan (compact s things))
 plan_long s things =
-    let ts : List Thing = things_at s things things in
-    omega (arith, as_many s things things, makes_long 0 ts (defines false false window (compact s things).globals ++ (fills 0 ts ++ prevents 0 ts)))
+    let c = compact s things in
+    omega (
+      arith,
+      as_many s things things,
+      makes_long 0 c.things
+          (whole phase.Children c
+          ++ (whole phase.Contents c
+          ++ (whole phase.Events c
+          ++ (whole phase.Listeners c
+          ++ (defines false false window c.globals
+          ++ (whole phase.Properties c
+          ++ (timers c.timers
+          ++ whole phase.Ends c))))))),
+    )
 
 -- ---- the page that is loaded
 
--- its heap is one that was rebuilt
+-- its heap and its host are ones that were rebuilt
 pub record IsScriptOf (s : Store) (things : List ℕ) (t : Store) : Type 0 where
   pub after : Contents
+  pub host : Host
   pub sites : List ℕ
-  pub within : LoadsWithin (saved_script (plan (compact s things))) (length (plan (compact s things)))
-  pub loaded : t ≡ page_with after
-  pub rebuilt : IsRebuilt scene s things after sites
+  pub within : LoadsWithin (saved_script (plan (compact s things))) (length (plan (compact s things)) + 1)
+  pub loaded : t ≡ page_with after host
+  pub rebuilt : IsRebuilt scene s things after host sites
+
+one_left : (n m : ℕ) → n + 1 < m → m ≡ suc (m - 1)
+one_left n m few = omega (arith, few)
 
 pub script_rebuilt : LoadsSound → StatementsRun → PlansRebuild → (s : Store) (things : List ℕ) → CanBeRebuilt s things
     → IsScriptOf s things (load_of (saved_in_frame (plan (compact s things))))
 script_rebuilt sound run plans s things can =
     let rs : List Rebuild = plan (compact s things) in
-    let depth : ℕ = depth_limit - 1 in
-    let running : IsRunning scene begun [] = begun_running (sound (record { nodes = frame_nodes; scripts = [] })) in
-    let able : Succeeds scene (IsRebuilt scene s things) begun [] rs =
-    plans scene s things begun can.still can.walk can.in_range
-    (omega (arith, plan_long s things, can.few, few_steps)) running begun_window
+    let d : ℕ = depth_limit - 1 in
+    let n : ℕ = step_limit - 1 in
+    let begins : IsSound (pristine frame_nodes).heap = sound (record { nodes = frame_nodes; scripts = [] }) in
+    let fresh : IsFresh scene begun cleared = cleared_fresh begins frame_host_sound in
+    let able : Succeeds scene (IsRebuilt scene s things) begun cleared [] rs =
+    plans scene s things begun cleared can.still can.walk can.in_range (omega (arith, plan_long s things, can.few, few_steps)) fresh
     in
-    let all : Act = exec_all (calls_at (depth + 1)) (inside scene) (statements rs) in
-    let out : Finishes (IsRebuilt scene s things) (page_with begun) (step_limit - length rs) (all.run (page_with begun) step_limit) =
-    all_run run scene (IsRebuilt scene s things) depth rs (page_with begun) [] step_limit (omega (arith, can.few)) running able
+    let all : Act = exec_all (calls_at (d + 1)) (inside scene) (statements rs) in
+    let out : Finishes (IsRebuilt scene s things) (page_with begun cleared) (n - length rs) (all.run (page_with begun cleared) n) =
+    all_run run scene (IsRebuilt scene s things) d rs (page_with begun cleared) [] n (omega (arith, can.few)) fresh.running fresh.cleared.hosting able
     in
-    let ends : (task_of (calls_at depth_limit) (Script (saved_script rs))).run (pristine frame_nodes) step_limit ≡ Ended nothing (page_with out.after) out.left =
-    ap (λ m. (task_of (calls_at m) (Script (saved_script rs))).run (pristine frame_nodes) step_limit) depth_left
-    ∙ script_run (calls_at (depth + 1)) rs step_limit out.after out.left out.ends
+    let more : d + 1 ≡ suc d = omega arith in
+    let ends : (task_of (calls_at depth_limit) (Script (saved_script rs))).run (pristine frame_nodes) step_limit
+    ≡ Ended nothing (page_with out.after out.host) out.left =
+    ap (λ m. (task_of (calls_at m) (Script (saved_script rs))).run (pristine frame_nodes) step_limit) (depth_left ∙ more)
+    ∙ ap (λ m. (task_of (calls_at (suc d)) (Script (saved_script rs))).run (pristine frame_nodes) m) (one_left (length rs) step_limit can.few)
+    ∙ script_run begins d rs n out.after out.host out.left
+    (subst (λ m. (exec_all (calls_at m) (inside scene) (statements rs)).run (page_with begun cleared) n ≡ Ended nothing (page_with out.after out.host) out.left)
+    more out.ends)
     in
     let last : Contents = settled_heap (length out.after.objects) out.after in
-    let loaded : load_of (saved_in_frame rs) ≡ page_with last =
-    ap finished ends ∙ settled_is (length out.after.objects) (page_with out.after)
+    let loaded : load_of (saved_in_frame rs) ≡ page_with last out.host =
+    ap finished ends ∙ settled_is (length out.after.objects) (page_with out.after out.host)
     in
     record {
       after = last;
+      host = out.host;
       sites = out.sites;
-      within = record { signal = nothing; after = page_with out.after; left = out.left; ends = ends; few = omega (arith, out.few) };
+      within = record { signal = nothing; after = page_with out.after out.host; left = out.left; ends = ends; few = omega (arith, out.few) };
       loaded = loaded;
-      rebuilt = still_rebuilt scene s things out.after last out.sites out.end (settled_quiet (length out.after.objects) out.after (omega arith))
-          (subst (λ (t : Store). IsSound t.heap) loaded (sound (saved_in_frame rs)));
+      rebuilt = still_rebuilt scene s things out.after last out.host out.sites out.end
+          (settled_quiet (length out.after.objects) out.after (omega arith)) (subst (λ (t : Store). IsSound t.heap) loaded (sound (saved_in_frame rs)));
     }
 
 pub scripts_rebuild : LoadsSound → StatementsRun → PlansRebuild → ScriptsRebuild
 scripts_rebuild sound run plans s things can =
     let out = script_rebuilt sound run plans s things can in
-    let agrees : Agrees s (page_with out.after) =
-    rebuilt_agrees scene s things out.after out.sites can.still can.walk out.rebuilt
+    let agrees : Agrees s (page_with out.after out.host) =
+    rebuilt_agrees scene s things out.after out.host out.sites can.still can.walk out.rebuilt
     in
     subst (λ t. (t.lines ≡ []) × Agrees s t) (sym out.loaded) (refl, agrees)
 

@@ -39,8 +39,8 @@ use Rattle.page_meaning.specs.Properties.{get_member, is_length_of, put_in, stor
 use Rattle.page_meaning.specs.Rows.{row_of}
 use Rattle.page_host.specs.HostNames.{host_name}
 use Rattle.page_meaning.specs.Classes.{is_made}
-use Rattle.page_meaning.specs.Store.{Store, with_heap}
-use Rattle.heap_walker.specs.Bare.{is_ordinary}
+use Rattle.page_meaning.specs.Store.{Store, with_heap, with_both}
+use Rattle.rebuilding.proofs.Ordinary.{is_ordinary}
 use Rattle.rebuilding.proofs.Ordinary.{put_free}
 use Rattle.rebuilding.proofs.Paths.{plain_read}
 use Rattle.page_meaning.specs.ValueRows.{silent_error, silent_fit}
@@ -50,30 +50,35 @@ use Rattle.page_writer.specs.Literals.{IsLiteral}
 use Rattle.page_writer.specs.Statements.{maker_expr, object_function, reference, value_exprs}
 use Rattle.rebuild_plan.specs.declared.statement.Maker.{Maker}
 use Rattle.rebuild_plan.specs.declared.statement.Maker.TheVariants.{Bind, Fault, List as Array, Plain}
-use Rattle.rebuilding.specs.Running.{CanMake, IsMade, Stays}
-use Rattle.rebuilding.specs.Scene.{IsRunning, Scene, inside}
+use Rattle.page_host.specs.Host.{Host}
+use Rattle.rebuilding.specs.Running.{CanMake, IsMade, Stays, made_host}
+use Rattle.rebuilding.specs.Scene.{IsHosting, IsRunning, Scene, inside}
 use Rattle.rebuilding.specs.Sites.{sited, sited_value, sited_values}
 use Rattle.rebuilding.proofs.Calling.{also_on, constructor_class, constructor_named, constructor_of, constructor_read, create_called, is_bind, is_create, native_called, native_constructed}
 use Rattle.rebuilding.proofs.Reading.{arguments_read, reference_read}
-use Rattle.rebuilding.proofs.Staying.{low_there, made_there, make_run, none_below, running_made, site_there, some_below, stays_made}
+use Rattle.rebuilding.proofs.Staying.{hosting_stays, low_there, made_there, make_run, none_below, running_made, site_there, some_below, stays_made}
 use Rattle.rebuilding.proofs.Placed.{array_low, error_low, function_low}
 use Rattle.page_meaning.specs.Places.{built_in_count}
 use Rattle.object_shapes.specs.Links.{proto_links, value_links, values_links, all_below}
+use Rattle.rebuild_plan.specs.Moved.{first_thing}
 
 -- ---- what is made
 
 -- the value of an expression is a fresh object as the maker wants it, after one step at most
 pub record Makes (c : Scene) (s : Store) (sites : List ℕ) (m : Maker) (n : ℕ) (out : Outcome Signal) : Type 0 where
   pub after : Contents
+  pub host : Host
   pub place : ℕ
   pub left : ℕ
   pub steps : n ≤ left + 1
-  pub ends : out ≡ Ended (Val (Reference (at_place place))) (with_heap s after) left
+  pub ends : out ≡ Ended (Val (Reference (at_place place))) (with_both s after host) left
+  pub has_host : host ≡ made_host s.host m place
   pub young : length s.heap.objects ≤ place
   pub there : place < length after.objects
-  pub object : IsMade c s.heap after sites place m (object_at after.objects place)
+  pub object : IsMade c s.heap s.host after sites place m (object_at after.objects place)
   pub stays : Stays s.heap after []
   pub running : IsRunning c after sites
+  pub hosting : IsHosting s.heap s.host → IsHosting after host
 
 -- the prototype and what is bound, if there are some, are there
 pub record IsReady (h : Contents) (o : Object) : Type 0 where
@@ -86,18 +91,22 @@ pub record IsReady (h : Contents) (o : Object) : Type 0 where
 pub makes_one : (c : Scene) (s : Store) (sites : List ℕ) (m : Maker) (n left : ℕ) (out : Outcome Signal) (o : Object) → IsRunning c s.heap sites
     → IsReady s.heap o → n ≤ left + 1
     → out ≡ Ended (Val (Reference (next_place s.heap))) (with_heap s (with_new_object s.heap o)) left
-    → IsMade c s.heap (with_new_object s.heap o) sites (length s.heap.objects) m o
+    → IsMade c s.heap s.host (with_new_object s.heap o) sites (length s.heap.objects) m o
+    → s.host ≡ made_host s.host m (length s.heap.objects)
     → Makes c s sites m n out
-makes_one c s sites m n left out o r ready steps ends made = record {
+makes_one c s sites m n left out o r ready steps ends made same = record {
   after = with_new_object s.heap o;
+  host = s.host;
+  has_host = same;
   place = length s.heap.objects;
   left = left;
   steps = steps;
   ends = ends;
   young = le_refl (length s.heap.objects);
   there = made_there s.heap o;
-  object = subst (λ p. IsMade c s.heap (with_new_object s.heap o) sites (length s.heap.objects) m p) (sym (object_last s.heap.objects o)) made;
+  object = subst (λ p. IsMade c s.heap s.host (with_new_object s.heap o) sites (length s.heap.objects) m p) (sym (object_last s.heap.objects o)) made;
   stays = stays_made s.heap o;
+  hosting = hosting_stays s.heap (with_new_object s.heap o) s.host (stays_made s.heap o);
   running = running_made c s.heap sites o r ready.fit ready.proto ready.target;
 }
 
@@ -161,7 +170,7 @@ module _ (c : Scene) (s : Store) (sites : List ℕ) (r : IsRunning c s.heap site
   array_made d n =
       makes_one c s sites Array n n _ new_array r array_ready (omega arith)
       (ap (λ (o : Outcome ObjId). then_on o (λ a. eval_holes (calls_at d) (inside c) no_holes a 0)) (ready_run new_array s n array_ready)
-      ∙ also_on (λ _. give (Reference (next_place s.heap))) (length_put s s.heap n)) refl
+      ∙ also_on (λ _. give (Reference (next_place s.heap))) (length_put s s.heap n)) refl refl
 
   plain_ready : (proto : Option ObjId) → ForSome proto (λ p. p.0 < length s.heap.objects) → IsReady s.heap (new_object class.Plain proto)
   plain_ready proto there = record { fit = new_fit class.Plain proto; made = refl; proto = there; target = none_below (length s.heap.objects) }
@@ -192,7 +201,7 @@ module _ (c : Scene) (s : Store) (sites : List ℕ) (r : IsRunning c s.heap site
       (also_on (λ f. eval_args calls (inside c) no_exprs [] (calls.construct f))
       (constructor_read c s sites r calls (suc n) (kind_name k) (constructor_of k) (constructor_named k))
       ∙ native_constructed d (constructor_of k) (function_place (constructor_of k)) [] s n (constructor_class c s sites r k) (error_constructs k)
-      ∙ error_row d n k) refl
+      ∙ error_row d n k) refl refl
 
   module _ (lead : PathsLead) (each : EachHasPath) (d n : ℕ) where
     -- `Object.create`, where the prototype is this value
@@ -219,23 +228,23 @@ module _ (c : Scene) (s : Store) (sites : List ℕ) (r : IsRunning c s.heap site
         ap (λ (o : Outcome ObjId). then_on o (with_given Undefined))
         (ready_run (new_object class.Plain proto) s n (plain_ready proto there))
 
-    pub plain_made : (proto : Option ObjId) → all_below (built_in_count + length sites) (proto_links proto) ≡ true
+    pub plain_made : (proto : Option ObjId) → all_below (first_thing + length sites) (proto_links proto) ≡ true
         → Makes c s sites (Plain proto) (suc n) ((eval (calls_at (suc d)) (inside c) (maker_expr (Plain proto))).run s (suc n))
     plain_made None stands =
         let there : ForSome None (λ (p : ObjId). p.0 < length s.heap.objects) = none_below (length s.heap.objects) in
         makes_one c s sites (Plain None) (suc n) n _ (new_object class.Plain None) r (plain_ready None there) (omega arith)
-        (created null None refl there (plain_run None there)) refl
+        (created null None refl there (plain_run None there)) refl refl
     plain_made (Some at) stands =
         let p = sited sites at in
-        let below : nat_lt at.0 (built_in_count + length sites) ≡ true = (and_parts (nat_lt at.0 (built_in_count + length sites)) true stands).0 in
+        let below : nat_lt at.0 (first_thing + length sites) ≡ true = (and_parts (nat_lt at.0 (first_thing + length sites)) true stands).0 in
         let there : ForSome (Some p) (λ (q : ObjId). q.0 < length s.heap.objects) = some_below p (length s.heap.objects)
         (site_there c s.heap sites r at.0 below) in
         makes_one c s sites (Plain (Some at)) (suc n) n _ (new_object class.Plain (Some p)) r (plain_ready (Some p) there) (omega arith)
         (created (reference at) (Some p) (reference_read c s sites r (calls_at (suc d)) (suc n) lead each at stands) there
-        (plain_run (Some p) there)) refl
+        (plain_run (Some p) there)) refl refl
 
     pub bound_made : (target : ObjId) (this : Value) (args : List Value)
-        → all_below (built_in_count + length sites) (target.0 ∷ (value_links this ++ values_links args)) ≡ true
+        → all_below (first_thing + length sites) (target.0 ∷ (value_links this ++ values_links args)) ≡ true
         → All IsLiteral (this ∷ args) → CanMake s.heap sites (Bind target this args)
         → Makes c s sites (Bind target this args) (suc n) ((eval (calls_at (suc d)) (inside c) (maker_expr (Bind target this args))).run s (suc n))
     bound_made target this args stands range able =
@@ -245,8 +254,8 @@ module _ (c : Scene) (s : Store) (sites : List ℕ) (r : IsRunning c s.heap site
         let f : Value = Reference (function_at built_in.FunctionPrototypeBind) in
         let vs = sited_values sites (this ∷ args) in
         let o = bound_object at (sited_value sites this) (sited_values sites args) (length_of at s) in
-        let parts = and_parts (nat_lt target.0 (built_in_count + length sites))
-        (all_below (built_in_count + length sites) (value_links this ++ values_links args)) stands in
+        let parts = and_parts (nat_lt target.0 (first_thing + length sites))
+        (all_below (first_thing + length sites) (value_links this ++ values_links args)) stands in
         let ready : IsReady s.heap o = record {
           fit = bound_fit at (sited_value sites this) (sited_values sites args) (length_of at s);
           made = refl;
@@ -255,10 +264,10 @@ module _ (c : Scene) (s : Store) (sites : List ℕ) (r : IsRunning c s.heap site
         } in
         makes_one c s sites (Bind target this args) (suc n) n _ o r ready (omega arith)
         (also_on (λ b. also (get_member b (codes "bind")) (λ g. eval_args calls (inside c) (value_exprs (this ∷ args)) [] (calls.call g b)))
-        (reference_read c s sites r calls (suc n) lead each target (and_from (nat_lt target.0 (built_in_count + length sites)) true parts.0 refl))
+        (reference_read c s sites r calls (suc n) lead each target (and_from (nat_lt target.0 (first_thing + length sites)) true parts.0 refl))
         ∙ also_on (λ g. eval_args calls (inside c) (value_exprs (this ∷ args)) [] (calls.call g base))
         (plain_read c s sites r calls (suc n) at (codes "bind") bind_unhosted ∙ ap (λ (v : Option Value). Ended (Val (unwrap_or v Undefined)) s (suc n)) able.1)
         ∙ arguments_read c s sites r calls (suc n) lead each (this ∷ args) [] (calls.call f base) range parts.1
         ∙ native_called d built_in.FunctionPrototypeBind (function_place built_in.FunctionPrototypeBind) base vs s n (is_bind c s sites r)
         ∙ ap (λ b. (choose b (bind_to at (sited_value sites this) (sited_values sites args)) (raise WrongArgument)).run s n) able.0
-        ∙ ap (λ (x : Outcome ObjId). then_on x object_of) (ready_run o s n ready)) refl
+        ∙ ap (λ (x : Outcome ObjId). then_on x object_of) (ready_run o s n ready)) refl refl

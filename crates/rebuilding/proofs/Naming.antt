@@ -8,6 +8,7 @@ use Rattle.std.specs.List.{position, position_or_len}
 use Rattle.std.specs.List.Sorted.{IsStrictlyIncreasing}
 use Rattle.js_core.specs.Tree.{Code}
 use Rattle.js_values.specs.declared.ids.EnvId.{EnvId}
+use Rattle.js_values.specs.declared.ids.NodeId.{NodeId}
 use Rattle.object_heap.specs.Chain.{object_at}
 use Rattle.object_heap.specs.Heap.{Contents}
 use Rattle.object_heap.specs.Object.{Object}
@@ -18,13 +19,13 @@ use Rattle.heap_relations.specs.Naming.{Base, here, In, Pair, pair, there, World
 use Rattle.agreement.specs.Trees.{code_fits, HasEqualTrees}
 use Rattle.heap_walker.specs.Things.{is_in}
 use Rattle.rebuild_plan.specs.Compact.{place_of, placed}
+use Rattle.rebuild_plan.specs.Moved.{first_thing}
 use Rattle.rebuilding.specs.Frames.{round_frame}
 use Rattle.rebuilding.specs.Rebuilt.{nth}
-use Rattle.rebuilding.specs.Scene.{frame_count}
 use Rattle.rebuilding.specs.Sites.{site}
 use Rattle.rebuilding.proofs.Basics.{found_below}
 use Rattle.rebuilding.proofs.Placed.{site_thing}
-use Rattle.page_meaning.specs.Places.{built_in_count}
+use Rattle.page_meaning.specs.Places.{document}
 
 -- ---- the world
 
@@ -52,14 +53,28 @@ bases_of os ps [] js = []
 bases_of os ps (k ∷ ks) [] = []
 bases_of os ps (k ∷ ks) (j ∷ js) = base_of (object_at os k).class (object_at ps j).class ++ bases_of os ps ks js
 
+abbrev pub node_pair_with : ℕ → Class → List Pair
+node_pair_with a (class.Node b) = pair a b.0 ∷ []
+node_pair_with a c = []
+
+-- the nodes of these classes
+abbrev pub node_pair_of : Class → Class → List Pair
+node_pair_of (class.Node a) d = node_pair_with a.0 d
+node_pair_of c d = []
+
+abbrev pub node_pairs : List Object → List Object → List ℕ → List ℕ → List Pair
+node_pairs os ps [] js = []
+node_pairs os ps (k ∷ ks) [] = []
+node_pairs os ps (k ∷ ks) (j ∷ js) = node_pair_of (object_at os k).class (object_at ps j).class ++ node_pairs os ps ks js
+
 abbrev pub rebuilt_world : Store → Contents → List ℕ → List ℕ → World
 rebuilt_world s h things sites = record {
   opens = false;
   opened = λ n fs c. c;
   fits = λ n. code_fits;
   before = record { one = s.lines; two = []; one_clock = s.host.clock; two_clock = 0 };
-  objects = same_below frame_count ++ pairs things sites;
-  nodes = same_below 4;
+  objects = same_below first_thing ++ pairs things sites;
+  nodes = node_pairs s.heap.objects h.objects (document.0 ∷ things) (document.0 ∷ sites);
   slots = [];
   done = [];
   bases = bases_of s.heap.objects h.objects things sites;
@@ -178,6 +193,48 @@ based_at os ps (k ∷ ks) (j ∷ js) (suc n) below same source other env round o
     in_right _ (base_of (object_at os k).class (object_at ps j).class) (bases_of os ps ks js)
     (based_at os ps ks js n (omega (arith, below)) (omega (arith, same)) source other env round one two)
 
+-- ---- nodes
+
+-- the nodes are those of objects of these classes
+pub record IsNodePair (c d : Class) (a b : ℕ) : Type 0 where
+  pub one : c ≡ class.Node (record { 0 = a })
+  pub two : d ≡ class.Node (record { 0 = b })
+
+node_pair_is_with : (k : NodeId) (d : Class) (a b : ℕ) → In (pair a b) (node_pair_with k.0 d) → IsNodePair (class.Node k) d a b
+node_pair_is_with k (class.Node j) a b here = record { one = refl; two = refl }
+node_pair_is_with k (class.Node j) a b (there i) = elim i [ ]
+node_pair_is_with k d a b i = elim i [ ]
+
+node_pair_is : (c d : Class) (a b : ℕ) → In (pair a b) (node_pair_of c d) → IsNodePair c d a b
+node_pair_is (class.Node k) d a b i = node_pair_is_with k d a b i
+node_pair_is c d a b i = elim i [ ]
+
+pub record IsNodePairAt (os ps : List Object) (ks js : List ℕ) (a b : ℕ) : Type 0 where
+  pub place : ℕ
+  pub below : place < length ks
+  pub is : IsNodePair (object_at os (nth ks place)).class (object_at ps (nth js place)).class a b
+
+pub node_pair_at : (os ps : List Object) (ks js : List ℕ) (a b : ℕ) → In (pair a b) (node_pairs os ps ks js) → IsNodePairAt os ps ks js a b
+node_pair_at os ps [] js a b i = elim i [ ]
+node_pair_at os ps (k ∷ ks) [] a b i = elim i [ ]
+node_pair_at os ps (k ∷ ks) (j ∷ js) a b i =
+    by (in_either (pair a b) (node_pair_of (object_at os k).class (object_at ps j).class) (node_pairs os ps ks js) i) (λ more. node_pair_at os ps ks js a b more)
+  where
+    by : In (pair a b) (node_pair_of (object_at os k).class (object_at ps j).class) ⊎ In (pair a b) (node_pairs os ps ks js)
+        → (In (pair a b) (node_pairs os ps ks js) → IsNodePairAt os ps ks js a b) → IsNodePairAt os ps (k ∷ ks) (j ∷ js) a b
+    by (inl first) later = record { place = 0; below = omega arith; is = node_pair_is (object_at os k).class (object_at ps j).class a b first }
+    by (inr more) later = let h = later more in record { place = suc h.place; below = omega (arith, h.below); is = h.is }
+
+pub nodes_paired : (os ps : List Object) (ks js : List ℕ) (n : ℕ) → n < length ks → length js ≡ length ks → (a b : NodeId)
+    → (object_at os (nth ks n)).class ≡ class.Node a → (object_at ps (nth js n)).class ≡ class.Node b → In (pair a.0 b.0) (node_pairs os ps ks js)
+nodes_paired os ps [] js n below same a b one two = absurd (omega (arith, below))
+nodes_paired os ps (k ∷ ks) [] n below same a b one two = absurd (omega (arith, same))
+nodes_paired os ps (k ∷ ks) (j ∷ js) zero below same a b one two =
+    in_left _ (node_pair_of (object_at os k).class (object_at ps j).class) (node_pairs os ps ks js) (rw (one, two) here)
+nodes_paired os ps (k ∷ ks) (j ∷ js) (suc n) below same a b one two =
+    in_right _ (node_pair_of (object_at os k).class (object_at ps j).class) (node_pairs os ps ks js)
+    (nodes_paired os ps ks js n (omega (arith, below)) (omega (arith, same)) a b one two)
+
 -- ---- places
 
 -- numbers that rise are the same only at the same place
@@ -214,13 +271,13 @@ thing_at things sites k found =
       two = ap (λ o. site sites (placed k o)) is ∙ site_thing sites i;
     }
 
--- what is built in stands where it stood
-pub site_of_built_in : (things sites : List ℕ) (k : ℕ) → k < built_in_count → ((n : ℕ) → n < length things → built_in_count ≤ nth things n)
+-- what is built in stands where it stood, and so does the document
+pub site_of_built_in : (things sites : List ℕ) (k : ℕ) → k < first_thing → ((n : ℕ) → n < length things → first_thing ≤ nth things n)
     → site sites (place_of things k) ≡ k
 site_of_built_in things sites k low young = by (position (nat_eq k) things) refl
   where
     by : (o : Option ℕ) → position (nat_eq k) things ≡ o → site sites (place_of things k) ≡ k
-    by None is = ap (λ o. site sites (placed k o)) is ∙ rw (lt-ltb k built_in_count low) refl
+    by None is = ap (λ o. site sites (placed k o)) is ∙ rw (lt-ltb k first_thing low) refl
     by (Some i) is =
         let found = position-Some (nat_eq k) things i 0 is in
         absurd (omega (arith, low, young i found.0, eqb-true k (nth things i) found.1))
@@ -228,21 +285,21 @@ site_of_built_in things sites k low young = by (position (nat_eq k) things) refl
 -- ---- what the world names
 
 pub data IsPair (things sites : List ℕ) (a b : ℕ) : Type 0 where
-  built_in : a ≡ b → a < frame_count → IsPair things sites a b
+  built_in : a ≡ b → a < first_thing → IsPair things sites a b
   thing : ArePlaced things sites a b → IsPair things sites a b
 
 module _ (things sites : List ℕ) where
-  pub pair_is : (a b : ℕ) → In (pair a b) (same_below frame_count ++ pairs things sites) → IsPair things sites a b
-  pair_is a b i = by (in_either (pair a b) (same_below frame_count) (pairs things sites) i)
+  pub pair_is : (a b : ℕ) → In (pair a b) (same_below first_thing ++ pairs things sites) → IsPair things sites a b
+  pair_is a b i = by (in_either (pair a b) (same_below first_thing) (pairs things sites) i)
     where
-      by : In (pair a b) (same_below frame_count) ⊎ In (pair a b) (pairs things sites) → IsPair things sites a b
-      by (inl j) = let h = is_same frame_count a b j in built_in h.same h.below
+      by : In (pair a b) (same_below first_thing) ⊎ In (pair a b) (pairs things sites) → IsPair things sites a b
+      by (inl j) = let h = is_same first_thing a b j in built_in h.same h.below
       by (inr j) = thing (pair_at things sites a b j)
 
-  pub built_in_paired : (k : ℕ) → k < frame_count → In (pair k k) (same_below frame_count ++ pairs things sites)
-  built_in_paired k low = in_left (pair k k) (same_below frame_count) (pairs things sites) (below_named frame_count k low)
+  pub built_in_paired : (k : ℕ) → k < first_thing → In (pair k k) (same_below first_thing ++ pairs things sites)
+  built_in_paired k low = in_left (pair k k) (same_below first_thing) (pairs things sites) (below_named first_thing k low)
 
   pub thing_paired : length sites ≡ length things → (n : ℕ) → n < length things
-      → In (pair (nth things n) (nth sites n)) (same_below frame_count ++ pairs things sites)
+      → In (pair (nth things n) (nth sites n)) (same_below first_thing ++ pairs things sites)
   thing_paired same n below =
-      in_right (pair (nth things n) (nth sites n)) (same_below frame_count) (pairs things sites) (paired things sites n below same)
+      in_right (pair (nth things n) (nth sites n)) (same_below first_thing) (pairs things sites) (paired things sites n below same)

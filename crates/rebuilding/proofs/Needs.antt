@@ -34,7 +34,8 @@ use Rattle.rebuilding.proofs.Calling.{also_on}
 use Rattle.rebuilding.proofs.Closures.{Closes, closed_over, function_in, function_is, function_run, function_running, function_stays, names_are, names_running, names_stay, names_there, opened_same, with_function, with_environment}
 use Rattle.rebuilding.proofs.Making.{Makes}
 use Rattle.rebuilding.proofs.Reading.{arguments_read}
-use Rattle.rebuilding.proofs.Staying.{stays_on}
+use Rattle.rebuilding.proofs.Staying.{hosting_stays, stays_on}
+use Rattle.rebuild_plan.specs.Moved.{first_thing}
 
 -- ---- what it needs, as arguments
 
@@ -63,6 +64,9 @@ module _ (c : Scene) (s : Store) (sites : List ℕ) (r : IsRunning c s.heap site
       let made = closed_over c s sites r n c.env [] none_needed k in
       record {
         after = made.after;
+        host = s.host;
+        has_host = refl;
+        hosting = hosting_stays s.heap made.after s.host made.stays;
         place = made.place;
         left = n;
         steps = omega arith;
@@ -132,7 +136,7 @@ module _ (c : Scene) (s : Store) (sites : List ℕ) (r : IsRunning c s.heap site
         (ap (λ (o : Object). o.class) (function_is c s.heap sites r round env))
         ∙ entered vs same
 
-    pub needy_function_made : PathsLead → EachHasPath → all_below (built_in_count + length sites) (needs_links needs) ≡ true
+    pub needy_function_made : PathsLead → EachHasPath → all_below (first_thing + length sites) (needs_links needs) ≡ true
         → All IsLiteral (need_values needs)
         → Makes c s sites (Func k needs) (suc n)
         ((eval (calls_at (suc d)) (inside c) (tree.call (func (binder k needs)) (need_exprs needs))).run s (suc n))
@@ -140,9 +144,13 @@ module _ (c : Scene) (s : Store) (sites : List ℕ) (r : IsRunning c s.heap site
         let calls = calls_at (suc d) in
         let f : List Value → Act = calls.call (Reference (at_place place)) Undefined in
         let vs : List Value = sited_values sites (need_values needs) in
-        let stand = subst (λ ks. all_below (built_in_count + length sites) ks ≡ true) (links_same needs) stands in
+        let stand = subst (λ ks. all_below (first_thing + length sites) ks ≡ true) (links_same needs) stands in
         record {
           after = closed.after;
+          host = s.host;
+          has_host = refl;
+          hosting = hosting_stays s.heap closed.after s.host (stays_on s.heap g closed.after [] (function_stays c s.heap sites r round env)
+              (stays_on g j closed.after [] (names_stay c g sites running c.env running.scope_there names) closed.stays));
           place = closed.place;
           left = n;
           steps = omega arith;

@@ -27,10 +27,15 @@ use Rattle.page_meaning.specs.HostNames.{is_kept}
 use Rattle.page_meaning.specs.Pristine.{built_ins}
 use Rattle.page_meaning.specs.Steps.{define_tried, put_tried}
 use Rattle.page_meaning.specs.Store.{Store}
-use Rattle.heap_walker.specs.Bare.{is_ordinary}
 use Rattle.object_shapes.specs.Shapes.{built_in_at}
 use Rattle.rebuilding.proofs.Indices.{decimal_apart}
 use Rattle.rebuilding.proofs.Placed.{at_or}
+
+-- it is neither a node nor an event
+abbrev pub is_ordinary : Class → Bool
+is_ordinary (class.Node k) = false
+is_ordinary (class.Event parts) = false
+is_ordinary c = true
 
 -- ---- nothing is kept from them
 
@@ -48,6 +53,11 @@ pub define_free : (s : Store) (at : ObjId) (x : List ℕ) (change : Change) → 
 define_free s at x change free =
     cond-false (is_kept s.host.nodes (class_at s at) x) (throws s.heap CannotDefine) (define_own s.heap at.0 x change)
     (free_at s.host.nodes (class_at s at) x free)
+
+-- what is kept from no object of the class
+pub define_unkept : (s : Store) (at : ObjId) (x : List ℕ) (change : Change) → is_kept s.host.nodes (class_at s at) x ≡ false
+    → define_tried s at x change ≡ define_own s.heap at.0 x change
+define_unkept s at x change free = cond-false (is_kept s.host.nodes (class_at s at) x) (throws s.heap CannotDefine) (define_own s.heap at.0 x change) free
 
 -- ---- names that are none of the host's
 
@@ -116,3 +126,12 @@ pub free_prevented : (o : Object) → is_ordinary o.class ≡ true → is_ordina
 unfolding prevent_extensions
 free_prevented o free =
     same_kind (object.prevented o).after.class o.class (kinds_steps (alone o) (prevents 0 ∷ []) 0 (omega arith)).0 free
+
+-- nor is it one of another kind
+pub kind_defined : (o : Object) (x : List ℕ) (change : Change) → IsSameKind (object.define_own o x change).after.class o.class
+unfolding define_own
+kind_defined o x change = (kinds_steps (alone o) (defines 0 x change ∷ []) 0 (omega arith)).0
+
+pub kind_prevented : (o : Object) → IsSameKind (object.prevented o).after.class o.class
+unfolding prevent_extensions
+kind_prevented o = (kinds_steps (alone o) (prevents 0 ∷ []) 0 (omega arith)).0

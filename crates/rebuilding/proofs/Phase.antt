@@ -10,48 +10,30 @@ use Rattle.object_heap.specs.Object.{Object}
 use Rattle.object_heap.specs.Property.{Props}
 use Rattle.page_meaning.specs.Places.{window}
 use Rattle.rebuilding.specs.Rebuilt.{nth}
-use Rattle.rebuilding.specs.Scene.{IsRunning, Scene, frame_count, is_site}
+use Rattle.rebuilding.specs.Scene.{IsRunning, Scene, frame_count, is_site, IsHosting}
 use Rattle.rebuilding.proofs.Going.{Going}
 use Rattle.rebuilding.proofs.Basics.{all_at, not_in}
 use Rattle.rebuilding.proofs.Placed.{some_built_in}
-
--- ---- sites
-
-pub site_there : (c : Scene) (h : Contents) (sites : List ℕ) (n : ℕ) → IsRunning c h sites → n < length sites
-    → (frame_count ≤ nth sites n) × (nth sites n < length h.objects)
-site_there c h sites n running inside =
-    let k : ℕ = nth sites n in
-    let is : is_site c h k ≡ true = all_at (is_site c h) sites n running.stand inside in
-    let others : (nat_lt k (length h.objects) && not (nat_eq k c.list))
-    ≡ true = (and_parts (nat_le frame_count k) (nat_lt k (length h.objects) && not (nat_eq k c.list)) is).1 in (
-      leb-true frame_count k (and_parts (nat_le frame_count k) (nat_lt k (length h.objects) && not (nat_eq k c.list)) is).0,
-      ltb-true k (length h.objects) (and_parts (nat_lt k (length h.objects)) (not (nat_eq k c.list)) others).0,
-    )
-
-sites_differ : (sites : List ℕ) (m n : ℕ) → IsStrictlyIncreasing sites → m < length sites → n < length sites → (m ≡ n → ⊥) → nth sites m
-    ≡ nth sites n → ⊥
-sites_differ sites m n rising left right other same = by (cases_order m n)
-  where
-    by : (m ≡ n) ⊎ ((m < n) ⊎ (n < m)) → ⊥
-    by (inl equal) = other equal
-    by (inr (inl below)) = omega (arith, AllPairs-from_increasing sites rising m n 0 below right, same)
-    by (inr (inr above)) = omega (arith, AllPairs-from_increasing sites rising n m 0 above left, same)
+use Rattle.rebuilding.proofs.SitesApart.{site_there, sites_differ}
+use Rattle.page_host.specs.Host.{Host}
 
 -- ---- the state of a phase
 
 -- since the page was g, each thing became its state, and the global object has these properties
-pub record Phase (c : Scene) (g h : Contents) (sites : List ℕ) (own : Props) (state : ℕ → Object) : Type 0 where
+pub record Phase (c : Scene) (g h : Contents) (w : Host) (sites : List ℕ) (own : Props) (state : ℕ → Object) : Type 0 where
   pub running : IsRunning c h sites
+  pub hosting : IsHosting h w
   pub more_environments : length g.environments ≤ length h.environments
   pub environments : (k : ℕ) → k < length g.environments → environment_at h.environments k ≡ environment_at g.environments k
   pub things : (n : ℕ) → n < length sites → object_at h.objects (nth sites n) ≡ state n
   pub globals : (object_at h.objects window.0).props ≡ own
 
 -- once the globals are defined
-pub phase_begins : (c : Scene) (g h : Contents) (sites : List ℕ) (o : Object) → IsRunning c g sites → Going c g h sites window.0 o
-    → Phase c g h sites o.props (λ n. object_at g.objects (nth sites n))
-phase_begins c g h sites o running going = record {
+pub phase_begins : (c : Scene) (g h : Contents) (w : Host) (sites : List ℕ) (o : Object) → IsRunning c g sites → Going c g h w sites window.0 o
+    → Phase c g h w sites o.props (λ n. object_at g.objects (nth sites n))
+phase_begins c g h w sites o running going = record {
   running = going.running;
+  hosting = going.hosting;
   more_environments = going.stays.more_environments;
   environments = going.stays.environments;
   things =
@@ -61,11 +43,12 @@ phase_begins c g h sites o running going = record {
 }
 
 -- one thing changes
-pub phase_next : (c : Scene) (g h i : Contents) (sites : List ℕ) (own : Props) (state next : ℕ → Object) (n : ℕ) (o : Object)
-    → Phase c g h sites own state → n < length sites
-    → Going c h i sites (nth sites n) o → next n ≡ o → ((m : ℕ) → (m ≡ n → ⊥) → next m ≡ state m) → Phase c g i sites own next
-phase_next c g h i sites own state next n o phase inside going is kept = record {
+pub phase_next : (c : Scene) (g h i : Contents) (w : Host) (sites : List ℕ) (own : Props) (state next : ℕ → Object) (n : ℕ) (o : Object)
+    → Phase c g h w sites own state → n < length sites
+    → Going c h i w sites (nth sites n) o → next n ≡ o → ((m : ℕ) → (m ≡ n → ⊥) → next m ≡ state m) → Phase c g i w sites own next
+phase_next c g h i w sites own state next n o phase inside going is kept = record {
   running = going.running;
+  hosting = going.hosting;
   more_environments = omega (arith, phase.more_environments, going.stays.more_environments);
   environments = λ k there. going.stays.environments k (omega (arith, there, phase.more_environments)) ∙ phase.environments k there;
   things = λ m within. by m within (cases_eq m n);
@@ -86,10 +69,11 @@ phase_next c g h i sites own state next n o phase inside going is kept = record 
         ∙ phase.things m within ∙ sym (kept m other)
 
 -- the same states in other words
-pub phase_same : (c : Scene) (g h : Contents) (sites : List ℕ) (own : Props) (state next : ℕ → Object) → Phase c g h sites own state
-    → ((n : ℕ) → n < length sites → next n ≡ state n) → Phase c g h sites own next
-phase_same c g h sites own state next phase same = record {
+pub phase_same : (c : Scene) (g h : Contents) (w : Host) (sites : List ℕ) (own : Props) (state next : ℕ → Object) → Phase c g h w sites own state
+    → ((n : ℕ) → n < length sites → next n ≡ state n) → Phase c g h w sites own next
+phase_same c g h w sites own state next phase same = record {
   running = phase.running;
+  hosting = phase.hosting;
   more_environments = phase.more_environments;
   environments = phase.environments;
   things = λ n inside. phase.things n inside ∙ sym (same n inside);

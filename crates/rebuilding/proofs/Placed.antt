@@ -18,6 +18,7 @@ use Rattle.page_meaning.specs.Places.{array_prototype_place, error_prototype, er
 use Rattle.page_meaning.specs.Store.{Store}
 use Rattle.rebuild_plan.specs.Compact.{moved_proto, place_of, placed}
 use Rattle.heap_walker.proofs.Callers.{thing_of}
+use Rattle.rebuild_plan.specs.Moved.{first_thing}
 use Rattle.rebuilding.specs.Rebuilt.{nth}
 use Rattle.rebuilding.specs.Sites.{site, sited_needs, sited_proto, sited_value, sited_values}
 use Rattle.rebuilding.proofs.Basics.{found_below}
@@ -72,9 +73,9 @@ place_in things i inside = list_any_at (nat_eq (nth things i)) things i 0 inside
 pub is_thing_at : (s : Store) (things : List ℕ) (i : ℕ) → IsWalk s things → i < length things → is_thing s (nth things i) ≡ true
 is_thing_at s things i walk inside = thing_of s (nth things i) (walk.sound (nth things i) (place_in things i inside))
 
--- what is built in keeps its place
-pub place_built_in : (s : Store) (things : List ℕ) (k : ℕ) → IsWalk s things → k < built_in_count → place_of things k ≡ k
-place_built_in s things k walk low = by (position (nat_eq k) things) refl
+-- what is built in keeps its place, and so does the document
+pub place_low : (s : Store) (things : List ℕ) (k : ℕ) → IsWalk s things → k < first_thing → place_of things k ≡ k
+place_low s things k walk low = by (position (nat_eq k) things) refl
   where
     by : (o : Option ℕ) → position (nat_eq k) things ≡ o → place_of things k ≡ k
     by None is = ap (placed k) is
@@ -84,9 +85,12 @@ place_built_in s things k walk low = by (position (nat_eq k) things) refl
         let high : built_in_count < nth things i = ltb-true built_in_count (nth things i) (and_parts _ _ (is_thing_at s things i walk found.0)).0 in
         absurd (omega (arith, low, same, high))
 
+pub place_built_in : (s : Store) (things : List ℕ) (k : ℕ) → IsWalk s things → k < built_in_count → place_of things k ≡ k
+place_built_in s things k walk low = place_low s things k walk (omega (arith, low))
+
 -- the place of a thing, which has this number
 pub number_at : (things : List ℕ) (k : ℕ) → is_in k things ≡ true
-    → (i : ℕ) × (place_of things k ≡ built_in_count + i) × (i < length things) × (nth things i ≡ k)
+    → (i : ℕ) × (place_of things k ≡ first_thing + i) × (i < length things) × (nth things i ≡ k)
 number_at things k h =
     let i : ℕ = position_or_len (nat_eq k) things in
     let inside : i < length things = found_below (nat_eq k) things h in
@@ -95,13 +99,16 @@ number_at things k h =
 
 -- ---- sites
 
-pub site_built_in : (sites : List ℕ) (k : ℕ) → k < built_in_count → site sites k ≡ k
-site_built_in sites k low = rw (lt-ltb k built_in_count low) refl
+pub site_low : (sites : List ℕ) (k : ℕ) → k < first_thing → site sites k ≡ k
+site_low sites k low = rw (lt-ltb k first_thing low) refl
 
-pub site_thing : (sites : List ℕ) (n : ℕ) → site sites (built_in_count + n) ≡ nth sites n
+pub site_built_in : (sites : List ℕ) (k : ℕ) → k < built_in_count → site sites k ≡ k
+site_built_in sites k low = site_low sites k (omega (arith, low))
+
+pub site_thing : (sites : List ℕ) (n : ℕ) → site sites (first_thing + n) ≡ nth sites n
 site_thing sites n =
-    let high : nat_lt (built_in_count + n) built_in_count ≡ false = le-ltb (built_in_count + n) built_in_count (omega arith) in
-    let back : (built_in_count + n) - built_in_count ≡ n = omega arith in
+    let high : nat_lt (first_thing + n) first_thing ≡ false = le-ltb (first_thing + n) first_thing (omega arith) in
+    let back : (first_thing + n) - first_thing ≡ n = omega arith in
     rw high (ap (nth sites) back)
 
 pub nth_more : (sites : List ℕ) (place j : ℕ) → j < length sites → nth (sites ++ place ∷ []) j ≡ nth sites j
@@ -111,14 +118,14 @@ pub nth_last : (sites : List ℕ) (place : ℕ) → nth (sites ++ place ∷ []) 
 nth_last sites place = get_or-append_seam sites place [] 0
 
 -- what stands stays where it is when one more thing is made
-pub site_more : (sites : List ℕ) (place k : ℕ) → k < built_in_count + length sites → site (sites ++ place ∷ []) k ≡ site sites k
-site_more sites place k stands = by (nat_lt k built_in_count) refl
+pub site_more : (sites : List ℕ) (place k : ℕ) → k < first_thing + length sites → site (sites ++ place ∷ []) k ≡ site sites k
+site_more sites place k stands = by (nat_lt k first_thing) refl
   where
-    by : (b : Bool) → nat_lt k built_in_count ≡ b → site (sites ++ place ∷ []) k ≡ site sites k
+    by : (b : Bool) → nat_lt k first_thing ≡ b → site (sites ++ place ∷ []) k ≡ site sites k
     by true low = rw low refl
     by false high =
-        let past : built_in_count ≤ k = ltb-false k built_in_count high in
-        rw high (nth_more sites place (k - built_in_count) (omega (arith, past, stands)))
+        let past : first_thing ≤ k = ltb-false k first_thing high in
+        rw high (nth_more sites place (k - first_thing) (omega (arith, past, stands)))
 
 -- a built-in prototype is that of the rebuilt object
 pub proto_built_in : (s : Store) (things sites : List ℕ) (k : ℕ) → IsWalk s things → k < built_in_count
@@ -130,13 +137,13 @@ proto_built_in s things sites k walk low =
 
 module _ (sites : List ℕ) (place : ℕ) where
   abbrev stand : List ℕ → Bool
-  stand ks = all_below (built_in_count + length sites) ks
+  stand ks = all_below (first_thing + length sites) ks
 
   abbrev after : List ℕ
   after = sites ++ place ∷ []
 
-  pub site_stays : (k : ℕ) → nat_lt k (built_in_count + length sites) ≡ true → site after k ≡ site sites k
-  site_stays k h = site_more sites place k (ltb-true k (built_in_count + length sites) h)
+  pub site_stays : (k : ℕ) → nat_lt k (first_thing + length sites) ≡ true → site after k ≡ site sites k
+  site_stays k h = site_more sites place k (ltb-true k (first_thing + length sites) h)
 
   pub value_stays : (v : Value) → stand (value_links v) ≡ true → sited_value after v ≡ sited_value sites v
   value_stays (value.Object at) h = ap (λ n. value.Object (record { 0 = n })) (site_stays at.0 (and_parts _ _ h).0)
@@ -149,7 +156,7 @@ module _ (sites : List ℕ) (place : ℕ) where
   pub values_stay : (vs : List Value) → stand (values_links vs) ≡ true → sited_values after vs ≡ sited_values sites vs
   values_stay [] h = refl
   values_stay (v ∷ vs) h =
-      let split = sym (list_all-append (λ k. nat_lt k (built_in_count + length sites)) (value_links v) (values_links vs)) ∙ h in
+      let split = sym (list_all-append (λ k. nat_lt k (first_thing + length sites)) (value_links v) (values_links vs)) ∙ h in
       let here = value_stays v (and_parts _ _ split).0 in
       let others = values_stay vs (and_parts _ _ split).1 in
       (λ i. here i ∷ others i)
@@ -157,7 +164,7 @@ module _ (sites : List ℕ) (place : ℕ) where
   pub needs_stay : (ns : List (List ℕ × Value)) → stand (needs_links ns) ≡ true → sited_needs after ns ≡ sited_needs sites ns
   needs_stay [] h = refl
   needs_stay (n ∷ ns) h =
-      let split = sym (list_all-append (λ k. nat_lt k (built_in_count + length sites)) (value_links n.1) (needs_links ns)) ∙ h in
+      let split = sym (list_all-append (λ k. nat_lt k (first_thing + length sites)) (value_links n.1) (needs_links ns)) ∙ h in
       let here = value_stays n.1 (and_parts _ _ split).0 in
       let others = needs_stay ns (and_parts _ _ split).1 in
       (λ i. (n.0, here i) ∷ others i)

@@ -14,14 +14,15 @@ use Rattle.rebuild_plan.specs.Compact.{Thing}
 use Rattle.rebuild_plan.specs.Plan.{prevent, thing_place}
 use Rattle.rebuild_plan.specs.declared.statement.Rebuild.{Rebuild}
 use Rattle.rebuild_plan.specs.declared.statement.Rebuild.TheVariants.{Prevent}
-use Rattle.rebuilding.specs.Rebuilt.{ClassIsRebuilt, IsRebuiltAs, Succeeds, bound, fault, list, nth, page, plain}
+use Rattle.rebuilding.specs.Rebuilt.{ClassIsRebuilt, IsRebuiltAs, Succeeds, bound, fault, list, nth, page, plain, event, node}
 use Rattle.rebuilding.specs.Scene.{Scene}
-use Rattle.rebuilding.proofs.FillSteps.{class_ordinary, class_window, filled}
+use Rattle.rebuilding.proofs.FillSteps.{class_window, filled}
 use Rattle.rebuilding.proofs.Going.{Allowed, Going, going_begins, prevent_next}
 use Rattle.rebuilding.proofs.Lasting.{round_stays}
 use Rattle.rebuilding.proofs.Stages.{IsFresh}
 use Rattle.rebuilding.proofs.Placed.{site_thing}
 use Rattle.rebuilding.proofs.EachThing.{StepSucceeds}
+use Rattle.page_host.specs.Host.{Host}
 
 -- a thing as it was saved
 abbrev pub finished : Contents → Store → List ℕ → List ℕ → ℕ → Object
@@ -34,26 +35,26 @@ prevents : (o : Object) → o.closed ≡ false → is_window o.class ≡ false �
 prevents o closed window =
     cond-false (o.closed || is_window o.class) (throws o CannotDefine) (done (not_extensible o)) (or_from o.closed (is_window o.class) closed window)
 
-module _ (c : Scene) (End : Contents → List ℕ → Type 0) (sites : List ℕ) (h : Contents) (n : ℕ) (o : Object) (rs : List Rebuild)
+module _ (c : Scene) (End : Contents → Host → List ℕ → Type 0) (sites : List ℕ) (h : Contents) (w : Host) (n : ℕ) (o : Object) (rs : List Rebuild)
     (closed : o.closed ≡ false) (window : is_window o.class ≡ false) (extensible : o.extensible ≡ true)
-    (going : Going c h h sites (nth sites n) o) where
+    (going : Going c h h w sites (nth sites n) o) where
   one_prevented : (b : Bool) → Allowed (length sites) ((if b then [] else Prevent (thing_place n) ∷ []) ++ rs)
-      → ((i : Contents) → Going c h i sites (nth sites n) (with_extensible o b) → Allowed (length sites) rs → Succeeds c End i sites rs)
-      → Succeeds c End h sites ((if b then [] else Prevent (thing_place n) ∷ []) ++ rs)
-  one_prevented true allowed later = later h (subst (Going c h h sites (nth sites n)) (ap (with_extensible o) extensible) going) allowed
+      → ((i : Contents) → Going c h i w sites (nth sites n) (with_extensible o b) → Allowed (length sites) rs → Succeeds c End i w sites rs)
+      → Succeeds c End h w sites ((if b then [] else Prevent (thing_place n) ∷ []) ++ rs)
+  one_prevented true allowed later = later h (subst (Going c h h w sites (nth sites n)) (ap (with_extensible o) extensible) going) allowed
   one_prevented false allowed later =
-      prevent_next c End sites h h (thing_place n) rs o (not_extensible o)
-      (subst (λ k. Going c h h sites k o) (sym (site_thing sites n)) going) allowed (prevents o closed window)
-      (λ i now more. later i (subst (λ k. Going c h i sites k (not_extensible o)) (site_thing sites n) now) more)
+      prevent_next c End sites h w h (thing_place n) rs o (not_extensible o)
+      (subst (λ k. Going c h h w sites k o) (sym (site_thing sites n)) going) allowed (prevents o closed window)
+      (λ i now more. later i (subst (λ k. Going c h i w sites k (not_extensible o)) (site_thing sites n) now) more)
 
-pub prevent_step : (c : Scene) (End : Contents → List ℕ → Type 0) (s : Store) (things sites : List ℕ) (g : Contents)
+pub prevent_step : (c : Scene) (End : Contents → Host → List ℕ → Type 0) (s : Store) (things sites : List ℕ) (g : Contents) (w : Host)
     → ((n : ℕ) → n < length things
     → IsFresh c g.environments s things sites (nth sites n) (object_at s.heap.objects (nth things n)) (object_at g.objects (nth sites n)))
-    → StepSucceeds c End s things sites (filled g s things sites) (finished g s things sites) prevent_thing
-prevent_step c End s things sites g fresh n h rs inside running is allowed later =
+    → StepSucceeds c End s things sites w (filled g s things sites) (finished g s things sites) prevent_thing
+prevent_step c End s things sites g w fresh n h rs inside running hosting is allowed later =
     let young = fresh n inside in
     let o : Object = filled g s things sites n in
-    one_prevented c End sites h n o rs young.closed (class_window young.class) young.extensible (going_begins c h sites (nth sites n) o running (class_ordinary young.class) is)
+    one_prevented c End sites h w n o rs young.closed (class_window young.class) young.extensible (going_begins c h w sites (nth sites n) o running hosting is)
     (object_at s.heap.objects (nth things n)).extensible allowed later
 
 -- ---- where environments stay, classes are rebuilt still
@@ -66,6 +67,8 @@ module _ (c : Scene) (es fs : List Environment) (more : length es ≤ length fs)
   class_stays fault = fault
   class_stays (page {env = env} round) = page {env = env} (round_stays c es fs more same round)
   class_stays bound = bound
+  class_stays node = node
+  class_stays event = event
 
 -- a finished thing is the one that was saved
 pub finished_rebuilt : (c : Scene) (s : Store) (things sites : List ℕ) (g h : Contents) (n : ℕ) → length g.environments ≤ length h.environments

@@ -1,13 +1,13 @@
 -- What a saved page writes of things and values, read in a running scene; and the list, in which a new thing is put.
-use Rattle.std.proofs.Common.{◌≡◌, ◌⊎◌, inl, inr, refl, sym, ap, ◌∙◌, ℕ, suc, ◌+◌, ◌-◌, ◌<◌, ◌≤◌, pos, negsuc, ◌-ℤ◌, true, List, [], ◌∷◌, ◌++◌, Option, Some, None, is_some, length, slice_index_or, nat_lt, bytes_eq, codes, append-nil, append_assoc, Ok, Err, if◌then◌else◌, unwrap_or, arith}
-use Rattle.std.proofs.lemmas.Bool.{and_parts, and_right, cases_lt, cond-false, cond-true, le-leb, le-ltb, lt-ltb, ltb-true}
+use Rattle.std.proofs.Common.{◌≡◌, ◌⊎◌, inl, inr, refl, sym, ap, ◌∙◌, ℕ, suc, ◌+◌, ◌-◌, ◌<◌, ◌≤◌, pos, negsuc, ◌-ℤ◌, true, List, [], ◌∷◌, ◌++◌, Option, Some, None, is_some, length, slice_index_or, nat_lt, bytes_eq, codes, append-nil, append_assoc, Ok, Err, if◌then◌else◌, unwrap_or, arith, subst, Bool, false, nat_eq}
+use Rattle.std.proofs.lemmas.Bool.{and_parts, and_right, cases_lt, cond-false, cond-true, eqb-false, eqb-true, le-leb, le-ltb, lt-ltb, ltb-true}
 use Rattle.std.proofs.lemmas.Int.{ints}
 use Rattle.std.proofs.lemmas.List.Folds.{list_all-append}
 use Rattle.std.specs.Fmt.{decimal}
 use Rattle.std.specs.List.{All}
 use Rattle.std.specs.Option.{option_map}
 use Rattle.built_in_paths.specs.Laws.{EachHasPath, PathsLead}
-use Rattle.built_in_paths.specs.Paths.{path_of}
+use Rattle.built_in_paths.specs.Paths.{held_by, path_of}
 use Rattle.js_core.specs.Tree as tree
 use Rattle.js_core.specs.Tree.{assign}
 use Rattle.js_core.specs.Whole.{InRange, is_whole, largest, nan}
@@ -26,7 +26,8 @@ use Rattle.page_meaning.specs.Act.{Act, Calls, Ended, Outcome, also, choose, giv
 use Rattle.page_meaning.specs.Convert.{as_number, number_of, text_in}
 use Rattle.page_meaning.specs.Errors.{on_refusal, settle}
 use Rattle.page_meaning.specs.Expressions.{assigned, eval, eval_args}
-use Rattle.page_meaning.specs.Places.{at_place, window}
+use Rattle.page_meaning.specs.Places.{at_place, document, window}
+use Rattle.page_meaning.specs.Pristine.{built_ins}
 use Rattle.page_meaning.specs.Properties.{class_at, get_index, key_of, stored}
 use Rattle.page_host.specs.declared.host_name.HostName.{HostName}
 use Rattle.page_meaning.specs.HostPuts.{put_member, put_named}
@@ -34,19 +35,19 @@ use Rattle.page_meaning.specs.Store.{Store, with_heap}
 use Rattle.page_meaning.specs.declared.signal.Signal.{Signal}
 use Rattle.page_meaning.specs.declared.signal.Signal.TheVariants.{Value as Val}
 use Rattle.page_writer.specs.Literals.{IsLiteral}
-use Rattle.page_writer.specs.Statements.{number_expr, reference, reference_over, thing_expr, value_expr, value_exprs}
+use Rattle.page_writer.specs.Statements.{document_expr, number_expr, reference, reference_over, thing_expr, unlisted, value_expr, value_exprs}
 use Rattle.whole_ops.specs.Arithmetic.{whole_or_outside}
 use Rattle.whole_ops.specs.declared.fault.OpFault.TheVariants.{Outside}
 use Rattle.rebuilding.specs.Scene.{IsRunning, Scene, inside}
 use Rattle.rebuilding.specs.Sites.{site, sited, sited_value, sited_values}
 use Rattle.rebuilding.proofs.Indices.{decimal_not_length}
 use Rattle.rebuilding.proofs.List.{element_found, thing_put_in, with_thing}
-use Rattle.heap_walker.specs.Bare.{is_ordinary}
-use Rattle.rebuilding.proofs.Ordinary.{index_unhosted, put_free}
-use Rattle.rebuilding.proofs.Paths.{plain_read, built_in_found, global_read, list_read, path_read, built_ins_count}
+use Rattle.rebuilding.proofs.Ordinary.{index_unhosted, is_ordinary, put_free}
+use Rattle.rebuilding.proofs.Paths.{plain_read, built_in_found, global_read, list_read, name_read, path_read, built_ins_count}
 use Rattle.object_shapes.specs.Shapes.{built_in_at}
 use Rattle.page_meaning.specs.Places.{built_in_count}
 use Rattle.object_shapes.specs.Links.{value_links, values_links, all_below}
+use Rattle.rebuild_plan.specs.Moved.{first_thing}
 
 -- ---- numbers
 
@@ -62,10 +63,16 @@ negative_whole i h = le-leb (suc i) largest (omega (arith, ints, h.0))
 -- ---- places
 
 built_in_sited : (sites : List ℕ) (k : ℕ) → k < built_in_count → site sites k ≡ k
-built_in_sited sites k low = cond-true (nat_lt k built_in_count) _ _ (lt-ltb k built_in_count low)
+built_in_sited sites k low = cond-true (nat_lt k first_thing) _ _ (lt-ltb k first_thing (omega (arith, low)))
 
-thing_sited : (sites : List ℕ) (k : ℕ) → built_in_count ≤ k → site sites k ≡ slice_index_or sites (k - built_in_count) 0
-thing_sited sites k high = cond-false (nat_lt k built_in_count) _ _ (le-ltb k built_in_count high)
+document_held : held_by built_ins window.0 (codes "document") ≡ Some document.0
+document_held = refl
+
+document_sited : (sites : List ℕ) → site sites document.0 ≡ document.0
+document_sited sites = cond-true (nat_lt document.0 first_thing) _ _ (lt-ltb document.0 first_thing (omega arith))
+
+thing_sited : (sites : List ℕ) (k : ℕ) → first_thing ≤ k → site sites k ≡ slice_index_or sites (k - first_thing) 0
+thing_sited sites k high = cond-false (nat_lt k first_thing) _ _ (le-ltb k first_thing high)
 
 one_below : (n k : ℕ) → all_below n (k ∷ []) ≡ true → k < n
 one_below n k h = ltb-true k n (and_parts (nat_lt k n) true h).0
@@ -116,28 +123,37 @@ module _ (c : Scene) (s : Store) (sites : List ℕ) (r : IsRunning c s.heap site
   -- ---- references
 
   module _ (calls : Calls) (n : ℕ) (lead : PathsLead) (each : EachHasPath) where
-    reference_by : (k : ℕ) (path : Option (List ℕ)) → path_of k ≡ path → k < built_in_count + length sites
+    reference_by : (k : ℕ) (path : Option (List ℕ)) → path_of k ≡ path → k < first_thing + length sites
         → (eval calls (inside c) (reference_over k path)).run s n ≡ Ended (Val (Reference (at_place (site sites k)))) s n
     reference_by k (Some path) is there =
         let low : k < built_in_count = omega (arith, (each k).0 (ap is_some is), built_ins_count) in
         path_read c s sites r calls n lead k path is ∙ ap (λ j. Ended (Val (Reference (at_place j))) s n) (sym (built_in_sited sites k low))
-    reference_by k None is there = by (cases_lt k built_in_count)
+    reference_by k None is there = by (cases_lt k built_in_count) (nat_eq k document.0) refl
       where
-        by : (k < built_in_count) ⊎ (built_in_count ≤ k)
-            → (eval calls (inside c) (thing_expr (k - built_in_count))).run s n ≡ Ended (Val (Reference (at_place (site sites k)))) s n
-        by (inl low) = cc (sym (ap is_some is) ∙ (each k).1 (omega (arith, low, built_ins_count)))
-        by (inr high) =
-            thing_read calls n (k - built_in_count) (omega (arith, high, there))
-            ∙ ap (λ j. Ended (Val (Reference (at_place j))) s n) (sym (thing_sited sites k high))
+        Read : tree.Expr → Type 0
+        Read e = (eval calls (inside c) e).run s n ≡ Ended (Val (Reference (at_place (site sites k)))) s n
+
+        document_read : k ≡ document.0 → Read document_expr
+        document_read e =
+            name_read c s sites r calls n (codes "document") document.0 document_held
+            ∙ ap (λ j. Ended (Val (Reference (at_place j))) s n) (sym (ap (site sites) e ∙ document_sited sites))
+
+        by : (k < built_in_count) ⊎ (built_in_count ≤ k) → (b : Bool) → nat_eq k document.0 ≡ b → Read (unlisted k)
+        by (inl low) b which = cc (sym (ap is_some is) ∙ (each k).1 (omega (arith, low, built_ins_count)))
+        by (inr high) true which = subst Read (sym (cond-true (nat_eq k document.0) document_expr (thing_expr (k - first_thing)) which)) (document_read (eqb-true k document.0 which))
+        by (inr high) false which =
+            subst Read (sym (cond-false (nat_eq k document.0) document_expr (thing_expr (k - first_thing)) which))
+            (thing_read calls n (k - first_thing) (omega (arith, high, there, eqb-false k document.0 which))
+            ∙ ap (λ j. Ended (Val (Reference (at_place j))) s n) (sym (thing_sited sites k (omega (arith, high, eqb-false k document.0 which)))))
 
     -- a built-in object or a thing
-    pub reference_read : (at : ObjId) → all_below (built_in_count + length sites) (at.0 ∷ []) ≡ true
+    pub reference_read : (at : ObjId) → all_below (first_thing + length sites) (at.0 ∷ []) ≡ true
         → (eval calls (inside c) (reference at)).run s n ≡ Ended (Val (Reference (sited sites at))) s n
-    reference_read at there = reference_by at.0 (path_of at.0) refl (one_below (built_in_count + length sites) at.0 there)
+    reference_read at there = reference_by at.0 (path_of at.0) refl (one_below (first_thing + length sites) at.0 there)
 
     -- ---- values
 
-    pub value_read : (v : Value) → IsLiteral v → all_below (built_in_count + length sites) (value_links v) ≡ true
+    pub value_read : (v : Value) → IsLiteral v → all_below (first_thing + length sites) (value_links v) ≡ true
         → (eval calls (inside c) (value_expr v)).run s n ≡ Ended (Val (sited_value sites v)) s n
     value_read value.Undefined range there = refl
     value_read value.Null range there = refl
@@ -155,11 +171,11 @@ module _ (c : Scene) (s : Store) (sites : List ℕ) (r : IsRunning c s.heap site
   -- ---- arguments
 
   pub arguments_read : (calls : Calls) (n : ℕ) (lead : PathsLead) (each : EachHasPath) (vs got : List Value) (f : List Value → Act)
-      → All IsLiteral vs → all_below (built_in_count + length sites) (values_links vs) ≡ true
+      → All IsLiteral vs → all_below (first_thing + length sites) (values_links vs) ≡ true
       → (eval_args calls (inside c) (value_exprs vs) got f).run s n ≡ (f (got ++ sited_values sites vs)).run s n
   arguments_read calls n lead each [] got f range there = ap (λ l. (f l).run s n) (sym (append-nil got))
   arguments_read calls n lead each (v ∷ vs) got f range there =
-      let parts = both_below (built_in_count + length sites) (value_links v) (values_links vs) there in
+      let parts = both_below (first_thing + length sites) (value_links v) (values_links vs) there in
       let w = sited_value sites v in
       ap (λ (o : Outcome Signal). then_on o (on_value (λ x. eval_args calls (inside c) (value_exprs vs) (got ++ x ∷ []) f)))
       (value_read calls n lead each v (range 0 v (omega arith)) parts.0)

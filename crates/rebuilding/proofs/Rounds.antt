@@ -73,7 +73,7 @@ module _ (c : Scene) (s : Store) (h : Contents) (things sites others : List ℕ)
   W = rebuilt_world s h things sites
 
   abbrev t : Store
-  t = page_with h
+  t = page_with h s.host
 
   own_sealed : (name : Option (List ℕ)) (needs : Bound) (from to : Option EnvId) → OwnName s k from name → IsRoundOf c h.environments j needs name to
       → (x : List ℕ) → is_own name x ≡ true → SealedRel (named W) Sealed (look_in s.heap.environments from x) (look_in h.environments to x)

@@ -27,8 +27,8 @@ use Rattle.page_meaning.specs.Store.{Store, with_heap}
 use Rattle.page_meaning.specs.declared.signal.Signal.TheVariants.{Value as Val}
 use Rattle.page_writer.specs.Statements.{define_expr, object_function, reference}
 use Rattle.rebuilding.specs.Running.{short_change}
-use Rattle.heap_walker.specs.Bare.{is_ordinary}
-use Rattle.rebuilding.proofs.Ordinary.{define_free}
+use Rattle.page_meaning.specs.HostNames.{is_kept}
+use Rattle.rebuilding.proofs.Ordinary.{define_unkept}
 use Rattle.rebuilding.specs.Scene.{IsRunning, Scene, inside}
 use Rattle.rebuilding.specs.Sites.{sited}
 use Rattle.rebuilding.proofs.Calling.{also_on, define_property_called, is_define_property, is_prevent_extensions, native_called, prevent_extensions_called}
@@ -36,24 +36,25 @@ use Rattle.rebuilding.proofs.Literals.{with_literal}
 use Rattle.rebuilding.proofs.Reading.{reference_read}
 use Rattle.page_meaning.specs.Places.{built_in_count}
 use Rattle.object_shapes.specs.Links.{all_below}
+use Rattle.rebuild_plan.specs.Moved.{first_thing}
 
 -- ---- definitions
 
-define_run : (at : ObjId) (x : List ℕ) (change : Change) (s : Store) (n : ℕ) → is_ordinary (class_at s at) ≡ true → (define_own s.heap at.0 x change).thrown ≡ None
+define_run : (at : ObjId) (x : List ℕ) (change : Change) (s : Store) (n : ℕ) → is_kept s.host.nodes (class_at s at) x ≡ false → (define_own s.heap at.0 x change).thrown ≡ None
     → (define_or_throw at x change).run s n ≡ Ended nothing (with_heap s (define_own s.heap at.0 x change).after) n
 define_run at x change s n free e =
-    ap (λ (a : Attempt Contents). (on_refusal done a.thrown).run (with_heap s a.after) n) (define_free s at x change free)
+    ap (λ (a : Attempt Contents). (on_refusal done a.thrown).run (with_heap s a.after) n) (define_unkept s at x change free)
     ∙ ap (λ (t : Option Throw). (on_refusal done t).run (with_heap s (define_own s.heap at.0 x change).after) n) e
 
 -- of a name that is no array's length
-pub other_defined : (at : ObjId) (x : List ℕ) (change : Change) (s : Store) (n : ℕ) → is_ordinary (class_at s at) ≡ true → is_length_of s at x ≡ false
+pub other_defined : (at : ObjId) (x : List ℕ) (change : Change) (s : Store) (n : ℕ) → is_kept s.host.nodes (class_at s at) x ≡ false → is_length_of s at x ≡ false
     → (define_own s.heap at.0 x change).thrown ≡ None
     → (define_in at x change).run s n ≡ Ended nothing (with_heap s (define_own s.heap at.0 x change).after) n
 other_defined at x change s n free other e =
     ap (λ b. (choose b (define_length at change change.value) (define_or_throw at x change)).run s n) other ∙ define_run at x change s n free e
 
 -- of a length, which is a number already
-pub length_defined : (at : ObjId) (count : ℕ) (writable : Bool) (sites : List ℕ) (s : Store) (n : ℕ) → is_ordinary (class_at s at) ≡ true
+pub length_defined : (at : ObjId) (count : ℕ) (writable : Bool) (sites : List ℕ) (s : Store) (n : ℕ) → is_kept s.host.nodes (class_at s at) length_name ≡ false
     → let change = short_change sites (number count) writable in
     (define_own s.heap at.0 length_name change).thrown ≡ None
     → (define_in at length_name change).run s n ≡ Ended nothing (with_heap s (define_own s.heap at.0 length_name change).after) n
@@ -79,7 +80,7 @@ property_defined calls at d x change s i n asks ends =
 -- ---- statements that call such a function
 
 module _ (c : Scene) (s : Store) (sites : List ℕ) (r : IsRunning c s.heap sites) (lead : PathsLead) (each : EachHasPath) (d n : ℕ) (at : ObjId)
-    (stands : all_below (built_in_count + length sites) (at.0 ∷ []) ≡ true) where
+    (stands : all_below (first_thing + length sites) (at.0 ∷ []) ≡ true) where
   -- `Object.defineProperty` with a descriptor that is an object literal
   pub define_ran : (x : List ℕ) (e : tree.Expr) (props : Props) (change : Change) (i : Contents) → IsRunning c (with_literal s.heap props) sites
       → (eval (calls_at (suc d)) (inside c) e).run s (suc n)

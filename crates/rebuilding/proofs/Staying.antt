@@ -1,12 +1,12 @@
 -- What stays where objects are made and changed: a page on which the statements of a saved page run remains one.
 use Rattle.std.proofs.Common.{◌≡◌, ◌⊎◌, inl, inr, refl, sym, ap, subst, ◌∙◌, ℕ, ◌+◌, ◌-◌, ◌<◌, ◌≤◌, Bool, true, false, not, ◌&&◌, nat_eq, nat_le, nat_lt, List, [], ◌∷◌, Some, None, length, slice_index_or, slice_set, le_refl, le_trans, lt_of_lt_of_le, length-append, length-set, arith}
-use Rattle.std.proofs.lemmas.Bool.{and_from, and_parts, eqb-false, le-leb, leb-true, lt-ltb, ltb-false, ltb-true, ne_eqb, not-true, or_parts}
+use Rattle.std.proofs.lemmas.Bool.{and_from, and_parts, eqb-false, le-leb, leb-true, lt-ltb, ltb-false, ltb-true, ne_eqb, not-true, or_parts, cases_lt, eqb-true}
 use Rattle.std.proofs.lemmas.List.Sums.{AllPass-from_list_all}
 use Rattle.std.specs.List.{list_all}
 use Rattle.std.specs.Option.{ForSome}
 use Rattle.heap_walker.specs.Things.{is_in}
 use Rattle.js_values.specs.declared.ids.ObjId.{ObjId}
-use Rattle.object_heap.proofs.Callers.{object_before, object_set_other, object_set_same, settled_same, sound_pushed}
+use Rattle.object_heap.proofs.Callers.{object_absent, object_before, object_set_other, object_set_same, settled_same, sound_pushed}
 use Rattle.object_heap.specs.Chain.{object_at}
 use Rattle.object_heap.specs.Heap.{Contents, IsFit, IsSound, with_new_object, with_object}
 use Rattle.object_heap.specs.Object.{Object, target_of}
@@ -16,11 +16,17 @@ use Rattle.page_meaning.specs.Places.{window}
 use Rattle.page_meaning.specs.Primitives.{make, next_place}
 use Rattle.page_meaning.specs.Store.{Store, with_heap}
 use Rattle.rebuilding.specs.Running.{Stays}
-use Rattle.rebuilding.specs.Scene.{IsRunning, Scene, frame_count, is_site}
+use Rattle.rebuilding.specs.Scene.{IsDocument, IsHosting, IsRunning, Scene, frame_count, is_site}
+use Rattle.object_heap.specs.Laws.{IsSameKind}
+use Rattle.object_heap.specs.declared.object.Class.{Class}
+use Rattle.object_heap.specs.declared.object.Class.TheVariants as class
+use Rattle.page_host.specs.Host.{Host, object_of_node}
+use Rattle.page_writer.specs.Frame.{nth_node}
 use Rattle.rebuilding.specs.Sites.{site}
 use Rattle.object_shapes.specs.Shapes.{IsWindow}
 use Rattle.rebuilding.proofs.Basics.{not_in}
-use Rattle.page_meaning.specs.Places.{built_in_count}
+use Rattle.page_meaning.specs.Places.{built_in_count, document}
+use Rattle.rebuild_plan.specs.Moved.{first_thing}
 
 -- ---- sites
 
@@ -59,34 +65,37 @@ all_through p q (x ∷ xs) f h =
 
 module _ (c : Scene) (h : Contents) (sites : List ℕ) (r : IsRunning c h sites) where
   -- what is named and not built in is a thing
-  pub site_thing : (k : ℕ) → nat_lt k (built_in_count + length sites) ≡ true → nat_lt k built_in_count ≡ false → Stands c h (site sites k)
+  pub site_thing : (k : ℕ) → nat_lt k (first_thing + length sites) ≡ true → nat_lt k first_thing ≡ false → Stands c h (site sites k)
   site_thing k below e =
-      let there : k - built_in_count < length sites = omega
-      (arith, ltb-false k built_in_count e, ltb-true k (built_in_count + length sites) below) in
-      let passes : is_site c h (slice_index_or sites (k - built_in_count) 0) ≡ true = AllPass-from_list_all (is_site c h) sites r.stand
-      (k - built_in_count) 0 there in
-      rw e (site_stands c h (slice_index_or sites (k - built_in_count) 0) passes)
+      let there : k - first_thing < length sites = omega
+      (arith, ltb-false k first_thing e, ltb-true k (first_thing + length sites) below) in
+      let passes : is_site c h (slice_index_or sites (k - first_thing) 0) ≡ true = AllPass-from_list_all (is_site c h) sites r.stand
+      (k - first_thing) 0 there in
+      rw e (site_stands c h (slice_index_or sites (k - first_thing) 0) passes)
 
   -- what is named stands: it is built in, or a thing
-  pub site_place : (k : ℕ) → nat_lt k (built_in_count + length sites) ≡ true → (site sites k < built_in_count) ⊎ Stands c h (site sites k)
-  site_place k below = by (nat_lt k built_in_count) refl
+  pub site_place : (k : ℕ) → nat_lt k (first_thing + length sites) ≡ true → (site sites k < first_thing) ⊎ Stands c h (site sites k)
+  site_place k below = by (nat_lt k first_thing) refl
     where
-      by : (b : Bool) → nat_lt k built_in_count ≡ b → (site sites k < built_in_count) ⊎ Stands c h (site sites k)
-      by true e = rw e (inl (ltb-true k built_in_count e))
+      by : (b : Bool) → nat_lt k first_thing ≡ b → (site sites k < first_thing) ⊎ Stands c h (site sites k)
+      by true e = rw e (inl (ltb-true k first_thing e))
       by false e = inr (site_thing k below e)
 
-  pub low_there : (k : ℕ) → k < built_in_count → k < length h.objects
-  low_there k low = omega (arith, low, r.list_young, r.list_there)
+  pub begun_there : (k : ℕ) → k < first_thing → k < length h.objects
+  begun_there k low = omega (arith, low, r.list_young, r.list_there)
 
-  pub place_there : (k : ℕ) → (k < built_in_count) ⊎ Stands c h k → k < length h.objects
-  place_there k (inl low) = low_there k low
+  pub low_there : (k : ℕ) → k < built_in_count → k < length h.objects
+  low_there k low = begun_there k (omega (arith, low))
+
+  pub place_there : (k : ℕ) → (k < first_thing) ⊎ Stands c h k → k < length h.objects
+  place_there k (inl low) = begun_there k low
   place_there k (inr s) = s.there
 
-  pub place_other : (k : ℕ) → (k < built_in_count) ⊎ Stands c h k → k ≡ c.list → ⊥
+  pub place_other : (k : ℕ) → (k < first_thing) ⊎ Stands c h k → k ≡ c.list → ⊥
   place_other k (inl low) e = absurd (omega (arith, low, e, r.list_young))
   place_other k (inr s) e = s.other e
 
-  pub site_there : (k : ℕ) → nat_lt k (built_in_count + length sites) ≡ true → site sites k < length h.objects
+  pub site_there : (k : ℕ) → nat_lt k (first_thing + length sites) ≡ true → site sites k < length h.objects
   site_there k below = place_there (site sites k) (site_place k below)
 
   pub window_there : window.0 < length h.objects
@@ -127,13 +136,16 @@ positive : 0 < built_in_count
 unfolding built_in_count
 positive = omega arith
 
+document_there : (c : Scene) (h : Contents) (sites : List ℕ) → IsRunning c h sites → document.0 < length h.objects
+document_there c h sites r = begun_there c h sites r document.0 (omega arith)
+
 pub running_on : (c : Scene) (h i : Contents) (sites but : List ℕ) → IsRunning c h sites → IsSound i → Stays h i but
-    → IsWindow (object_at i.objects window.0)
-    → ((k : ℕ) → 0 < k → k < frame_count → is_in k but ≡ false) → is_in c.list but ≡ false → IsRunning c i sites
-running_on c h i sites but r sound stays rest low other = record {
+    → IsWindow (object_at i.objects window.0) → IsDocument (object_at i.objects document.0)
+    → ((k : ℕ) → 0 < k → k < built_in_count → is_in k but ≡ false) → is_in c.list but ≡ false → IsRunning c i sites
+running_on c h i sites but r sound stays rest first low other = record {
   sound = sound;
-  built_ins = λ k some below. stays.objects k (low_there c h sites r k below) (low k some (omega (arith, below))) ∙ r.built_ins k some below;
-  nodes = λ k below. stays.objects (built_in_count + k) (omega (arith, below, r.list_young, r.list_there)) (low (built_in_count + k) (omega (arith, positive)) (omega (arith, below))) ∙ r.nodes k below;
+  built_ins = λ k some below. stays.objects k (low_there c h sites r k below) (low k some below) ∙ r.built_ins k some below;
+  document = first;
   window = rest;
   list = stays.objects c.list r.list_there other ∙ r.list;
   list_young = r.list_young;
@@ -149,7 +161,39 @@ running_on c h i sites but r sound stays rest low other = record {
 pub running_after : (c : Scene) (h i : Contents) (sites : List ℕ) → IsRunning c h sites → IsSound i → Stays h i [] → IsRunning c i sites
 running_after c h i sites r sound stays =
     running_on c h i sites [] r sound stays (subst IsWindow (sym (stays.objects window.0 (window_there c h sites r) refl)) r.window)
+    (subst IsDocument (sym (stays.objects document.0 (document_there c h sites r) refl)) r.document)
     (λ k positive below. refl) refl
+
+-- ---- the host
+
+-- no object becomes one of another kind
+pub hosting_on : (h i : Contents) (g : Host) → ((k : ℕ) → k < length h.objects → IsSameKind (object_at i.objects k).class (object_at h.objects k).class)
+    → IsHosting h g → IsHosting i g
+hosting_on h i g same is = record { sound = is.sound; objects = λ k low. by k low (cases_lt (place k) (length h.objects)); clock = is.clock }
+  where
+    place : ℕ → ℕ
+    place k = (object_of_node g.objects (nth_node k)).0
+
+    one : (k : ℕ) (a b : Class) → IsSameKind a b → b ≡ class.Node (nth_node k) → a ≡ class.Node (nth_node k)
+    one k a b (inl e) node = e ∙ node
+    one k a b (inr events) node = cc (node, events.1)
+
+    by : (k : ℕ) → k < length g.nodes → (place k < length h.objects) ⊎ (length h.objects ≤ place k)
+        → (object_at i.objects (place k)).class ≡ class.Node (nth_node k)
+    by k low (inl there) = one k _ _ (same (place k) there) (is.objects k low)
+    by k low (inr past) = cc (sym (ap (λ (o : Object). o.class) (object_absent h.objects (place k) past)) ∙ is.objects k low)
+
+pub hosting_stays : (h i : Contents) (g : Host) → Stays h i [] → IsHosting h g → IsHosting i g
+hosting_stays h i g stays is = hosting_on h i g (λ k there. inl (ap (λ (o : Object). o.class) (stays.objects k there refl))) is
+
+-- nor does the one that changes
+pub hosting_changed : (h i : Contents) (g : Host) (k : ℕ) → Stays h i (k ∷ []) → IsSameKind (object_at i.objects k).class (object_at h.objects k).class
+    → IsHosting h g → IsHosting i g
+hosting_changed h i g k stays own is = hosting_on h i g (λ j there. by j there (nat_eq j k) refl) is
+  where
+    by : (j : ℕ) → j < length h.objects → (b : Bool) → nat_eq j k ≡ b → IsSameKind (object_at i.objects j).class (object_at h.objects j).class
+    by j there true e = subst (λ m. IsSameKind (object_at i.objects m).class (object_at h.objects m).class) (sym (eqb-true j k e)) own
+    by j there false e = inl (ap (λ (o : Object). o.class) (stays.objects j there (not_in j k (eqb-false j k e))))
 
 -- ---- one object more
 
@@ -177,17 +221,35 @@ make_run o fit made s n proto target =
 
 -- ---- an object that changes
 
--- an old object may change that is a thing, or the global object, which stays at rest
+-- an old object may change that is a thing, or the global object or the document's, which stay at rest
+abbrev pub MayChange : ℕ → Object → Type 0
+MayChange k o = (frame_count ≤ k) ⊎ (((k ≡ window.0) × IsWindow o) ⊎ ((k ≡ document.0) × IsDocument o))
+
 pub running_changed : (c : Scene) (h : Contents) (sites : List ℕ) (k : ℕ) (o : Object) → IsRunning c h sites → IsSound (with_object h k o)
     → k < length h.objects
-    → (k ≡ c.list → ⊥) → (frame_count ≤ k) ⊎ ((k ≡ window.0) × IsWindow o) → IsRunning c (with_object h k o) sites
-running_changed c h sites k o r sound there other (inl young) =
-    let apart : window.0 ≡ k → ⊥ = λ e. omega (arith, e, young, positive) in
-    running_on c h (with_object h k o) sites (k ∷ []) r sound (stays_changed h k o)
-    (subst IsWindow (sym (object_set_other h.objects k window.0 o apart)) r.window)
-    (λ j above below. not_in j k (λ e. omega (arith, e, young, below))) (not_in c.list k (λ e. other (sym e)))
-running_changed c h sites k o r sound there other (inr rest) =
-    let same : object_at (slice_set h.objects k o) window.0 ≡ o = subst (λ j. object_at (slice_set h.objects k o) j ≡ o) rest.0
-    (object_set_same h.objects k o there) in
-    running_on c h (with_object h k o) sites (k ∷ []) r sound (stays_changed h k o) (subst IsWindow (sym same) rest.1)
-    (λ j above below. not_in j k (λ e. omega (arith, e, above, rest.0))) (not_in c.list k (λ e. other (sym e)))
+    → (k ≡ c.list → ⊥) → MayChange k o → IsRunning c (with_object h k o) sites
+running_changed c h sites k o r sound there other who = by who
+  where
+    on : IsWindow (object_at (slice_set h.objects k o) window.0) → IsDocument (object_at (slice_set h.objects k o) document.0)
+        → ((j : ℕ) → 0 < j → j < built_in_count → j ≡ k → ⊥) → IsRunning c (with_object h k o) sites
+    on rest first apart =
+        running_on c h (with_object h k o) sites (k ∷ []) r sound (stays_changed h k o) rest first
+        (λ j above below. not_in j k (apart j above below)) (not_in c.list k (λ e. other (sym e)))
+
+    window_kept : (window.0 ≡ k → ⊥) → IsWindow (object_at (slice_set h.objects k o) window.0)
+    window_kept apart = subst IsWindow (sym (object_set_other h.objects k window.0 o apart)) r.window
+
+    document_kept : (document.0 ≡ k → ⊥) → IsDocument (object_at (slice_set h.objects k o) document.0)
+    document_kept apart = subst IsDocument (sym (object_set_other h.objects k document.0 o apart)) r.document
+
+    by : MayChange k o → IsRunning c (with_object h k o) sites
+    by (inl young) =
+        on (window_kept (λ e. omega (arith, e, young, positive))) (document_kept (λ e. omega (arith, e, young)))
+        (λ j above below e. omega (arith, e, young, below))
+    by (inr (inl rest)) =
+        on (subst (λ j. IsWindow (object_at (slice_set h.objects k o) j)) rest.0 (subst IsWindow (sym (object_set_same h.objects k o there)) rest.1))
+        (document_kept (λ e. omega (arith, e, rest.0, positive))) (λ j above below e. omega (arith, e, above, rest.0))
+    by (inr (inr rest)) =
+        on (window_kept (λ e. omega (arith, e, rest.0, positive)))
+        (subst (λ j. IsDocument (object_at (slice_set h.objects k o) j)) rest.0 (subst IsDocument (sym (object_set_same h.objects k o there)) rest.1))
+        (λ j above below e. omega (arith, e, below, rest.0))

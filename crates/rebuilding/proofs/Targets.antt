@@ -1,12 +1,13 @@
 -- What a bound function calls stands, as a function of the same length.
-use Rattle.std.proofs.Common.{◌≡◌, ◌⊎◌, inl, inr, refl, sym, ap, subst, ◌∙◌, ℕ, zero, suc, ◌+◌, ◌<◌, Bool, true, ◌||◌, not, nat_lt, List, Option, Some, None, is_some, length, unwrap_or, arith}
-use Rattle.std.proofs.lemmas.Bool.{ltb-true}
+use Rattle.std.proofs.Common.{◌≡◌, ◌⊎◌, inl, inr, refl, sym, ap, subst, ◌∙◌, ℕ, zero, suc, ◌+◌, ◌<◌, Bool, true, ◌||◌, not, nat_lt, List, Option, Some, None, is_some, length, unwrap_or, arith, ◌≤◌}
+use Rattle.std.proofs.lemmas.Bool.{cases_lt, ltb-true}
 use Rattle.std.specs.List.{list_all}
 use Rattle.std.specs.Option.{option_map}
 use Rattle.code_table.specs.Declarations.{formals_of}
 use Rattle.heap_walker.proofs.Callers.{thing_of}
 use Rattle.heap_walker.specs.Still.{Still}
 use Rattle.heap_walker.specs.Things.{IsWalk, is_in}
+use Rattle.js_values.specs.declared.ids.NodeId.{NodeId}
 use Rattle.js_values.specs.declared.ids.ObjId.{ObjId}
 use Rattle.js_values.specs.declared.value.Value.TheVariants.{Undefined}
 use Rattle.object_heap.proofs.Callers.{property_on}
@@ -20,12 +21,13 @@ use Rattle.object_heap.specs.declared.object.Class.{Class}
 use Rattle.object_heap.specs.declared.object.Class.TheVariants as class
 use Rattle.object_heap.specs.declared.property.Prop.{Prop}
 use Rattle.page_meaning.specs.Elements.{length_of}
-use Rattle.page_meaning.specs.Places.{function_prototype}
+use Rattle.page_meaning.specs.Places.{document, function_prototype}
+use Rattle.rebuild_plan.proofs.Callers.{document_class}
 use Rattle.page_meaning.specs.Pristine.{built_ins}
 use Rattle.page_meaning.specs.Properties.{class_at, is_function}
 use Rattle.page_meaning.specs.Store.{Store}
 use Rattle.rebuild_plan.specs.Compact.{moved, place_of}
-use Rattle.rebuilding.specs.Rebuilt.{ClassIsRebuilt, bound, fault, list, nth, page, plain}
+use Rattle.rebuilding.specs.Rebuilt.{ClassIsRebuilt, bound, fault, list, nth, page, plain, event, node}
 use Rattle.rebuilding.specs.Scene.{IsRunning, Scene, page_with}
 use Rattle.rebuilding.specs.Sites.{site, sited}
 use Rattle.rebuilding.proofs.Binds.{bind_name, bind_value, built_in_bind, inherited, own_none}
@@ -35,6 +37,8 @@ use Rattle.rebuilding.proofs.Stages.{IsFresh, MadeProps}
 use Rattle.rebuilding.proofs.Lasting.{proto_is}
 use Rattle.object_shapes.specs.Shapes.{HasShape, built_in_at}
 use Rattle.page_meaning.specs.Places.{built_in_count}
+use Rattle.rebuild_plan.specs.Moved.{first_thing}
+use Rattle.page_host.specs.Host.{Host}
 
 -- ---- a length of its own
 
@@ -96,10 +100,16 @@ function_again list is = is
 function_again fault is = is
 function_again (page round) is = refl
 function_again bound is = refl
+function_again node is = is
+function_again event is = is
+
+-- a node is no function
+no_node_function : (a : Class) (k : NodeId) → is_function (Some a) ≡ true → a ≡ class.Node k → ⊥
+no_node_function a k is e = cc (is, e)
 
 -- ---- targets
 
-module _ (c : Scene) (s : Store) (things : List ℕ) (h : Contents) (sites : List ℕ) (still : Still s) (walk : IsWalk s things)
+module _ (c : Scene) (s : Store) (things : List ℕ) (h : Contents) (g : Host) (sites : List ℕ) (still : Still s) (walk : IsWalk s things)
     (running : IsRunning c h sites)
     (fresh : (n : ℕ) → n < length sites → IsFresh c h.environments s things sites (nth sites n) (object_at s.heap.objects (nth things n))
     (object_at h.objects (nth sites n))) where
@@ -110,7 +120,7 @@ module _ (c : Scene) (s : Store) (things : List ℕ) (h : Contents) (sites : Lis
   not_window zero is = cc (sym is ∙ ap (λ a. is_function (Some a)) still.shaped.window.class)
   not_window (suc k) is = omega arith
 
-  built_in_kept : (target : ObjId) → is_function (Some (class_at s target)) ≡ true → target.0 < built_in_count → IsKept s things h sites target
+  built_in_kept : (target : ObjId) → is_function (Some (class_at s target)) ≡ true → target.0 < built_in_count → IsKept s things h g sites target
   built_in_kept target is low =
       let was : object_at s.heap.objects target.0 ≡ built_in_at target.0 = still.shaped.built_ins target.0 (not_window target.0 is) low in
       let now : object_at h.objects target.0 ≡ built_in_at target.0 = running.built_ins target.0 (not_window target.0 is) low in
@@ -124,19 +134,19 @@ module _ (c : Scene) (s : Store) (things : List ℕ) (h : Contents) (sites : Lis
         class = subst (λ (o : Object). is_function (Some o.class) ≡ true) (sym there) here;
         bind = subst (λ k. get h.objects k bind_name ≡ Some bind_value) (sym at)
             (built_in_bind h.objects running.sound.prototypes prototype_same target.0 now here);
-        length = same_length (page_with h) s
+        length = same_length (page_with h g) s
             (sited sites (moved things target)) target own.0 running.sound.prototypes still.sound.prototypes (ap own_length there ∙ own.1)
             (ap own_length was ∙ own.1);
       }
 
   thing_kept : (target : ObjId) → is_function (Some (class_at s target)) ≡ true → is_in target.0 things ≡ true
-      → nat_lt (place_of things target.0) (built_in_count + length sites) ≡ true → IsKept s things h sites target
+      → nat_lt (place_of things target.0) (first_thing + length sites) ≡ true → IsKept s things h g sites target
   thing_kept target is found stands = by (number_at things target.0 found)
     where
-      by : (i : ℕ) × (place_of things target.0 ≡ built_in_count + i) × (i < length things) × (nth things i ≡ target.0)
-          → IsKept s things h sites target
+      by : (i : ℕ) × (place_of things target.0 ≡ first_thing + i) × (i < length things) × (nth things i ≡ target.0)
+          → IsKept s things h g sites target
       by (i, place, inside, same) =
-          let below : i < length sites = omega (arith, place, ltb-true (place_of things target.0) (built_in_count + length sites) stands) in
+          let below : i < length sites = omega (arith, place, ltb-true (place_of things target.0) (first_thing + length sites) stands) in
           let o : Object = object_at s.heap.objects target.0 in
           let made : Object = object_at h.objects (nth sites i) in
           let f : IsFresh c h.environments s things sites (nth sites i) o made =
@@ -154,12 +164,18 @@ module _ (c : Scene) (s : Store) (things : List ℕ) (h : Contents) (sites : Lis
             class = subst (λ (m : Object). is_function (Some m.class) ≡ true) (sym there) (function_again f.class is);
             bind = subst (λ k. get h.objects k bind_name ≡ Some bind_value) (sym at)
                 (inherited h.objects running.sound.prototypes prototype_same (nth sites i) no_bind.0 proto);
-            length = same_length (page_with h) s
+            length = same_length (page_with h g) s
                 (sited sites (moved things target)) target own.0 running.sound.prototypes still.sound.prototypes (ap own_length there ∙ own.2) own.1;
           }
 
   -- what is built in, or a thing that stands, is kept
-  pub target_kept : (target : ObjId) → (target.0 < built_in_count) ⊎ (is_in target.0 things ≡ true) → is_function (Some (class_at s target)) ≡ true
-      → nat_lt (place_of things target.0) (built_in_count + length sites) ≡ true → IsKept s things h sites target
-  target_kept target (inl low) is stands = built_in_kept target is low
+  pub target_kept : (target : ObjId) → (target.0 < first_thing) ⊎ (is_in target.0 things ≡ true) → is_function (Some (class_at s target)) ≡ true
+      → nat_lt (place_of things target.0) (first_thing + length sites) ≡ true → IsKept s things h g sites target
+  target_kept target (inl low) is stands = by (cases_lt target.0 built_in_count)
+    where
+      by : (target.0 < built_in_count) ⊎ (built_in_count ≤ target.0) → IsKept s things h g sites target
+      by (inl below) = built_in_kept target is below
+      by (inr past) =
+          let same : target.0 ≡ document.0 = omega (arith, low, past) in
+          absurd (no_node_function (class_at s target) (record { 0 = 0 }) is (ap (λ k. (object_at s.heap.objects k).class) same ∙ document_class s things still walk))
   target_kept target (inr found) is stands = thing_kept target is found stands

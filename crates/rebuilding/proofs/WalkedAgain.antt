@@ -1,5 +1,5 @@
 -- The sites are what can be reached in the page that was rebuilt.
-use Rattle.std.proofs.Common.{◌≡◌, inl, inr, refl, sym, ap, subst, ◌∙◌, ℕ, ◌<◌, true, nat_lt, drop, map, List, ◌∷◌, ◌++◌, length, arith}
+use Rattle.std.proofs.Common.{◌≡◌, inl, inr, refl, sym, ap, subst, ◌∙◌, ℕ, ◌<◌, true, nat_lt, drop, map, List, [], ◌∷◌, ◌++◌, Option, length, arith}
 use Rattle.std.proofs.Math.Seq.{drop-append_seam}
 use Rattle.std.proofs.lemmas.Bool.{and_from, and_parts, lt-ltb, ltb-true}
 use Rattle.std.proofs.lemmas.List.{map-append}
@@ -9,26 +9,46 @@ use Rattle.object_heap.specs.Heap.{Contents}
 use Rattle.object_heap.specs.Object.{Object}
 use Rattle.object_heap.specs.Property.{Props}
 use Rattle.object_heap.specs.declared.object.Class.{Class}
+use Rattle.object_heap.specs.declared.object.Class.TheVariants as class
 use Rattle.page_meaning.specs.Places.{built_in_count}
 use Rattle.object_shapes.specs.Links.{is_thing, props_links, proto_links, value_links, values_links}
 use Rattle.object_shapes.specs.Shapes.{built_in_at}
 use Rattle.page_meaning.specs.Pristine.{built_in_globals}
-use Rattle.page_meaning.specs.Places.{window}
+use Rattle.page_meaning.specs.Places.{document, window}
+use Rattle.page_host.specs.Host.{Host}
+use Rattle.page_host.specs.declared.listener.Listener.{Listener}
+use Rattle.timer_queue.specs.declared.timer.Live.{Live}
 use Rattle.page_meaning.specs.Store.{Store}
+use Rattle.agreement.specs.Acts.{StoreRel, clocks_of}
+use Rattle.heap_relations.proofs.Callers as heap
+use Rattle.heap_relations.specs.Naming.{Named, World, named}
+use Rattle.heap_relations.specs.Related as related
+use Rattle.heap_relations.specs.Related.{ClassRel, Each, Maybe, ObjectIds, each, no_more, none, some}
+use Rattle.host_relations.specs.Hosts.{ListenerRel}
+use Rattle.host_relations.specs.Linked.{Linked}
+use Rattle.host_relations.specs.Nodes.{NodeIds, NodeRel}
+use Rattle.host_relations.specs.Timers.{TimerRel}
+use Rattle.dom_tree.specs.Node.{children_at, node_at}
+use Rattle.js_values.specs.declared.ids.NodeId.{NodeId}
+use Rattle.js_values.specs.declared.ids.ObjId.{ObjId}
+use Rattle.page_writer.specs.Frame.{nth_node}
+use Rattle.rebuild_plan.proofs.Callers.{document_class}
 use Rattle.heap_walker.specs.Still.{Still}
-use Rattle.heap_walker.specs.Things.{IsWalk, Reach, class_links, globals_of, is_in, link, links, needs_links, needs_of, root, roots}
+use Rattle.heap_walker.specs.Things.{IsWalk, Reach, calls_links, class_links, globals_of, host_links, is_in, link, links, needs_links, needs_of, node_links, nodes_links, parent_links, root, roots, timers_links}
 use Rattle.heap_walker.proofs.Callers.{links_in_walk, roots_in_walk}
 use Rattle.rebuild_plan.specs.Compact.{moved_props}
 use Rattle.rebuilding.specs.Rebuilt as rebuilt
 use Rattle.rebuilding.specs.Rebuilt.{ClassIsRebuilt, IsRebuilt, IsRebuiltAs, nth}
 use Rattle.rebuilding.specs.Scene.{Scene, page_with}
 use Rattle.rebuilding.specs.Sites.{site, sited_props}
-use Rattle.rebuilding.proofs.Agreeing.{site_parts}
+use Rattle.rebuilding.proofs.Agreeing.{stores_rel}
+use Rattle.rebuilding.proofs.OneToOne.{site_parts}
 use Rattle.rebuilding.proofs.Carried.{AreYoung, IsMadeOf, carried, carried_at, from_mapped, in_mapped, needs_carried, props_carried, proto_carried, value_carried, values_carried}
 use Rattle.rebuilding.proofs.Counterparts.{IsKnown, young_at}
 use Rattle.rebuilding.proofs.Globals.{counted}
 use Rattle.rebuilding.proofs.Held.{needs_same}
-use Rattle.rebuilding.proofs.Naming.{site_of_built_in}
+use Rattle.rebuilding.proofs.Naming as naming
+use Rattle.rebuilding.proofs.Naming.{IsPair, pair_is, rebuilt_world, site_of_built_in, thing_paired}
 use Rattle.rebuilding.proofs.Placed.{number_at, place_in, site_thing}
 
 class_carried : (c : Scene) (s t : Store) (things sites : List ℕ) → AreInside t.heap.environments → (k : ℕ) (a b : Class)
@@ -36,6 +56,8 @@ class_carried : (c : Scene) (s t : Store) (things sites : List ℕ) → AreInsid
 class_carried c s t things sites ages k a b rebuilt.plain = refl
 class_carried c s t things sites ages k a b rebuilt.list = refl
 class_carried c s t things sites ages k a b rebuilt.fault = refl
+class_carried c s t things sites ages k a b rebuilt.node = refl
+class_carried c s t things sites ages k a b rebuilt.event = refl
 class_carried c s t things sites ages k a b (rebuilt.page {code = source} {env = env} {round = round} r) =
     ap needs_links (needs_same c s t things sites ages k source env round r) ∙ needs_carried things sites (needs_of s env source)
 class_carried c s t things sites ages k a b (rebuilt.bound {target = target} {this = this} {args = args}) =
@@ -44,10 +66,10 @@ class_carried c s t things sites ages k a b (rebuilt.bound {target = target} {th
     ap (λ ks. carried things sites target.0 ∷ ks)
     ((λ i. one i ++ others i) ∙ sym (map-append (carried things sites) (value_links this) (values_links args)))
 
-module _ (c : Scene) (s : Store) (things : List ℕ) (h : Contents) (sites : List ℕ) (still : Still s) (walk : IsWalk s things)
-    (is : IsRebuilt c s things h sites) where
+module _ (c : Scene) (s : Store) (things : List ℕ) (h : Contents) (g : Host) (sites : List ℕ) (still : Still s) (walk : IsWalk s things)
+    (is : IsRebuilt c s things h g sites) where
   abbrev t : Store
-  t = page_with h
+  t = page_with h g
 
   abbrev to : ℕ → ℕ
   to = carried things sites
@@ -58,19 +80,90 @@ module _ (c : Scene) (s : Store) (things : List ℕ) (h : Contents) (sites : Lis
   pub young_sites : AreYoung sites
   young_sites n below =
       let inside : n < length things = omega (arith, below, is.count) in
-      let past = (site_parts c s things h sites still walk is n inside).0 in
+      let past = (site_parts c s things h g sites walk is n inside).0 in
       omega (arith, past)
 
   -- ---- what is referred to
 
-  pub globals_same : globals_of (page_with h) ≡ sited_props sites (moved_props things (globals_of s))
+  pub globals_same : globals_of (page_with h g) ≡ sited_props sites (moved_props things (globals_of s))
   globals_same =
       let own : Props = sited_props sites (moved_props things (globals_of s)) in
       ap (drop built_in_globals) is.globals ∙ ap (λ n. drop n ((built_in_at window.0).props ++ own)) (sym counted)
       ∙ drop-append_seam (built_in_at window.0).props own
 
-  roots_same : roots t ≡ map to (roots s)
-  roots_same = ap props_links globals_same ∙ props_carried things sites (globals_of s)
+  -- ---- what nodes, events and timers refer to
+
+  abbrev W : World
+  W = rebuilt_world s h things sites
+
+  stores : StoreRel W s t
+  stores = stores_rel c s things h g sites still walk is
+
+  pair_to : (k j : ℕ) → Named W k j → j ≡ to k
+  pair_to k j n = by (pair_is things sites k j n.named)
+    where
+      by : IsPair things sites k j → j ≡ to k
+      by (naming.built_in same low) = sym (site_of_built_in things sites k low old_things ∙ same)
+      by (naming.thing p) = p.two ∙ sym (ap to p.one ∙ carried_at things sites p.place walk.rising p.below)
+
+  each_to : (ks js : List ℕ) → Each (Named W) ks js → js ≡ map to ks
+  each_to _ _ no_more = refl
+  each_to _ _ (each {a = k} {b = j} {xs = ks} {ys = js} n ns) =
+      let first = pair_to k j n in
+      let others = each_to ks js ns in
+      (λ i. first i ∷ others i)
+
+  nodes_named : (cs ds : List NodeId) → Each (NodeIds (Linked W)) cs ds → Each (Named W) (nodes_links s.host.objects cs) (nodes_links g.objects ds)
+  nodes_named _ _ no_more = no_more
+  nodes_named _ _ (each {a = k} {b = d} {xs = cs} {ys = ds} x xs) = each (stores.host.objects k d x.linked) (nodes_named cs ds xs)
+
+  parent_named : {o p : Option NodeId} → Maybe (NodeIds (Linked W)) o p → Each (Named W) (parent_links s.host.objects o) (parent_links g.objects p)
+  parent_named none = no_more
+  parent_named (some {a = a} {b = b} x) = each (stores.host.objects a b x.linked) no_more
+
+  calls_named : {ls ms : List Listener} → Each (ListenerRel W) ls ms → Each (Named W) (calls_links ls) (calls_links ms)
+  calls_named no_more = no_more
+  calls_named (each x xs) = each x.call (calls_named xs)
+
+  timers_named : {ts us : List Live} → Each (TimerRel (Named W) (clocks_of W)) ts us → Each (Named W) (timers_links ts) (timers_links us)
+  timers_named no_more = no_more
+  timers_named (each x xs) = each x.call (timers_named xs)
+
+  node_named : (a b : NodeId) → Linked W a.0 b.0 → Each (Named W) (node_links s.host a) (node_links g b)
+  node_named a b l =
+      let r : NodeRel (Linked W) (node_at s.host.nodes a.0) (node_at g.nodes b.0) = stores.host.nodes.at a.0 b.0 l in
+      heap.each_append (parent_named r.parent)
+      (heap.each_append (nodes_named (children_at s.host.nodes a.0) (children_at g.nodes b.0) r.children) (calls_named (stores.host.listeners a.0 b.0 l)))
+
+  target_named : {o p : Option ObjId} → Maybe (ObjectIds (named W)) o p → Each (Named W) (proto_links o) (proto_links p)
+  target_named none = no_more
+  target_named (some x) = each x.linked no_more
+
+  host_named : {d e : Class} → ClassRel (named W) d e → Each (Named W) (host_links s.host d) (host_links g e)
+  host_named related.plain = no_more
+  host_named related.array = no_more
+  host_named (related.page x) = no_more
+  host_named related.native = no_more
+  host_named (related.bound n x xs) = no_more
+  host_named related.fault = no_more
+  host_named related.math = no_more
+  host_named related.window = no_more
+  host_named (related.node {m = a} {n = b} l) = node_named a b l
+  host_named (related.event x) = target_named x.target
+
+  host_same : (k j : ℕ) → Named W k j → host_links g (object_at h.objects j).class ≡ map to (host_links s.host (object_at s.heap.objects k).class)
+  host_same k j n =
+      each_to (host_links s.host (object_at s.heap.objects k).class) (host_links g (object_at h.objects j).class) (host_named (heap.class_read stores.heap n))
+
+  -- ---- links
+
+  links_joined : (as' bs cs ds es fs xs ys : List ℕ) → es ≡ map to as' → fs ≡ map to bs → xs ≡ map to cs → ys ≡ map to ds
+      → es ++ (fs ++ (xs ++ ys)) ≡ map to (as' ++ (bs ++ (cs ++ ds)))
+  links_joined as' bs cs ds es fs xs ys e f x y =
+      (λ i. e i ++ (f i ++ (x i ++ y i)))
+      ∙ ap (λ ks. map to as' ++ (map to bs ++ ks)) (sym (map-append to cs ds))
+      ∙ ap (λ ks. map to as' ++ ks) (sym (map-append to bs (cs ++ ds)))
+      ∙ sym (map-append to as' (bs ++ (cs ++ ds)))
 
   links_same : (n : ℕ) → n < length things → links t (nth sites n) ≡ map to (links s (nth things n))
   links_same n below =
@@ -81,10 +174,39 @@ module _ (c : Scene) (s : Store) (things : List ℕ) (h : Contents) (sites : Lis
       let parts : class_links t p.class ≡ map to (class_links s o.class) =
       class_carried c s t things sites is.running.sound.environments (nth sites n) o.class p.class made_as.class
       in
+      let beside : host_links g p.class ≡ map to (host_links s.host o.class) =
+      host_same (nth things n) (nth sites n) (record { named = thing_paired things sites is.count n below })
+      in
       let held : props_links p.props ≡ map to (props_links o.props) = ap props_links made_as.props ∙ props_carried things sites o.props in
-      (λ i. above i ++ (parts i ++ held i))
-      ∙ ap (λ ks. map to (proto_links o.proto) ++ ks) (sym (map-append to (class_links s o.class) (props_links o.props)))
-      ∙ sym (map-append to (proto_links o.proto) (class_links s o.class ++ props_links o.props))
+      links_joined (proto_links o.proto) (class_links s o.class) (host_links s.host o.class) (props_links o.props)
+      (proto_links p.proto) (class_links t p.class) (host_links g p.class) (props_links p.props) above parts beside held
+
+  node_class_links : (u : Store) (d : Class) → d ≡ class.Node (nth_node 0) → class_links u d ≡ []
+  node_class_links u d e = ap (class_links u) e
+
+  -- the document's prototype is built in
+  document_links : links t document.0 ≡ map to (links s document.0)
+  document_links =
+      let o : Object = object_at s.heap.objects document.0 in
+      let p : Object = object_at h.objects document.0 in
+      let n : Named W document.0 document.0 = stores.built_ins document.0 (omega arith) in
+      let above : proto_links p.proto ≡ map to (proto_links o.proto) = each_to (proto_links o.proto) (proto_links p.proto) (target_named (heap.proto_read stores.heap n)) in
+      let left : class_links s o.class ≡ [] = node_class_links s o.class (document_class s things still walk) in
+      let right : class_links t p.class ≡ [] = node_class_links t p.class is.running.document.class in
+      let parts : class_links t p.class ≡ map to (class_links s o.class) = right ∙ sym (ap (map to) left) in
+      let held : props_links p.props ≡ map to (props_links o.props) = ap props_links is.document.props ∙ props_carried things sites o.props in
+      links_joined (proto_links o.proto) (class_links s o.class) (host_links s.host o.class) (props_links o.props)
+      (proto_links p.proto) (class_links t p.class) (host_links g p.class) (props_links p.props) above parts (host_same document.0 document.0 n) held
+
+  roots_same : roots t ≡ map to (roots s)
+  roots_same =
+      let first : props_links (globals_of t) ≡ map to (props_links (globals_of s)) = ap props_links globals_same ∙ props_carried things sites (globals_of s) in
+      let timers : timers_links g.timers ≡ map to (timers_links s.host.timers) =
+      each_to (timers_links s.host.timers) (timers_links g.timers) (timers_named stores.host.timers)
+      in
+      (λ i. first i ++ (document_links i ++ timers i))
+      ∙ ap (λ ks. map to (props_links (globals_of s)) ++ ks) (sym (map-append to (links s document.0) (timers_links s.host.timers)))
+      ∙ sym (map-append to (props_links (globals_of s)) (links s document.0 ++ timers_links s.host.timers))
 
   -- ---- what can be reached
 
@@ -96,7 +218,7 @@ module _ (c : Scene) (s : Store) (things : List ℕ) (h : Contents) (sites : Lis
   thing_at_site : (k : ℕ) → is_in k things ≡ true → is_thing t (to k) ≡ true
   thing_at_site k found =
       let m = at_site k found in
-      let parts = site_parts c s things h sites still walk is m.0 m.1 in
+      let parts = site_parts c s things h g sites walk is m.0 m.1 in
       subst (λ j. is_thing t j ≡ true) (sym m.3)
       (and_from _ _ (lt-ltb built_in_count (nth sites m.0) (omega (arith, parts.0))) (lt-ltb (nth sites m.0) (length h.objects) parts.1))
 
@@ -144,5 +266,5 @@ module _ (c : Scene) (s : Store) (things : List ℕ) (h : Contents) (sites : Lis
       let from : Reach t (to (nth things n.0)) = reached_again (nth things n.0) (walk.sound (nth things n.0) (place_in things n.0 inside)) in
       subst (λ j. Reach t j) (carried_at things sites n.0 walk.rising inside ∙ n.3) from
 
-  pub walked_again : IsWalk (page_with h) sites
+  pub walked_again : IsWalk (page_with h g) sites
   walked_again = record { rising = is.running.rising; sound = site_reached; complete = only_sites }

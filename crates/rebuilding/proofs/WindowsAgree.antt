@@ -5,6 +5,7 @@ use Rattle.object_heap.specs.Heap.{Contents}
 use Rattle.object_heap.specs.Object.{Object}
 use Rattle.object_heap.specs.Property.{Props}
 use Rattle.object_heap.specs.declared.object.Class.TheVariants as class
+use Rattle.page_host.specs.Host.{Host}
 use Rattle.page_meaning.specs.Places as places
 use Rattle.page_meaning.specs.Store.{Store}
 use Rattle.heap_relations.specs.Naming.{named, World}
@@ -14,7 +15,7 @@ use Rattle.agreement.specs.Acts.{HasBuiltIns}
 use Rattle.agreement.proofs.Callers.{built_in_itself}
 use Rattle.heap_walker.specs.Still.{Still}
 use Rattle.heap_walker.specs.Things.{globals_of, IsWalk}
-use Rattle.heap_walker.proofs.Callers.{roots_in_walk}
+use Rattle.heap_walker.proofs.Callers.{global_among, roots_in_walk}
 use Rattle.rebuild_plan.specs.Compact.{moved_props}
 use Rattle.rebuilding.specs.Rebuilt.{IsRebuilt}
 use Rattle.rebuilding.specs.Scene.{Scene}
@@ -33,10 +34,10 @@ window_props s rest =
 
 -- ---- both
 
-pub window_rel : (c : Scene) (s : Store) (things : List ℕ) (h : Contents) (sites : List ℕ) → Still s → IsWalk s things
-    → IsRebuilt c s things h sites → HasBuiltIns (rebuilt_world s h things sites)
+pub window_rel : (c : Scene) (s : Store) (things : List ℕ) (h : Contents) (g : Host) (sites : List ℕ) → Still s → IsWalk s things
+    → IsRebuilt c s things h g sites → HasBuiltIns (rebuilt_world s h things sites)
     → ObjectRel (named (rebuilt_world s h things sites)) (object_at s.heap.objects places.window.0) (object_at h.objects places.window.0)
-window_rel c s things h sites still walk is built_ins =
+window_rel c s things h g sites still walk is built_ins =
     let W : World = rebuilt_world s h things sites in
     let o : Object = object_at s.heap.objects places.window.0 in
     let p : Object = object_at h.objects places.window.0 in
@@ -44,7 +45,7 @@ window_rel c s things h sites still walk is built_ins =
     let l = still.shaped.window in
     let r = is.running.window in
     let others : Entries (PropRel (named W)) (globals_of s) (sited_props sites (moved_props things (globals_of s))) =
-    props_rel s h things sites walk is.count (globals_of s) (λ j g. roots_in_walk s things still walk j g)
+    props_rel s h things sites walk is.count (globals_of s) (λ j i. roots_in_walk s things still walk j (global_among s j i))
     in
     let all : Entries (PropRel (named W)) (first ++ globals_of s) (first ++ sited_props sites (moved_props things (globals_of s))) =
     entries_append (built_in_itself built_ins places.window.0).props others

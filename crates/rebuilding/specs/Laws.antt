@@ -3,7 +3,7 @@ use Rattle.std.specs.Prelude.{◌≡◌, ℕ, ◌<◌, List, [], drop, length, �
 use Rattle.agreement.specs.Acts.{StoreRel}
 use Rattle.agreement.specs.Trees.{HasEqualTrees}
 use Rattle.heap_relations.specs.Naming.{World}
-use Rattle.heap_walker.specs.Bare.{frame_nodes}
+use Rattle.page_writer.specs.Frame.{frame_nodes}
 use Rattle.heap_walker.specs.Still.{Still}
 use Rattle.heap_walker.specs.Things.{IsWalk}
 use Rattle.js_core.specs.Tree.{Stmts}
@@ -26,12 +26,12 @@ pub record Agrees (s t : Store) : Type 0 where
   pub trees : HasEqualTrees world
   pub stores : StoreRel world s t
 
--- a page that can be saved, whose plan has fewer statements than a script has steps
+-- a page that can be saved, whose plan has fewer statements than a script has steps, and one that takes the frame's nodes out
 pub record CanBeRebuilt (s : Store) (things : List ℕ) : Type 0 where
   pub still : Still s
   pub walk : IsWalk s things
   pub in_range : HaveLiterals (plan (compact s things))
-  pub few : length (plan (compact s things)) < step_limit
+  pub few : length (plan (compact s things)) + 1 < step_limit
 
 -- its saved script loads without a line, as a page that agrees with it
 abbrev pub ScriptsRebuild : Type 0
@@ -54,7 +54,7 @@ pub record LoadsWithin (script : Stmts) (steps : ℕ) : Type 0 where
   pub ends : (task_of (calls_at depth_limit) (Script script)).run (pristine frame_nodes) step_limit ≡ Ended signal after left
   pub few : step_limit ≤ left + steps
 
--- that of a saved script takes at most a step for each statement
+-- that of a saved script takes at most a step for each statement, that one too
 abbrev pub ScriptsTakeFewSteps : Type 0
 ScriptsTakeFewSteps =
-    (s : Store) (things : List ℕ) → CanBeRebuilt s things → LoadsWithin (saved_script (plan (compact s things))) (length (plan (compact s things)))
+    (s : Store) (things : List ℕ) → CanBeRebuilt s things → LoadsWithin (saved_script (plan (compact s things))) (length (plan (compact s things)) + 1)

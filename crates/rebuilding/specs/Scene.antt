@@ -8,18 +8,20 @@ use Rattle.js_values.specs.declared.value.Value.TheVariants.{Object as Reference
 use Rattle.object_heap.specs.Chain.{object_at}
 use Rattle.object_heap.specs.Define.{length_name, number}
 use Rattle.object_heap.specs.Environment.{Bound, Environment, environment_at, new_environment}
-use Rattle.object_heap.specs.Heap.{Contents, IsSound, new_object}
+use Rattle.object_heap.specs.Heap.{Contents, IsSound}
 use Rattle.object_heap.specs.Object.{Object, whole_object}
 use Rattle.object_heap.specs.Property.{Props}
 use Rattle.object_heap.specs.declared.object.Class.TheVariants as class
 use Rattle.object_heap.specs.declared.property.Prop.{Prop}
 use Rattle.page_meaning.specs.Descriptors.{open_property}
 use Rattle.page_meaning.specs.Names.{Here}
-use Rattle.page_meaning.specs.Places.{array_prototype, at_place, node_prototype, window}
+use Rattle.page_host.specs.Host.{Host, object_of_node}
+use Rattle.page_meaning.specs.Places.{array_prototype, at_place, built_in_count, document, node_prototype, window}
 use Rattle.page_meaning.specs.Store.{Store, silent}
-use Rattle.heap_walker.specs.Bare.{frame_host, nth_node}
+use Rattle.dom_tree.specs.Node.{children_at}
+use Rattle.page_host.specs.Sound as host
+use Rattle.page_writer.specs.Frame.{frame_nodes, nth_node}
 use Rattle.object_shapes.specs.Shapes.{IsWindow, built_in_at}
-use Rattle.page_meaning.specs.Places.{built_in_count}
 
 -- the environment of the catch clause, and the place of the list
 pub record Scene : Type 0 where
@@ -61,23 +63,28 @@ pub data IsRoundOf (c : Scene) (es : List Environment) (k : ℕ) (needs : Bound)
 
 -- ---- the page
 
--- what a page begins with: the built-in objects, and those of the document, `html`, `body` and `script`
+-- what a page begins with: the built-in objects, and those of the document, `html` and `script`
 abbrev pub frame_count : ℕ
-frame_count = built_in_count + 4
+frame_count = built_in_count + length frame_nodes
 
--- a page with these objects and environments, which has done nothing else
-abbrev pub page_with : Contents → Store
-page_with h = silent h frame_host
+-- a page with these objects, environments and nodes, which has put out nothing
+abbrev pub page_with : Contents → Host → Store
+page_with h g = silent h g
 
 -- a thing stands at the place: it is younger than what a page begins with, and not the list
 abbrev pub is_site : Scene → Contents → ℕ → Bool
 is_site c h k = nat_le frame_count k && (nat_lt k (length h.objects) && not (nat_eq k c.list))
 
--- the things stand at these sites
+-- the document's object, which may have properties of its own
+pub record IsDocument (o : Object) : Type 0 where
+  pub class : o.class ≡ class.Node (nth_node 0)
+  pub proto : o.proto ≡ Some node_prototype
+
+-- the objects, with the things at these sites
 pub record IsRunning (c : Scene) (h : Contents) (sites : List ℕ) : Type 0 where
   pub sound : IsSound h
   pub built_ins : (k : ℕ) → 0 < k → k < built_in_count → object_at h.objects k ≡ built_in_at k
-  pub nodes : (k : ℕ) → k < 4 → object_at h.objects (built_in_count + k) ≡ new_object (class.Node (nth_node k)) (Some node_prototype)
+  pub document : IsDocument (object_at h.objects document.0)
   pub window : IsWindow (object_at h.objects window.0)
   pub list : object_at h.objects c.list ≡ list_of sites
   pub list_young : frame_count ≤ c.list
@@ -88,3 +95,16 @@ pub record IsRunning (c : Scene) (h : Contents) (sites : List ℕ) : Type 0 wher
   pub rising : IsStrictlyIncreasing sites
   -- no more than an array has elements
   pub few : length sites ≤ 4294967295
+
+-- what the host keeps beside: each node has its object
+pub record IsHosting (h : Contents) (g : Host) : Type 0 where
+  pub sound : host.IsSound g
+  pub objects : (k : ℕ) → k < length g.nodes → (object_at h.objects (object_of_node g.objects (nth_node k)).0).class ≡ class.Node (nth_node k)
+  pub clock : g.clock ≡ 0
+
+-- after the second line: no node is in the document, nobody listens, and no timer runs
+pub record IsCleared (h : Contents) (g : Host) : Type 0 where
+  pub hosting : IsHosting h g
+  pub children : children_at g.nodes 0 ≡ []
+  pub listeners : g.listeners ≡ []
+  pub timers : g.timers ≡ []

@@ -1,5 +1,5 @@
 -- Sites: where the things of a plan stand in the page that its statements rebuild. The nth of these places is that of the thing with
--- number n; built-in objects keep theirs.
+-- number n; built-in objects and the document's keep theirs.
 use Rattle.std.specs.Prelude.{ℕ, ◌-◌, List, [], ◌∷◌, Option, Some, None, nat_lt, slice_index_or, if◌then◌else◌}
 use Rattle.js_values.specs.declared.ids.ObjId.{ObjId}
 use Rattle.js_values.specs.declared.value.Value.{Value}
@@ -8,11 +8,11 @@ use Rattle.object_heap.specs.Define.{with_value}
 use Rattle.object_heap.specs.Environment.{Bound}
 use Rattle.object_heap.specs.Property.{Props}
 use Rattle.object_heap.specs.declared.property.Prop.{Prop}
-use Rattle.page_meaning.specs.Places.{built_in_count}
+use Rattle.rebuild_plan.specs.Moved.{first_thing}
 
 -- of what a plan names by this place
 abbrev pub site : List ℕ → ℕ → ℕ
-site sites k = if nat_lt k built_in_count then k else slice_index_or sites (k - built_in_count) 0
+site sites k = if nat_lt k first_thing then k else slice_index_or sites (k - first_thing) 0
 
 abbrev pub sited : List ℕ → ObjId → ObjId
 sited sites at = record { 0 = site sites at.0 }

@@ -49,7 +49,7 @@ const PAGES: [(&str, &str, &str); 4] = [
     ),
     (
         "form",
-        "<!--imagen 1--><html><body></body><script>\"use strict\";",
+        "<!--imagen 1--><html><script>\"use strict\";",
         "</script></html>",
     ),
 ];

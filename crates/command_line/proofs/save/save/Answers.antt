@@ -12,6 +12,7 @@ returns g c =
     save_answers c.args.page.now c.args.events.now seen c.in-Ok.read.0 c.in-Ok.read.1.items c.in-Ok.ensures.ok
     record {
       one = c.law_one_answer.ensures.accepted;
+      plain = c.law_accepted_pages_are_plain.ensures;
       formed = c.law_accepted_scripts_are_in_form.ensures;
       moved = c.law_moved_pages_go_on.ensures;
       accepted = c.law_opened_pages_are_accepted.ensures;

@@ -5,25 +5,25 @@ use Rattle.command_line.proofs.saving.save_walked.Goals as goal
 
 pub returns-in-Ok-clause-answer : goal.returns-in-Ok-clause-answer
 returns-in-Ok-clause-answer g c =
-    answer_put c.args.state.now c.args.walked.now.things.keys (g.O.Sink.seen c.args.out.now) (g.O.Sink.seen c.write_walked.new.out) _ c.requires.bare c.requires.walked refl
+    answer_put c.args.state.now c.args.walked.now.things.keys (g.O.Sink.seen c.args.out.now) (g.O.Sink.seen c.write_walked.new.out) _ c.requires refl
     c.in-Ok.ensures.judged c.in-Ok.ensures.written
 
 pub returns-in-Err-Cause-TooMany-clause-answer : goal.returns-in-Err-Cause-TooMany-clause-answer
 returns-in-Err-Cause-TooMany-clause-answer g c =
     answer_large c.args.state.now c.args.walked.now.things.keys (g.O.Sink.seen c.args.out.now) (g.O.Sink.seen c.write_walked.new.out) _ c.in-Err-Cause-TooMany.weight
-    c.requires.walked (c.in-Err-Cause-TooMany.field-0-is ∙ ap Cause c.in-Err-Cause-TooMany.field-0-0-is) c.in-Err-Cause-TooMany.ensures.judged
+    c.requires (c.in-Err-Cause-TooMany.field-0-is ∙ ap Cause c.in-Err-Cause-TooMany.field-0-0-is) c.in-Err-Cause-TooMany.ensures.judged
 
 pub returns-in-Err-Cause-TooLong-clause-answer : goal.returns-in-Err-Cause-TooLong-clause-answer
 returns-in-Err-Cause-TooLong-clause-answer g c =
     answer_long c.args.state.now c.args.walked.now.things.keys (g.O.Sink.seen c.args.out.now) (g.O.Sink.seen c.write_walked.new.out) _ c.in-Err-Cause-TooLong.weight
-    c.requires.walked (c.in-Err-Cause-TooLong.field-0-is ∙ ap Cause c.in-Err-Cause-TooLong.field-0-0-is) c.in-Err-Cause-TooLong.ensures.judged
+    c.requires (c.in-Err-Cause-TooLong.field-0-is ∙ ap Cause c.in-Err-Cause-TooLong.field-0-0-is) c.in-Err-Cause-TooLong.ensures.judged
 
 pub returns-in-Err-Cause-WriteFault-clause-answer : goal.returns-in-Err-Cause-WriteFault-clause-answer
 returns-in-Err-Cause-WriteFault-clause-answer g c =
     answer_fault c.args.state.now c.args.walked.now.things.keys (g.O.Sink.seen c.args.out.now) (g.O.Sink.seen c.write_walked.new.out) _
-    c.requires.bare c.requires.walked (c.in-Err-Cause-WriteFault.field-0-is ∙ ap Cause c.in-Err-Cause-WriteFault.field-0-0-is) c.in-Err-Cause-WriteFault.ensures.judged c.in-Err-Cause-WriteFault.ensures.begun
+    c.requires (c.in-Err-Cause-WriteFault.field-0-is ∙ ap Cause c.in-Err-Cause-WriteFault.field-0-0-is) c.in-Err-Cause-WriteFault.ensures.judged c.in-Err-Cause-WriteFault.ensures.begun
 
 pub returns-in-Err-OutOfMemory-clause-answer : goal.returns-in-Err-OutOfMemory-clause-answer
 returns-in-Err-OutOfMemory-clause-answer g c =
     answer_memory c.args.state.now c.args.walked.now.things.keys (g.O.Sink.seen c.args.out.now) (g.O.Sink.seen c.write_walked.new.out) _
-    c.requires.walked c.in-Err-OutOfMemory.field-0-is c.in-Err-OutOfMemory.ensures.judged
+    c.requires c.in-Err-OutOfMemory.field-0-is c.in-Err-OutOfMemory.ensures.judged

@@ -4,10 +4,10 @@ use Rattle.heap_walker.specs.Walking.{IsPart, joined}
 use Rattle.heap_walker.proofs.Walks.{part_begins, walk_of}
 use Rattle.heap_walker.proofs.reached.walk.Goals as goal
 
-pub see_rest-requires : goal.see_rest-requires
-see_rest-requires c =
+pub see_rest-requires-clause-part : goal.see_rest-requires-clause-part
+see_rest-requires-clause-part c =
     let s = c.args.state.now in
-    subst (IsPart s 0) (sym (c.in_ok-see_globals.ensures ∙ ap (λ ks. joined s ks (roots s)) c.new-seen.ensures.empty)) (part_begins s)
+    subst (IsPart s 0) (sym (c.in_ok-see_roots.ensures ∙ ap (λ ks. joined s ks (roots s)) c.new-seen.ensures.empty)) (part_begins s)
 
 pub returns : goal.returns
 returns c =

@@ -1,14 +1,19 @@
 use Rattle.std.proofs.Common.{◌∙◌, ◌<◌, ◌≤◌, sym, subst, ap, length, refl}
 use Rattle.std.proofs.lemmas.Option.{slice_get_past}
 use Rattle.heap_walker.specs.Things.{globals_of}
-use Rattle.heap_walker.specs.Weight.{Adds, load, load_of, props_load, things_load, told}
+use Rattle.heap_walker.specs.Weight.{Adds, document_load, load, load_of, props_load, things_load, timers_load, together, told}
 use Rattle.heap_walker.proofs.Places.{past_places}
 use Rattle.heap_walker.proofs.Weights.{adds_both, adds_next, adds_none, none_together}
 use Rattle.heap_walker.proofs.weight.weight_of.Goals as goal
 
 pub loop-place-init : goal.loop-place-init
 loop-place-init c w h =
-    adds_both (record { things = 0; text = 0 }) c.add_globals.new.weight w (props_load (globals_of c.args.state.now)) (things_load c.args.state.now c.args.walked.now.things.keys) c.in_ok-add_globals.ensures h
+    let s = c.args.state.now in
+    let things = things_load s c.args.walked.now.things.keys in
+    let timers = timers_load s.host.timers in
+    adds_both (record { things = 0; text = 0 }) c.add_globals.new.weight w (props_load (globals_of s)) (together (document_load s) (together timers things)) c.in_ok-add_globals.ensures
+    (adds_both c.add_globals.new.weight c.add_document.new.weight w (document_load s) (together timers things) c.in_ok-add_document.ensures
+    (adds_both c.add_document.new.weight c.add_timers.new.weight w timers things c.add_timers.ensures h))
 
 pub loop-place-preserved : goal.loop-place-preserved
 loop-place-preserved c w h =

@@ -1,5 +1,5 @@
 use Rattle.page_meaning.specs.Act.{give}
-use Rattle.page_meaning.specs.Errors.{raise, settle}
+use Rattle.page_meaning.specs.Errors.{raise}
 use Rattle.page_meaning.specs.Properties.{stored}
 use Rattle.js_values.specs.declared.value.Value.TheVariants.{Num}
 use Rattle.page_state.specs.Does.{itself}
