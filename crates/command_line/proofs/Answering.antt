@@ -4,7 +4,7 @@ use Rattle.page_io.specs.Seen.{FilesSeen, KeeperSeen, SinkSeen}
 use Rattle.command_line.specs.declared.status.Status.{Status}
 use Rattle.command_line.specs.declared.status.Status.TheVariants.{Ok, WriteFault, OutOfMemory}
 use Rattle.command_line.specs.declared.command.Work.TheVariants.{Replay, Save}
-use Rattle.command_line.specs.Command.{Command, check, instrument, session, park, fetch, parked, drop_row}
+use Rattle.command_line.specs.Command.{Command, check, instrument, session, park, fetch, parked, drop_row, stress}
 use Rattle.command_line.specs.Stages.{Seen, seen_between, unasked, unread, unwritten, Stage, words, Stops, PassesAll, EndsAt, Lasts, work_of}
 use Rattle.command_line.specs.Texts.{Answers, Changes, Gives, IsPut, KeepsRows, PutsNothing, PutsText, RowsAfter, TextOf}
 
@@ -158,6 +158,18 @@ module _ (files files_now : FilesSeen) (keeper keeper_now : KeeperSeen) (out out
   rows_answer command r status is g lasts put later =
       answered files files keeper keeper_now out out_now command r status (rows_give command r is g)
       (record { content = λ name. refl; reads = omega arith; calls = lasts.calls; puts = omega arith }) put later
+
+  alone_gives : (n : ℕ) (r : Result (Vec ℕ Global) Status) → Gives (stress n) r (seen_between unread unread unasked unasked unwritten unwritten)
+      → Gives (stress n) r (seen_between files files keeper keeper unwritten unwritten)
+  alone_gives n (Good text) h = (h.0, h.1, refl)
+  alone_gives n (Err status) h = (h.0, refl)
+
+  -- a command that asks neither
+  pub alone_answers : (n : ℕ) (r : Result (Vec ℕ Global) Status) (status : Status) → Gives (stress n) r (seen_between unread unread unasked unasked unwritten unwritten)
+      → IsPut r status out out_now → out.faults ≤ out_now.faults → Answers (stress n) status (seen_between files files keeper keeper out out_now)
+  alone_answers n r status g put later =
+      answered files files keeper keeper out out_now (stress n) r status (alone_gives n r g)
+      (record { content = λ name. refl; reads = omega arith; calls = omega arith; puts = omega arith }) put later
 
   saving_keeps : (p e : List ℕ) (status : Status) (seen : Seen) → KeepsRows seen → RowsAfter (session Save p e) status seen
   saving_keeps p e Ok seen k = k

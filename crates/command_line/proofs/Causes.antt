@@ -12,12 +12,16 @@ use Rattle.event_file.specs.Events.{events_of}
 use Rattle.command_line.specs.declared.status.Status.{Status}
 use Rattle.command_line.specs.declared.status.Status.TheVariants as status
 use Rattle.command_line.specs.declared.command.Work.TheVariants.{Replay, Save}
-use Rattle.command_line.specs.Command.{Command, check, instrument, session, park, fetch, parked, drop_row}
+use Rattle.command_line.specs.Command.{Command, check, instrument, session, park, fetch, parked, drop_row, stress}
 use Rattle.command_line.specs.Page.{page_limit, event_file_limit, Page, IsAccepted, IsPage}
 use Rattle.command_line.specs.Parking.{AreUsed, greatest, last_version, listed}
 use Rattle.command_line.specs.Replay.{IsEventFile}
 use Rattle.command_line.specs.Saving.{IsTooLarge, IsMovable}
-use Rattle.command_line.specs.Stages.{Seen, Of, Held, IsNoEventFile, Stage, words, page_file, acceptance, event_file, moving, next_row, one_row, all_rows, Stops, Passes, PassesAll, EndsAt, EndsBy, IsQuiet, CausesExclude, IsReadOrFailed, names_of, work_of, work_behind, stages_of, SomeCause}
+use Rattle.command_line.specs.Stages.{Seen, Of, Held, IsNoEventFile, Stage, words, page_file, acceptance, event_file, moving, next_row, one_row, all_rows, made_page, made_events, halfway, Stops, Passes, PassesAll, EndsAt, EndsBy, IsQuiet, CausesExclude, IsReadOrFailed, names_of, work_of, work_behind, stages_of, SomeCause}
+use Rattle.command_line.specs.Stress.{IsMovableHalfway}
+use Rattle.page_maker.specs.Events.{event_list}
+use Rattle.page_maker.specs.Page.{page as page_text}
+use Rattle.command_line.proofs.Faring.{one_weight_halfway, large_or_little_halfway, some_halfway}
 use Rattle.command_line.proofs.Moves.{OneAcceptance}
 use Rattle.command_line.proofs.Numbers.{at_most_or_more}
 use Rattle.command_line.proofs.Outcomes.{one_weight, large_or_little, some_outcome}
@@ -69,6 +73,13 @@ module _ (seen : Seen) (quiet : IsQuiet seen) (one_page : OneAcceptance) (one_ca
   one_stop (next_row name) s t h k = h.0 ∙ sym k.0
   one_stop (one_row name version) s t h k = h.0 ∙ sym k.0
   one_stop all_rows s t h k = absurd h
+  one_stop (made_page n) s t h k =
+      h.1 ∙ ap (λ (r : Refusal). status.PageRefused (Some r)) (one_cause (page_text n) h.0 k.0 h.2 k.2) ∙ sym k.1
+  one_stop (made_events n) s t h k =
+      let same : Err h.0 ≡ Err k.0 = sym h.2 ∙ k.2 in
+      let number : h.0 ≡ k.0 = cc same in
+      h.1 ∙ ap status.EventsRefused number ∙ sym k.1
+  one_stop (halfway n) s t h k = h.1 ∙ ap status.TooLarge (one_weight_halfway n one_page h.0 k.0 h.2 k.2) ∙ sym k.1
 
   file_or_none : (file : List ℕ) (i : ℕ) → IsNoEventFile file i → ((events : List Event) × IsEventFile file events) → ⊥
   file_or_none file i (inl h) g = omega (arith, h.0, g.1.fits)
@@ -100,6 +111,9 @@ module _ (seen : Seen) (quiet : IsQuiet seen) (one_page : OneAcceptance) (one_ca
       of_rows (λ t. get t (name, version) ≡ None) (λ t. (bytes : List ℕ) × (get t (name, version) ≡ Some bytes)) k.1 p
       (λ t x y. let same : None ≡ Some y.0 = sym x ∙ y.1 in cc)
   stop_or_pass all_rows s h k p = absurd k
+  stop_or_pass (made_page n) s h k p = not_both (page_text n) p.0 k.0 p.1 k.2
+  stop_or_pass (made_events n) s h k p = let same : Err k.0 ≡ Ok p.0 = sym k.2 ∙ p.1 in cc
+  stop_or_pass (halfway n) s h k p = large_or_little_halfway n one_page k.0 k.2 p
 
   one_end : (gs : List Stage) (s t : Status) → ¬ (s ≡ status.OutOfMemory) → ¬ (t ≡ status.OutOfMemory) → EndsAt gs s seen → EndsAt gs t seen → s ≡ t
   one_end [] s t n m h k = absurd h
@@ -214,6 +228,26 @@ module _ (seen : Seen) (none_neither : NoneNeither) where
       by_case None e = never status.NoSession (λ e. cc) (inl (inl (of_table t (λ u. get u (name, version) ≡ None) is e)))
       by_case (Some bytes) e = k (next (one_row name version) gs never (of_table t (λ u. (bytes : List ℕ) × (get u (name, version) ≡ Some bytes)) is (bytes, e)))
 
+  behind_made_page : (n : ℕ) (gs : List Stage) → No (made_page n ∷ gs)
+      → ((page : Page) → IsAccepted (page_text n) page → No gs → ⊥) → ⊥
+  behind_made_page n gs never k = none_neither (page_text n)
+      (λ page a. k page a (next (made_page n) gs never (page, a)))
+      (λ cause h. never (status.PageRefused (Some cause)) (λ e. cc) (inl (inl h)))
+
+  behind_made_events : (n : ℕ) (gs : List Stage) → No (made_events n ∷ gs)
+      → ((events : List Event) → events_of (event_list n) ≡ Ok events → No gs → ⊥) → ⊥
+  behind_made_events n gs never k = by_events (events_of (event_list n)) refl
+    where
+      by_events : (found : Result (List Event) ℕ) → events_of (event_list n) ≡ found → ⊥
+      by_events (Ok es) e = k es e (next (made_events n) gs never (es, e))
+      by_events (Err i) e = never (status.EventsRefused i) (λ e. cc) (inl (inl e))
+
+  behind_halfway : (n : ℕ) (gs : List Stage) (page : Page) (events : List Event) → IsAccepted (page_text n) page → events_of (event_list n) ≡ Ok events
+      → No (halfway n ∷ gs) → (No gs → ⊥) → ⊥
+  behind_halfway n gs page events a e never k = some_halfway n page events (record { accepted = a; holds = e })
+      (λ w large. never (status.TooLarge w) (λ e. cc) (inl (inl large)))
+      (λ movable. k (next (halfway n) gs never movable))
+
   at_writing : No [] → ⊥
   at_writing never = never status.Ok (λ e. cc) (inr (tt, tt))
 
@@ -250,6 +284,10 @@ module _ (seen : Seen) (none_neither : NoneNeither) where
   some_end (Some (fetch name version)) t reads is never = behind_one_row name version [] t is (behind_words (fetch name version) never) at_writing
   some_end (Some parked) t reads is never = at_writing (next all_rows [] (behind_words parked never) tt)
   some_end (Some (drop_row name version)) t reads is never = behind_one_row name version [] t is (behind_words (drop_row name version) never) at_writing
+  some_end (Some (stress n)) t reads is never =
+      behind_made_page n (made_events n ∷ halfway n ∷ []) (behind_words (stress n) never) λ page a no1.
+      behind_made_events n (halfway n ∷ []) no1 λ events e no2.
+      behind_halfway n [] page events a e no2 at_writing
 
 pub some_cause : NoneNeither → SomeCause
 some_cause none_neither command seen reads rows never = by_table seen.keeper_before.table refl

@@ -2,6 +2,7 @@ pub mod Answering
 pub mod Causes
 pub mod Drops
 pub mod Endings
+pub mod Faring
 pub mod Judgement
 pub mod Moves
 pub mod Numbers

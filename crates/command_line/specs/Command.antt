@@ -16,6 +16,7 @@ pub data Command : Type 0 where
   fetch : List ℕ → ℕ → Command
   parked : Command
   drop_row : List ℕ → ℕ → Command
+  stress : ℕ → Command
 
 abbrev pub view : Asked → Command
 view (asked.Check page) = check page.now
@@ -25,6 +26,7 @@ view (asked.Park page events name) = park page.now events.now name.now
 view (asked.Fetch name version) = fetch name.now version
 view asked.Parked = parked
 view (asked.Drop name version) = drop_row name.now version
+view (asked.Stress parts) = stress parts
 
 -- ---- the name and the version of a session
 
@@ -54,6 +56,19 @@ number_from n (c ∷ cs) = if is_digit c && nat_le (10 * n + (c - 48)) last_vers
 abbrev pub version_of : List ℕ → Option ℕ
 version_of [] = None
 version_of (c ∷ cs) = if nat_eq c 48 then None else number_from 0 (c ∷ cs)
+
+-- ---- how many parts a generated page has
+
+abbrev pub most_parts : ℕ
+most_parts = 1000
+
+abbrev pub few_parts : Option ℕ → Option ℕ
+few_parts None = None
+few_parts (Some n) = if nat_le n most_parts then Some n else None
+
+-- the number from 1 to the most parts that a word writes in decimal, without sign or leading zero
+abbrev pub parts_of : List ℕ → Option ℕ
+parts_of word = few_parts (version_of word)
 
 -- ---- the words after a verb
 
@@ -86,6 +101,15 @@ abbrev pub parked_of : List (List ℕ) → Option Command
 parked_of [] = Some parked
 parked_of words = None
 
+-- the parts of a generated page
+abbrev pub counted : Option ℕ → Option Command
+counted None = None
+counted (Some parts) = Some (stress parts)
+
+abbrev pub stress_of : List (List ℕ) → Option Command
+stress_of (parts ∷ []) = counted (parts_of parts)
+stress_of words = None
+
 -- the command of a verb with these words after it
 abbrev pub command_by : List ℕ → List (List ℕ) → Option Command
 command_by verb words =
@@ -97,7 +121,8 @@ command_by verb words =
     else (if bytes_eq verb (codes "fetch") then row_of fetch words
     else (if bytes_eq verb (codes "parked") then parked_of words
     else (if bytes_eq verb (codes "drop") then row_of drop_row words
-    else None)))))))
+    else (if bytes_eq verb (codes "stress") then stress_of words
+    else None))))))))
 
 -- the verb comes first
 abbrev pub command_of : List (List ℕ) → Option Command
@@ -113,3 +138,4 @@ files_of (park page events name) = page ∷ events ∷ []
 files_of (fetch name version) = []
 files_of parked = []
 files_of (drop_row name version) = []
+files_of (stress parts) = []

@@ -1,5 +1,6 @@
 pub mod Checking
 pub mod Command
+pub mod Faring
 pub mod Keeping
 pub mod Moving
 pub mod Notes
@@ -11,4 +12,5 @@ pub mod Replay
 pub mod Saving
 pub mod Stages
 pub mod Status
+pub mod Stress
 pub mod Texts

@@ -9,12 +9,13 @@ use Rattle.command_line.specs.declared.status.Status.{Status}
 use Rattle.command_line.specs.declared.status.Status.TheVariants.{Ok, WriteFault, OutOfMemory}
 use Rattle.command_line.specs.declared.command.Work.{Work}
 use Rattle.command_line.specs.declared.command.Work.TheVariants.{Replay, Save}
-use Rattle.command_line.specs.Command.{Command, check, instrument, session, park, fetch, parked, drop_row}
+use Rattle.command_line.specs.Command.{Command, check, instrument, session, park, fetch, parked, drop_row, stress}
 use Rattle.command_line.specs.Checking.{Tells}
 use Rattle.command_line.specs.Opening.{OpensTo}
 use Rattle.command_line.specs.Parking.{next_version, listed, listed_text, row_line}
 use Rattle.command_line.specs.Replay.{Replays}
 use Rattle.command_line.specs.Saving.{Begins, Saves}
+use Rattle.command_line.specs.Stress.{Measures}
 use Rattle.command_line.specs.Stages.{Seen, Held, StopsWriting, EndsAt, EndsBy, Lasts, PassesAll, work_of}
 
 -- ---- texts
@@ -33,6 +34,7 @@ TextOf (park p e name) seen text = (version : ℕ) × (text ≡ row_line (codes 
 TextOf (fetch name version) seen text = IfSome seen.keeper_before.table (λ t. get t (name, version) ≡ Some text)
 TextOf parked seen text = IfSome seen.keeper_before.table (λ t. text ≡ listed_text (listed t))
 TextOf (drop_row name version) seen text = text ≡ row_line (codes "dropped ") name version
+TextOf (stress n) seen text = Measures n text
 
 -- ---- the output
 

@@ -3,7 +3,7 @@
 ghost use Rattle.std.specs.Prelude.{◌≡◌, map, option_map, string_bytes};
 ghost use Rattle.command_line.specs.Command as spec;
 
-use crate::session_words::{is_session_name, version_of};
+use crate::session_words::{is_session_name, parts_of, version_of};
 
 /// What is done with a page and its events.
 #[derive(Clone, Copy, PartialEq, Eq)]
@@ -31,6 +31,8 @@ pub enum Command<'a> {
     Parked,
     /// `drop NAME V`: drops what is kept under this name and version.
     Drop(&'a str, u64),
+    /// `stress N`: writes how the generated page with N parts fares.
+    Stress(u32),
 }
 
 // `check P` and `instrument P`.
@@ -96,6 +98,19 @@ fn parked_of(words: &[String]) -> Option<Command<'_>>
     }
 }
 
+// `stress N`.
+fn stress_of(words: &[String]) -> Option<Command<'_>>
+    ensures { option_map spec.view result ≡ spec.stress_of (map string_bytes words.now) }
+{
+    match words {
+        [parts] => match parts_of(parts) {
+            Some(parts) => Some(Command::Stress(parts)),
+            None => None,
+        },
+        _ => None,
+    }
+}
+
 /// The command of these words, or `None` where they are no command line. The verb comes first.
 pub fn command_of(words: &[String]) -> Option<Command<'_>>
     ensures { option_map spec.view result ≡ spec.command_of (map string_bytes words.now) }
@@ -112,6 +127,7 @@ pub fn command_of(words: &[String]) -> Option<Command<'_>>
         "fetch" => row_of(words).map(|(name, version)| Command::Fetch(name, version)),
         "parked" => parked_of(words),
         "drop" => row_of(words).map(|(name, version)| Command::Drop(name, version)),
+        "stress" => stress_of(words),
         _ => None,
     }
 }

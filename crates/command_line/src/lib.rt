@@ -16,6 +16,7 @@ mod saved_text;
 mod saving;
 mod session_words;
 mod status;
+mod stress;
 mod system;
 
 pub use command::{Command, Work};

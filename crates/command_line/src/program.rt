@@ -15,6 +15,7 @@ use crate::parking::{drop_row, fetch, park, parked};
 use crate::replay::replay;
 use crate::save::save;
 use crate::status::Status;
+use crate::stress::stress;
 use page_io::{Files, Keeper, Sink};
 use std::alloc::Global;
 
@@ -58,6 +59,7 @@ fn perform<F: Files, O: Sink, K: Keeper>(
         Command::Fetch(name, version) => put_text(fetch(alloc, name, version, keeper), out),
         Command::Parked => put_text(parked(alloc, keeper), out),
         Command::Drop(name, version) => put_text(drop_row(alloc, name, version, keeper), out),
+        Command::Stress(parts) => put_text(stress(alloc, parts), out),
     }
 }
 

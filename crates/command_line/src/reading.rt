@@ -51,8 +51,8 @@ fn accept_bytes(alloc: Global, bytes: &[u8]) -> Result<Accepted, Status>
     }
 }
 
-// Accepts the page of these bytes, without where its parts stand.
-fn accept_page(alloc: Global, bytes: &[u8]) -> Result<CheckedPage, Status>
+/// Accepts the page of these bytes, without where its parts stand.
+pub fn accept_page(alloc: Global, bytes: &[u8]) -> Result<CheckedPage, Status>
     ensures ok { IfOk result (IsAccepted bytes.now) }
     ensures sound { IfOk result (λ page. IsSound page.nodes) }
     ensures stops { IfErr result (IsUntaken bytes.now) }

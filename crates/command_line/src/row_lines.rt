@@ -8,8 +8,8 @@ use js_core::OutOfMemory;
 use page_io::KeptName;
 use std::alloc::Global;
 
-// Appends a blank and the number.
-fn push_number(text: &mut Vec<u8>, number: u64) -> Result<(), OutOfMemory>
+/// Appends a blank and the number.
+pub fn push_number(text: &mut Vec<u8>, number: u64) -> Result<(), OutOfMemory>
     ensures { OnOk result (text.new.items ≡ text.old.items ++ spec.number_words number) }
 {
     let mut digits = Buffer::new();

@@ -1,4 +1,4 @@
-//! The names and versions of sessions, as words of the command line write them.
+//! The names and versions of sessions, and the sizes of generated pages, as words of the command line write them.
 
 ghost use Rattle.std.specs.Prelude.{◌≡◌};
 ghost use Rattle.std.specs.List.{list_all};
@@ -6,6 +6,9 @@ ghost use Rattle.command_line.specs.Command as spec;
 
 /// The last version that a session may have.
 pub const LAST_VERSION: u64 = 1_000_000_000;
+
+// A generated page has at most so many parts.
+const MOST_PARTS: u64 = 1000;
 
 // A name has at most so many letters.
 const LONGEST_NAME: usize = 64;
@@ -69,5 +72,15 @@ pub fn version_of(word: &str) -> Option<u64>
     match word.as_bytes() {
         [] | [b'0', ..] => None,
         digits => number_of(digits),
+    }
+}
+
+/// The number of parts, from 1 to 1,000, that a word writes in decimal, without sign or leading zero.
+pub fn parts_of(word: &str) -> Option<u32>
+    ensures { result ≡ spec.parts_of word.now }
+{
+    match version_of(word) {
+        Some(parts) if parts <= MOST_PARTS => Some(parts as u32),
+        _ => None,
     }
 }

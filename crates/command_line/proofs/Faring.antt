@@ -1,0 +1,201 @@
+-- How generated pages fare: the causes of each end, and the line.
+use Rattle.std.proofs.Common.{◌≡◌, ℕ, List, [], ◌∷◌, drop, length, Option, Some, None, Result, Ok as Good, Err, IfOk, IfErr, Vec, Global, refl, sym, ap, subst, ◌∙◌, inl, inr, arith}
+use Rattle.dom_tree.specs.Sound.{IsSound}
+use Rattle.event_file.specs.Events.{events_of}
+use Rattle.heap_walker.specs.Things.{IsWalk}
+use Rattle.heap_walker.specs.Weight.{load_of, told}
+use Rattle.heap_walker.specs.declared.weight.Weight.{Weight}
+use Rattle.heap_walker.proofs.Callers.{walks_are_same}
+use Rattle.js_values.specs.declared.event.Event.{Event}
+use Rattle.js_values.specs.declared.line.Line.{Line}
+use Rattle.opened_pages.specs.Opened.{HaveNumbers}
+use Rattle.page_check.specs.Accept.{IsRefused}
+use Rattle.page_check.specs.declared.page.Refusal.{Refusal}
+use Rattle.page_io.specs.Seen.{FilesSeen, KeeperSeen, SinkSeen}
+use Rattle.page_maker.specs.Events.{event_list}
+use Rattle.page_maker.specs.Page.{page as page_text}
+use Rattle.page_meaning.specs.Pages.{Page as RunningPage, lines_after, lines_of_run, run_all, run_of, load_of as loaded}
+use Rattle.page_meaning.specs.Store.{Store}
+use Rattle.page_writer.specs.Page.{saved_page}
+use Rattle.command_line.specs.Command.{stress}
+use Rattle.command_line.specs.Faring.{CountsLines, IsMovedBy, IsSavedInVain, IsUnmoved, IsWhole}
+use Rattle.command_line.specs.Moving.{CanBeSaved, IsOverweight, IsSaved}
+use Rattle.command_line.specs.Page.{Page, IsAccepted, opened, running}
+use Rattle.command_line.specs.Reading.{IsUntaken}
+use Rattle.command_line.specs.Saving.{GoesOn, IsTooMuch, MovesTo}
+use Rattle.command_line.specs.Stages.{Seen, seen_between, unasked, unread, unwritten, halfway, EndsAt, PassesAll, StopsAtMadeEvents, work_of}
+use Rattle.command_line.specs.Stress.{earlier, last_line, later, stress_line, IsHalfway, IsMade, IsMoved, IsMovableHalfway, IsTooLargeHalfway, Measures}
+use Rattle.command_line.specs.Texts.{Gives}
+use Rattle.command_line.specs.declared.status.Status.{Status}
+use Rattle.command_line.specs.declared.status.Status.TheVariants.{PageRefused, EventsRefused, TooLarge, OutOfMemory}
+use Rattle.command_line.proofs.Moves.{OneAcceptance, SavingLaws, saved_moves}
+use Rattle.command_line.proofs.Walking.{some_walk}
+
+-- nothing outside is asked
+abbrev pub alone : Seen
+alone = seen_between unread unread unasked unasked unwritten unwritten
+
+-- a saved page that is not taken
+pub untaken_is_unmoved : (page : Page) (before : List Event) (text : List ℕ) (status : Status) → HaveNumbers page.kind page.scripts
+    → IsSaved (run_of (opened page) before) text → IsUntaken text status → IsUnmoved page before status
+untaken_is_unmoved page before text (PageRefused (Some r)) numbered saved h = record {
+  things = saved.0;
+  can = saved.1;
+  numbered = numbered;
+  refused = subst (λ (b : List ℕ). IsRefused b r) saved.2 h;
+}
+untaken_is_unmoved page before text OutOfMemory numbered saved h = tt
+untaken_is_unmoved page before text (PageRefused None) numbered saved h = absurd h
+untaken_is_unmoved page before text status numbered saved h = absurd h
+
+module _ (n : ℕ) where
+  -- ---- the page and its events
+
+  pub page_not_made : (status : Status) → IsUntaken (page_text n) status → EndsAt (work_of (stress n)) status alone
+  page_not_made (PageRefused (Some r)) h = inl h
+  page_not_made OutOfMemory h = inl tt
+  page_not_made (PageRefused None) h = absurd h
+  page_not_made status h = absurd h
+
+  pub events_not_made : (page : Page) (status : Status) → IsAccepted (page_text n) page → StopsAtMadeEvents n status → EndsAt (work_of (stress n)) status alone
+  events_not_made page status a h = inr ((page, a), inl h)
+
+  -- ---- the move
+
+  is_halfway : (page : Page) (events : List Event) (things : List ℕ) → IsMade n page events → IsWalk (run_of (opened page) (earlier events)) things
+      → IsHalfway n (run_of (opened page) (earlier events)) things
+  is_halfway page events things made walked = record { page = page; events = events; made = made; state = refl; walked = walked }
+
+  pub is_movable : (page : Page) (events : List Event) (things : List ℕ) → IsMade n page events → IsWalk (run_of (opened page) (earlier events)) things
+      → ¬ IsTooMuch (told (load_of (run_of (opened page) (earlier events)) things)) → IsMovableHalfway n
+  is_movable page events things made walked little = record {
+    state = run_of (opened page) (earlier events);
+    things = things;
+    halfway = is_halfway page events things made walked;
+    little = little;
+  }
+
+  too_large : (page : Page) (events : List Event) (w : Weight) (things : List ℕ) → IsMade n page events
+      → IsOverweight (run_of (opened page) (earlier events)) things w → IsTooLargeHalfway n w
+  too_large page events w things made over = record {
+    state = run_of (opened page) (earlier events);
+    things = things;
+    halfway = is_halfway page events things made over.walked;
+    weighed = over.weighed;
+    more = over.more;
+  }
+
+  -- the saved page puts out what the page does after the earlier events
+  lines_go_on : (page now : Page) (before after : List Event) → GoesOn page before now
+      → length (lines_of_run (running now) after) ≡ length (lines_after (running page) before after)
+  lines_go_on page now before after on =
+      let silent : lines_after (running now) [] after ≡ lines_of_run (running now) after =
+      ap (λ (ls : List Line). drop (length ls) (lines_of_run (running now) after)) on.silent in
+      ap (λ (ls : List Line). length ls) (sym silent ∙ on.same after)
+
+  module _ (laws : SavingLaws) (page : Page) (events : List Event) (made : IsMade n page events) (sound : IsSound page.nodes) where
+    pub moved_gives : (lines bytes : ℕ) → IsMovedBy page (earlier events) (later events) lines bytes → IsMoved n lines bytes
+    moved_gives lines bytes m =
+        let moves : MovesTo (page_text n) (earlier events) (saved_page (run_of (opened page) (earlier events)) m.things) =
+        saved_moves laws (page_text n) page (earlier events) m.things made.accepted sound m.numbered m.can in
+        let on = moves.goes_on page m.counts.page made.accepted m.counts.accepted in
+        record {
+          page = page;
+          events = events;
+          made = made;
+          things = m.things;
+          walked = m.can.walked;
+          little = m.can.little;
+          lines = m.counts.is ∙ lines_go_on page m.counts.page (earlier events) (later events) on;
+          size = m.size;
+        }
+
+    pub unmoved_ends : ((bytes : List ℕ) (page : Page) (cause : Refusal) → IsAccepted bytes page → IsRefused bytes cause → ⊥) → (status : Status)
+        → IsUnmoved page (earlier events) status → EndsAt (work_of (stress n)) status alone
+    unmoved_ends not_both (TooLarge w) h =
+        inr ((page, made.accepted), inr ((events, made.holds), inl (too_large page events w h.0 made h.1)))
+    unmoved_ends not_both (PageRefused (Some r)) h =
+        let moves : MovesTo (page_text n) (earlier events) (saved_page (run_of (opened page) (earlier events)) h.things) =
+        saved_moves laws (page_text n) page (earlier events) h.things made.accepted sound h.numbered h.can in
+        absurd (not_both (saved_page (run_of (opened page) (earlier events)) h.things) moves.moved r moves.page.accepted h.refused)
+    unmoved_ends not_both OutOfMemory h = inl tt
+    unmoved_ends not_both (PageRefused None) h = absurd h
+    unmoved_ends not_both status h = absurd h
+
+    -- the same of what the move answered
+    pub moved_if : (before after : List Event) (r : Result (ℕ × ℕ) Status) → before ≡ earlier events → after ≡ later events
+        → IfOk r (λ m. IsMovedBy page before after m.0 m.1) → IfOk r (λ m. IsMoved n m.0 m.1)
+    moved_if before after (Good m) b a h =
+        moved_gives m.0 m.1 (subst (λ es. IsMovedBy page (earlier events) es m.0 m.1) a (subst (λ es. IsMovedBy page es after m.0 m.1) b h))
+    moved_if before after (Err status) b a h = tt
+
+    pub unmoved_if : ((bytes : List ℕ) (page : Page) (cause : Refusal) → IsAccepted bytes page → IsRefused bytes cause → ⊥)
+        → (before : List Event) (r : Result (ℕ × ℕ) Status) → before ≡ earlier events
+        → IfErr r (IsUnmoved page before) → IfErr r (λ status. EndsAt (work_of (stress n)) status alone)
+    unmoved_if not_both before (Good m) b h = tt
+    unmoved_if not_both before (Err status) b h = unmoved_ends not_both status (subst (λ es. IsUnmoved page es status) b h)
+
+  -- ---- one page and one list of events
+
+  same_page : OneAcceptance → (page other : Page) (es ds : List Event) → IsMade n page es → IsMade n other ds → page ≡ other
+  same_page one page other es ds a b = one (page_text n) page other a.accepted b.accepted
+
+  same_list : (page other : Page) (es ds : List Event) → IsMade n page es → IsMade n other ds → es ≡ ds
+  same_list page other es ds a b = let same : Good es ≡ Good ds = sym a.holds ∙ b.holds in cc
+
+  -- ---- the line
+
+  pub stress_gives : OneAcceptance → (s : Store) (after bytes : ℕ) (text : Vec ℕ Global) → IsWhole n s → IsMoved n after bytes
+      → text.items ≡ stress_line n (length s.lines) after bytes (last_line s.lines) → Gives (stress n) (Good text) alone
+  stress_gives one s after bytes text w m e =
+      let page = same_page one w.page m.page w.events m.events w.made m.made in
+      let events = same_list w.page m.page w.events m.events w.made m.made in
+      let lines : s.lines ≡ lines_of_run (running m.page) m.events =
+      ap (λ (t : Store). t.lines) w.state ∙ ap (λ (p : Page). lines_of_run (running p) w.events) page ∙ ap (lines_of_run (running m.page)) events in (
+        ((m.page, m.made.accepted), ((m.events, m.made.holds), (is_movable m.page m.events m.things m.made m.walked m.little, tt))),
+        record {
+          page = m.page;
+          events = m.events;
+          made = m.made;
+          things = m.things;
+          walked = m.walked;
+          line = e ∙ ap (λ (ls : List Line). stress_line n (length ls) after bytes (last_line ls)) lines
+              ∙ ap (λ (k : ℕ). stress_line n (length (lines_of_run (running m.page) m.events)) k bytes (last_line (lines_of_run (running m.page) m.events))) m.lines
+              ∙ ap (λ (k : ℕ). stress_line n (length (lines_of_run (running m.page) m.events)) (length (lines_after (running m.page) (earlier m.events) (later m.events))) k
+              (last_line (lines_of_run (running m.page) m.events))) m.size;
+        },
+        refl,
+      )
+
+  pub stress_stops : (status : Status) → EndsAt (work_of (stress n)) status alone → Gives (stress n) (Err status) alone
+  stress_stops status h = (h, refl)
+
+  -- ---- the stage halfway is ended or passed, in one way
+
+  module _ (one : OneAcceptance) where
+    same_state : (s t : Store) (ks js : List ℕ) → IsHalfway n s ks → IsHalfway n t js → s ≡ t
+    same_state s t ks js a b =
+        let page = same_page one a.page b.page a.events b.events a.made b.made in
+        let events = same_list a.page b.page a.events b.events a.made b.made in
+        a.state ∙ ap (λ (p : Page). run_of (opened p) (earlier a.events)) page ∙ ap (λ (es : List Event). run_of (opened b.page) (earlier es)) events
+        ∙ sym b.state
+
+    carried : (P : Store → List ℕ → Type 0) (s t : Store) (ks js : List ℕ) → IsHalfway n s ks → IsHalfway n t js → P s ks → P t js
+    carried P s t ks js a b h =
+        let state = same_state s t ks js a b in
+        let walk = walks_are_same t ks js (subst (λ u. IsWalk u ks) state a.walked) b.walked in
+        subst (P t) walk (subst (λ u. P u ks) state h)
+
+    pub one_weight_halfway : (v w : Weight) → IsTooLargeHalfway n v → IsTooLargeHalfway n w → v ≡ w
+    one_weight_halfway v w l m =
+        carried (λ s ks. v ≡ told (load_of s ks)) l.state m.state l.things m.things l.halfway m.halfway l.weighed ∙ sym m.weighed
+
+    pub large_or_little_halfway : (w : Weight) → IsTooLargeHalfway n w → IsMovableHalfway n → ⊥
+    large_or_little_halfway w l m =
+        let more : IsTooMuch (told (load_of l.state l.things)) = subst IsTooMuch l.weighed l.more in
+        m.little (carried (λ s ks. IsTooMuch (told (load_of s ks))) l.state m.state l.things m.things l.halfway m.halfway more)
+
+  pub some_halfway : (page : Page) (events : List Event) → IsMade n page events
+      → ((w : Weight) → IsTooLargeHalfway n w → ⊥) → (IsMovableHalfway n → ⊥) → ⊥
+  some_halfway page events made large movable = some_walk (run_of (opened page) (earlier events)) λ things walked.
+      movable (is_movable page events things made walked λ much. large _ (too_large page events _ things made (record { walked = walked; weighed = refl; more = much })))
