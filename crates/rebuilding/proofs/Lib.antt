@@ -44,6 +44,7 @@ pub mod List
 pub mod ListenPhase
 pub mod Literals
 pub mod Loading
+pub mod Lonely
 pub mod MadeHosts
 pub mod MakePhase
 pub mod Making

@@ -77,7 +77,7 @@ module _ (g w : Host) (place : ℕ) where
 pub joined_cleared : (h i : Contents) (g w : Host) (place : ℕ) → Joined g w place → IsHosting i w → 0 < length g.nodes → IsCleared h g → IsCleared i w
 joined_cleared h i g w place joined hosting there cleared = record {
   hosting = hosting;
-  children = ap (λ n. n.children) (node_stays g w place joined 0 there) ∙ cleared.children;
+  alone = node_stays g w place joined 0 there ∙ cleared.alone;
   listeners = listeners_same g w place joined ∙ cleared.listeners;
   timers = timers_same g w place joined ∙ cleared.timers;
 }

@@ -1,5 +1,5 @@
 -- Nodes and the objects that they have: those of the sites and of the document, each its own.
-use Rattle.std.proofs.Common.{◌≡◌, sym, ap, subst, ◌∙◌, ℕ, ◌<◌, List, length, arith}
+use Rattle.std.proofs.Common.{◌≡◌, sym, ap, subst, ◌∙◌, ℕ, ◌<◌, List, [], length, arith}
 use Rattle.js_values.specs.declared.ids.ObjId.{ObjId}
 use Rattle.object_heap.specs.Chain.{object_at}
 use Rattle.object_heap.specs.Heap.{Contents}
@@ -8,7 +8,7 @@ use Rattle.object_heap.specs.declared.object.Class.TheVariants as class
 use Rattle.page_host.specs.Host.{Host, object_of_node}
 use Rattle.page_meaning.specs.Places.{at_place, built_in_count, document}
 use Rattle.page_writer.specs.Frame.{nth_node}
-use Rattle.rebuilding.specs.Rebuilt.{nth}
+use Rattle.rebuilding.specs.Rebuilt.{IsFresh, IsOwned, nth}
 use Rattle.rebuilding.specs.Scene.{IsRunning, Scene, frame_count}
 use Rattle.rebuilding.proofs.SitesApart.{site_there, sites_differ}
 
@@ -58,3 +58,10 @@ no_document c h g sites n a running own inside is same =
     ap (λ o. o.0) (sym (own.things n a inside is).1 ∙ ap (λ k. object_of_node g.objects (nth_node k)) same ∙ own.document.1)
     in
     omega (arith, equal, (site_there c h sites n running inside).0)
+
+-- before the first statement, where nothing stands
+pub fresh_owns : (c : Scene) (h : Contents) (g : Host) → IsFresh c h g → OwnObjects h g []
+fresh_owns c h g fresh = record {
+  things = λ n k inside on. absurd (omega (arith, inside));
+  document = subst (IsOwned g document.0) fresh.running.document.class fresh.own;
+}

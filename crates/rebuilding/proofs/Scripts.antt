@@ -47,7 +47,7 @@ use Rattle.page_meaning.specs.Properties.{get_member}
 use Rattle.page_meaning.specs.Reading.{named_at, seen_at, seen_value}
 use Rattle.page_meaning.specs.Store.{Store}
 use Rattle.page_writer.specs.References.{document_expr}
-use Rattle.rebuilding.specs.Rebuilt.{IsFresh}
+use Rattle.rebuilding.specs.Rebuilt.{IsFresh, IsOwned}
 use Rattle.rebuilding.proofs.HostCalls.{Reads}
 use Rattle.rebuilding.proofs.Calling.{also_on}
 use Rattle.rebuilding.proofs.Paths.{name_read}
@@ -172,15 +172,23 @@ node_objects_are (suc zero) low = refl
 node_objects_are (suc (suc zero)) low = refl
 node_objects_are (suc (suc (suc k))) low = absurd (omega (arith, low))
 
+document_own : IsOwned cleared document.0 (object_at begun.objects document.0).class
+document_own =
+    subst (λ (o : Object). IsOwned cleared document.0 o.class) (sym document_is) (omega arith, document_object)
+  where
+    document_object : object_of_node cleared.objects (nth_node 0) ≡ document
+    document_object = refl
+
 pub cleared_fresh : IsSound (pristine frame_nodes).heap → host.IsSound frame_host → IsFresh scene begun cleared
 cleared_fresh sound frame = record {
   running = begun_running sound;
   cleared = record {
     hosting = record { sound = frame_sound frame; objects = node_objects_are; clock = refl };
-    children = refl;
+    alone = refl;
     listeners = refl;
     timers = refl;
   };
+  own = document_own;
   globals = begun_window;
   document_props = ap (λ (o : Object). o.props) document_is;
   document_extensible = ap (λ (o : Object). o.extensible) document_is;

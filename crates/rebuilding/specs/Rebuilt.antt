@@ -150,6 +150,8 @@ pub record IsFresh (c : Scene) (h : Contents) (g : Host) : Type 0 where
   pub document_props : (object_at h.objects document.0).props ≡ []
   pub document_extensible : (object_at h.objects document.0).extensible ≡ true
   pub document_open : (object_at h.objects document.0).closed ≡ false
+  -- and its object is that of its node
+  pub own : IsOwned g document.0 (object_at h.objects document.0).class
 
 -- a page at rest is rebuilt by its plan
 abbrev pub PlansRebuild : Type 0

@@ -18,9 +18,10 @@ use Rattle.page_meaning.specs.Names.{Here}
 use Rattle.page_host.specs.Host.{Host, object_of_node}
 use Rattle.page_meaning.specs.Places.{array_prototype, at_place, built_in_count, document, node_prototype, window}
 use Rattle.page_meaning.specs.Store.{Store, silent}
-use Rattle.dom_tree.specs.Node.{children_at}
+use Rattle.dom_tree.specs.Node.{node_at}
+use Rattle.dom_tree.specs.declared.content.Kind.TheVariants.{Document}
 use Rattle.page_host.specs.Sound as host
-use Rattle.page_writer.specs.Frame.{frame_nodes, nth_node}
+use Rattle.page_writer.specs.Frame.{bare_node, frame_nodes, nth_node}
 use Rattle.object_shapes.specs.Shapes.{IsWindow, built_in_at}
 
 -- the environment of the catch clause, and the place of the list
@@ -102,9 +103,9 @@ pub record IsHosting (h : Contents) (g : Host) : Type 0 where
   pub objects : (k : ℕ) → k < length g.nodes → (object_at h.objects (object_of_node g.objects (nth_node k)).0).class ≡ class.Node (nth_node k)
   pub clock : g.clock ≡ 0
 
--- after the second line: no node is in the document, nobody listens, and no timer runs
+-- after the second line: the document is alone, nobody listens, and no timer runs
 pub record IsCleared (h : Contents) (g : Host) : Type 0 where
   pub hosting : IsHosting h g
-  pub children : children_at g.nodes 0 ≡ []
+  pub alone : node_at g.nodes 0 ≡ bare_node Document None []
   pub listeners : g.listeners ≡ []
   pub timers : g.timers ≡ []
