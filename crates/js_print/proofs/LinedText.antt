@@ -1,5 +1,5 @@
 -- A printed script with line ends between its lexemes is read again.
-use Rattle.std.proofs.Common.{◌≡◌, ◌∙◌, ℕ, ◌-◌, ◌≤◌, Bool, true, false, List, [], ◌∷◌, ◌++◌, length, Some, None, refl, sym, ap, subst, length-append, arith}
+use Rattle.std.proofs.Common.{◌≡◌, ◌∙◌, ℕ, ◌+◌, ◌-◌, ◌≤◌, Bool, true, false, List, [], ◌∷◌, ◌++◌, length, Some, None, refl, sym, ap, subst, length-append, append_assoc, arith}
 use Rattle.std.specs.Prelude.{not, ◌&&◌, ◌||◌, ◌==◌, codes, bytes_eq, IsUtf8}
 use Rattle.std.specs.List.{list_all, flat_map}
 use Rattle.std.specs.Char.Escape.{encode_utf16}
@@ -25,12 +25,13 @@ use Rattle.js_lexer.specs.Tokens.{TokensOf}
 use Rattle.js_lexer.specs.Tokens.TokensOf.{none as no_tokens, more as token_more}
 use Rattle.js_grammar.specs.LineEnds.{first_of, others_of, is_border, may_be_postfix, may_part, parted}
 use Rattle.js_grammar.specs.Symbols.{Lexeme as Found, symbol_of, lexemes}
+use Rattle.js_grammar.specs.Syntax.{IsSyntax}
 use Rattle.js_grammar.proofs.Callers.{line_ends_are_harmless}
 use Rattle.js_print.specs.declared.lexeme.Lexeme.{Lexeme}
 use Rattle.js_print.specs.declared.lexeme.Lexeme.TheVariants.{Keyword, Name, Number, Text, Punct}
 use Rattle.js_print.specs.Laws.{HasNoEndTag, is_ascii_text, is_free, is_ordinary}
 use Rattle.js_print.specs.Lexemes.{stmts_lexemes}
-use Rattle.js_print.specs.Lined.{gap, lined_after, lined_text, may_be_lined, opening, is_lined, LinedScriptsAreReadAgain}
+use Rattle.js_print.specs.Lined.{gap, lined_after, lined_text, may_be_lined, opening, is_lined, LinedAgain, LinedScriptsAreReadAgain}
 use Rattle.js_print.specs.ReadAgain.{begins_strict}
 use Rattle.js_print.specs.ReadBack.{kind_of}
 use Rattle.js_print.specs.Spelling.{is_word, lexeme_text, space_between, string_text}
@@ -235,6 +236,90 @@ lined_scripts_are_read_again script ls is may =
       no_control = ap (list_all is_lined) same ∙ units_are_lined xs ls false are;
       tokens = lined_from size ls xs;
       read = subst (λ us. TokensOf (length us) us (lined_from size ls xs)) (sym same) (has_lined size xs ls start false are c);
+      derived = line_ends_are_harmless ls (plain_tokens xs) (lined_from size ls xs) script (lexemes_derive_the_tree (plain_tokens xs) script is (are_tokens xs)) (same_symbols size opening ls xs may (script_is_steady script is));
+      strict = λ e. lined_strict size ls script e (omega arith);
+    }
+
+-- ---- and a line end behind all of them
+
+ends_with_gap : Gap (10 ∷ []) [] true
+ends_with_gap = gap_more (10 ∷ []) [] [] true false (line_feed_is_gap []) (no_gap_more [] no_gap_at_end)
+
+ended_ends : (x : Lexeme) (us : List ℕ) → begins_with (refuses x) us ≡ false → begins_with (refuses x) (us ++ 10 ∷ []) ≡ false
+ended_ends x [] e = line_feed_ends x
+ended_ends x (u ∷ us) e = e
+
+-- the tokens are the same, at the same places
+ended_has : (size : ℕ) (xs : List Lexeme) (ls : List Bool) (before : Lexeme) (after_word : Bool) → are_written xs ≡ true → calm before xs ≡ true
+    → TokensOf (size + 1) (lined_units after_word ls xs ++ 10 ∷ []) (lined_from size ls xs)
+ended_has size [] ls before after_word w c = no_tokens (10 ∷ []) true ends_with_gap
+ended_has size (x ∷ xs) ls before after_word w c =
+    let g = gap (first_of ls) after_word (is_word x) in
+    let rest = lined_units (is_word x) (others_of ls) xs in
+    let here = lexeme_units x ++ (rest ++ 10 ∷ []) in
+    let whole : g ++ here ≡ (g ++ (lexeme_units x ++ rest)) ++ 10 ∷ [] = ap (λ (t : List ℕ). g ++ t) (sym (append_assoc (lexeme_units x) rest (10 ∷ []))) ∙ sym (append_assoc g (lexeme_units x ++ rest) (10 ∷ [])) in
+    let behind_rest : (size + 1) - length (rest ++ 10 ∷ []) ≡ size - length rest = omega (arith, length-append rest (10 ∷ [])) in
+    let from_here : (size + 1) - length here ≡ size - length (lexeme_units x ++ rest) =
+    omega (arith, length-append (lexeme_units x) (rest ++ 10 ∷ []), length-append rest (10 ∷ []), length-append (lexeme_units x) rest) in
+    let w' : are_written xs ≡ true = (and_parts _ _ w).1 in
+    let c' : calm x xs ≡ true = (and_parts (meets before x) _ c).1 in
+    let read = lexeme_is_read x (rest ++ 10 ∷ []) (and_parts _ _ w).0 (ended_ends x rest (lined_ends x (others_of ls) xs w' c')) in
+    let first : ℕ → ℕ → Token = λ s e. record { what = kind_of x; start = s; end = e; after_line = first_of ls } in
+    let found = token_more (g ++ here) here (rest ++ 10 ∷ []) (first_of ls) (kind_of x) (lined_from size (others_of ls) xs) (gap_is_gap (first_of ls) after_word (is_word x) here read.no_gap) read.at
+    (ended_has size xs (others_of ls) x (is_word x) w' c') in
+    subst (λ (us : List ℕ). TokensOf (size + 1) us (lined_from size ls (x ∷ xs))) whole
+    (subst (λ (e : ℕ). TokensOf (size + 1) (g ++ here) (first (size - length (lexeme_units x ++ rest)) e ∷ lined_from size (others_of ls) xs)) behind_rest
+    (subst (λ (s : ℕ). TokensOf (size + 1) (g ++ here) (first s ((size + 1) - length (rest ++ 10 ∷ [])) ∷ lined_from size (others_of ls) xs)) from_here found))
+
+-- no end tag is made by a line end behind a text
+ended_has_no_tag : (us : List ℕ) → HasNoEndTag us → HasNoEndTag (us ++ 10 ∷ [])
+ended_has_no_tag us none [] after e = by us none e
+  where
+    by : (us : List ℕ) → HasNoEndTag us → us ++ 10 ∷ [] ≡ 60 ∷ 47 ∷ after → ⊥
+    by [] none e = cc
+    by (u ∷ []) none e = cc
+    by (u ∷ v ∷ us) none e =
+        let less : u ≡ 60 = cc in
+        let slash : v ≡ 47 = cc in
+        none [] us (ap (λ (x : ℕ). x ∷ v ∷ us) less ∙ ap (λ (x : ℕ). 60 ∷ x ∷ us) slash)
+ended_has_no_tag [] none (b ∷ before) after e = by before (tail_of e)
+  where
+    tail_of : 10 ∷ [] ≡ b ∷ (before ++ (60 ∷ 47 ∷ after)) → [] ≡ before ++ (60 ∷ 47 ∷ after)
+    tail_of e = cc
+
+    by : (before : List ℕ) → [] ≡ before ++ (60 ∷ 47 ∷ after) → ⊥
+    by [] e = cc
+    by (c ∷ cs) e = cc
+ended_has_no_tag (u ∷ us) none (b ∷ before) after e =
+    let same : u ≡ b = cc in
+    let rest : us ++ 10 ∷ [] ≡ before ++ (60 ∷ 47 ∷ after) = cc in
+    ended_has_no_tag us (λ f a k. none (u ∷ f) a (ap (λ (x : List ℕ). u ∷ x) k)) before after rest
+
+line_feed_is_coded : Coded (10 ∷ []) (10 ∷ [])
+line_feed_is_coded = ascii_is_coded (10 ∷ []) refl
+
+-- a script is read again, too, where a line end stands behind it
+pub ended_scripts_are_read_again : (script : tree.Stmts) (ls : List Bool) → IsSyntax script → may_be_lined opening ls (stmts_lexemes script) ≡ true
+    → LinedAgain script (lined_text ls (stmts_lexemes script) ++ 10 ∷ [])
+ended_scripts_are_read_again script ls is may =
+    let xs = stmts_lexemes script in
+    let w = lexemes_can_be_written script is in
+    let are = written xs w in
+    let c = alone xs (stmts_calm script) in
+    let text = lined_text ls xs in
+    let units = lined_units false ls xs in
+    let again = lined_scripts_are_read_again script ls is may in
+    let code = both_coded text units (10 ∷ []) (10 ∷ []) (lined_is_coded xs ls false are) line_feed_is_coded in
+    let same = units_of_coded (text ++ 10 ∷ []) (units ++ 10 ∷ []) code in
+    let size = length units in
+    let one : size + 1 ≡ length (units ++ 10 ∷ []) = omega (arith, length-append units (10 ∷ [])) in
+    record {
+      utf8 = coded_is_utf8 (text ++ 10 ∷ []) (units ++ 10 ∷ []) code;
+      no_tag_in_units = subst HasNoEndTag (sym same) (ended_has_no_tag units (subst HasNoEndTag (units_of_coded text units (lined_is_coded xs ls false are)) again.no_tag_in_units));
+      no_control = ap (list_all is_lined) same ∙ joined units (10 ∷ []) (units_are_lined xs ls false are) refl;
+      tokens = lined_from size ls xs;
+      read = subst (λ (us : List ℕ). TokensOf (length us) us (lined_from size ls xs)) (sym same)
+          (subst (λ (n : ℕ). TokensOf n (units ++ 10 ∷ []) (lined_from size ls xs)) one (ended_has size xs ls start false are c));
       derived = line_ends_are_harmless ls (plain_tokens xs) (lined_from size ls xs) script (lexemes_derive_the_tree (plain_tokens xs) script is (are_tokens xs)) (same_symbols size opening ls xs may (script_is_steady script is));
       strict = λ e. lined_strict size ls script e (omega arith);
     }

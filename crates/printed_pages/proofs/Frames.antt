@@ -36,7 +36,7 @@ tag_begins u (v ∷ us) none e =
     let slash = slash_alone v (and_parts (to_ascii_lowercase v == 47) _ (and_parts (to_ascii_lowercase u == 60) _ e).1).0 in
     none [] us (ap (λ (x : ℕ). x ∷ v ∷ us) less ∙ ap (λ (x : ℕ). 60 ∷ x ∷ us) slash)
 
-no_end_tag : (us : List ℕ) → HasNoEndTag us → has_end_tag (codes "script") us ≡ false
+pub no_end_tag : (us : List ℕ) → HasNoEndTag us → has_end_tag (codes "script") us ≡ false
 no_end_tag [] none = refl
 no_end_tag (u ∷ us) none =
     by (is_front_in_any_case (codes "</script") (u ∷ us)) (tag_begins u us none)
@@ -49,17 +49,17 @@ no_end_tag (u ∷ us) none =
 -- ---- line ends, and U+0000
 
 -- it is no CR and not U+0000
-abbrev stays : ℕ → Bool
+abbrev pub stays : ℕ → Bool
 stays u = not (u == 13) && not (u == 0)
 
 lined_stays : (u : ℕ) → is_lined u ≡ true → stays u ≡ true
 lined_stays u e = grind (arith, nat_tests)
 
-all_stay : (us : List ℕ) → list_all is_lined us ≡ true → list_all stays us ≡ true
+pub all_stay : (us : List ℕ) → list_all is_lined us ≡ true → list_all stays us ≡ true
 all_stay [] e = refl
 all_stay (u ∷ us) e = and_from (stays u) _ (lined_stays u (and_parts (is_lined u) _ e).0) (all_stay us (and_parts (is_lined u) _ e).1)
 
-with_same : (us : List ℕ) → list_all stays us ≡ true → with_line_feeds us ≡ us
+pub with_same : (us : List ℕ) → list_all stays us ≡ true → with_line_feeds us ≡ us
 with_same [] e = refl
 with_same (u ∷ us) e = by (u == 13) (begins_with_line_feed us) (and_parts (not (u == 13)) _ (and_parts (stays u) _ e).0).0 (with_same us (and_parts (stays u) _ e).1)
   where
@@ -75,7 +75,7 @@ return_free (u ∷ us) e = by (u == 13) (and_parts (not (u == 13)) _ (and_parts 
     by true off more = absurd (cc)
     by false off more = more
 
-zero_free : (us : List ℕ) → list_all stays us ≡ true → has_zero us ≡ false
+pub zero_free : (us : List ℕ) → list_all stays us ≡ true → has_zero us ≡ false
 zero_free [] e = refl
 zero_free (u ∷ us) e = by (u == 0) (and_parts (not (u == 13)) _ (and_parts (stays u) _ e).0).1 (zero_free us (and_parts (stays u) _ e).1)
   where
@@ -98,7 +98,7 @@ both_scalars (c ∷ cs) ds e f = and_from _ _ (and_parts _ _ e).0 (both_scalars 
 spelt : (cs : List ℕ) → all_scalars cs ≡ true → utf16_of (encode_utf8_all cs) ≡ flat_map encode_utf16 cs
 spelt cs e = ap (flat_map encode_utf16) (chars-encodes cs e)
 
-units_join : (t s : List ℕ) → IsUtf8 t → IsUtf8 s → utf16_of (t ++ s) ≡ utf16_of t ++ utf16_of s
+pub units_join : (t s : List ℕ) → IsUtf8 t → IsUtf8 s → utf16_of (t ++ s) ≡ utf16_of t ++ utf16_of s
 units_join t s a b =
     ap utf16_of (ap (λ (x : List ℕ). x ++ s) (sym a.1.1) ∙ ap (λ (x : List ℕ). encode_utf8_all a.0 ++ x) (sym b.1.1) ∙ sym (encodes-append a.0 b.0))
     ∙ spelt (a.0 ++ b.0) (both_scalars a.0 b.0 a.1.0 b.1.0) ∙ flat_map-append encode_utf16 a.0 b.0
@@ -117,11 +117,11 @@ ascii_bytes (u ∷ us) e =
     ∙ ap (λ (x : List ℕ). x ++ us) (encode_ascii u (low_byte u (and_parts (nat_lt u 128) _ e).0))
 
 -- a text of characters that are units and bytes
-record Same (us : List ℕ) : Type 0 where
-  utf8 : IsUtf8 us
-  units : utf16_of us ≡ us
+pub record Same (us : List ℕ) : Type 0 where
+  pub utf8 : IsUtf8 us
+  pub units : utf16_of us ≡ us
 
-same_units : (us : List ℕ) → is_ascii_text us ≡ true → all_scalars us ≡ true → flat_map encode_utf16 us ≡ us → Same us
+pub same_units : (us : List ℕ) → is_ascii_text us ≡ true → all_scalars us ≡ true → flat_map encode_utf16 us ≡ us → Same us
 same_units us low scalars alone =
     let bytes = ascii_bytes us low in
     record { utf8 = (us, (scalars, bytes)); units = ap utf16_of (sym bytes) ∙ ap (flat_map encode_utf16) (chars-encodes us scalars) ∙ alone }
