@@ -1,5 +1,5 @@
 -- Nodes with their kinds alone: trees are the same, and they are sound where the whole nodes are.
-use Rattle.std.proofs.Common.{◌≡◌, refl, sym, ap, subst, ◌∙◌, ℕ, zero, suc, ◌≤◌, Bool, true, false, not, ◌&&◌, ◌||◌, List, [], ◌∷◌, Option, Some, None, length, filter}
+use Rattle.std.proofs.Common.{◌≡◌, refl, sym, ap, subst, ◌∙◌, ℕ, zero, suc, ◌≤◌, true, not, [], ◌∷◌, length, filter}
 use Rattle.std.proofs.lemmas.Bool.{or_right}
 use Rattle.std.specs.List.{list_all}
 use Rattle.dom_tree.proofs.Callers.{ProperParts, proper_parts}
@@ -7,7 +7,6 @@ use Rattle.dom_tree.specs.Content.{new_content}
 use Rattle.dom_tree.specs.Node.{Nodes, children_at, has, is_distinct, is_document, is_element, is_text, is_this, kind_at, may_have_children, node_at, parent_at}
 use Rattle.dom_tree.specs.Sound.{AreTrees, IsSound, Rooted, has_folded_name, is_proper, root, takes_value, under}
 use Rattle.dom_tree.specs.declared.content.Kind.{Kind}
-use Rattle.js_values.specs.declared.ids.NodeId.{NodeId}
 
 abbrev pub bared : Nodes → Nodes
 bared [] = []

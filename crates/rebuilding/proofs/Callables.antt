@@ -1,9 +1,8 @@
 -- Functions that listeners and timers call: their counterparts stand, can be called, and are as many.
-use Rattle.std.proofs.Common.{◌≡◌, ◌⊎◌, inl, inr, refl, sym, ap, subst, ◌∙◌, ℕ, zero, suc, ◌+◌, ◌<◌, ◌≤◌, Bool, true, false, List, [], ◌∷◌, length, arith}
+use Rattle.std.proofs.Common.{◌≡◌, ◌⊎◌, inl, inr, refl, sym, ap, ◌∙◌, ℕ, ◌+◌, ◌<◌, ◌≤◌, true, false, List, [], ◌∷◌, length, arith}
 use Rattle.std.proofs.lemmas.Bool.{and_from, cases_eq, cases_lt, lt-ltb}
 use Rattle.heap_walker.specs.Still.{Still}
 use Rattle.heap_walker.specs.Things.{IsWalk, is_in}
-use Rattle.js_values.specs.declared.ids.ObjId.{ObjId}
 use Rattle.object_heap.specs.Chain.{object_at}
 use Rattle.object_heap.specs.Environment.{Environment}
 use Rattle.object_heap.specs.Heap.{Contents}

@@ -1,8 +1,7 @@
 -- The phase of children: none is refused, and the nodes mean the same as the saved ones then, but for attributes and values.
-use Rattle.std.proofs.Common.{◌≡◌, ◌⊎◌, inl, inr, refl, sym, ap, subst, ◌∙◌, ℕ, zero, suc, ◌+◌, ◌<◌, ◌≤◌, Bool, true, false, not, ◌&&◌, ◌||◌, nat_eq, List, [], ◌∷◌, ◌++◌, Option, Some, None, codes, length, arith}
+use Rattle.std.proofs.Common.{◌≡◌, ◌⊎◌, inl, inr, refl, sym, ap, subst, ◌∙◌, ℕ, suc, ◌+◌, ◌<◌, Bool, true, false, not, nat_eq, List, [], ◌∷◌, ◌++◌, Some, None, codes, length, arith}
 use Rattle.std.proofs.lemmas.Bool.{and_from, cases_eq, eq-eqb, eqb-true, ne_eqb, or_cases}
 use Rattle.dom_tree.specs.Node.{Node, Nodes, children_at, has, is_distinct, kind_at, node_at, parent_at}
-use Rattle.dom_tree.specs.Sound.{AreTrees}
 use Rattle.heap_relations.specs.Naming.{World}
 use Rattle.heap_relations.specs.Related.{Each, Maybe, no_more, none}
 use Rattle.heap_walker.specs.Still.{Still}
@@ -30,7 +29,7 @@ use Rattle.rebuild_plan.specs.Plan as plan
 use Rattle.rebuild_plan.specs.declared.phase.Phase.TheVariants as phase
 use Rattle.rebuild_plan.specs.declared.statement.Rebuild.{Rebuild}
 use Rattle.rebuilding.specs.Rebuilt.{Succeeds, nth}
-use Rattle.rebuilding.specs.Running.{IsNodeHere, Lacks, node_here, object_here}
+use Rattle.rebuilding.specs.Running.{IsNodeHere, node_here, object_here}
 use Rattle.rebuilding.specs.Scene.{IsHosting, IsRunning, Scene}
 use Rattle.rebuilding.specs.Sites.{site, sited}
 use Rattle.rebuilding.proofs.Bared.{bared, bared_at, bared_long, bared_sound}
@@ -39,7 +38,7 @@ use Rattle.rebuilding.proofs.ListenPhase.{bare_lacks}
 use Rattle.rebuilding.proofs.NodesAt.{NodesStand, document_here, document_node, thing_here, thing_node}
 use Rattle.rebuilding.proofs.OwnObjects.{IsNodeOn, OwnObjects, node_same, own_kept}
 use Rattle.rebuilding.proofs.Placed.{number_at, place_in, place_low, site_low, site_thing}
-use Rattle.rebuilding.proofs.SavedNodes.{IsLinked, IsRest, IsThing, first_has, in_pair, linked_pairs, more_has, node_found, node_listed, nodes_world, pair_in, rest_here, rest_next}
+use Rattle.rebuilding.proofs.SavedNodes.{IsRest, first_has, in_pair, more_has, node_found, node_listed, nodes_world, pair_in, rest_here, rest_next}
 use Rattle.rebuilding.proofs.SitesApart.{site_there, sites_differ}
 
 -- ---- what is known of the two pages

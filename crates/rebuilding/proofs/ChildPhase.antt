@@ -1,5 +1,5 @@
 -- The phase of children runs: each node's children are appended in order, where none of them is refused.
-use Rattle.std.proofs.Common.{◌≡◌, ◌⊎◌, inl, inr, refl, sym, ap, subst, ◌∙◌, ℕ, suc, ◌+◌, ◌<◌, Bool, true, ◌&&◌, ◌||◌, nat_eq, is_none, if◌then◌else◌, List, [], ◌∷◌, ◌++◌, append_assoc, Option, Some, None, codes, length, arith}
+use Rattle.std.proofs.Common.{◌≡◌, refl, sym, ap, subst, ◌∙◌, ℕ, suc, ◌+◌, ◌<◌, true, ◌&&◌, nat_eq, is_none, if◌then◌else◌, List, [], ◌∷◌, ◌++◌, append_assoc, None, codes, length, arith}
 use Rattle.std.proofs.lemmas.Bool.{or_left, or_right}
 use Rattle.dom_tree.proofs.Callers.{eq_refl, steps_stay_sound}
 use Rattle.dom_tree.specs.Change.{inserted, insertion_error}
@@ -14,11 +14,11 @@ use Rattle.object_heap.specs.Heap.{Contents}
 use Rattle.object_heap.specs.declared.object.Class.{Class}
 use Rattle.object_heap.specs.declared.object.Class.TheVariants as class
 use Rattle.page_host.specs.Host.{Host, object_of_node, with_nodes}
-use Rattle.page_host.specs.Steps.{after_host, in_nodes}
+use Rattle.page_host.specs.Steps.{in_nodes}
 use Rattle.page_meaning.specs.Places.{document}
 use Rattle.page_meaning.specs.Store.{Store}
 use Rattle.rebuild_plan.proofs.Callers.{all_nodes, nodes_as}
-use Rattle.rebuild_plan.specs.Compact.{compact, thing_at, things_at}
+use Rattle.rebuild_plan.specs.Compact.{compact, things_at}
 use Rattle.rebuild_plan.specs.Moved.{moved}
 use Rattle.rebuild_plan.specs.Nodes.{moved_nodes, node_as}
 use Rattle.rebuild_plan.specs.Plan as plan

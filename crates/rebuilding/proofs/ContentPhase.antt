@@ -1,19 +1,17 @@
 -- The phase of contents: each node gets its attributes and its set value again.
-use Rattle.std.proofs.Common.{◌≡◌, ◌⊎◌, inl, inr, refl, sym, ap, ap₂, subst, ◌∙◌, ℕ, ◌<◌, Bool, true, false, not, ◌&&◌, ◌||◌, nat_eq, cond, slice_set, if◌then◌else◌, List, [], ◌∷◌, ◌++◌, append_assoc, Option, Some, None, codes, length, length-set, is_none, nat_lt, arith}
+use Rattle.std.proofs.Common.{◌≡◌, ◌⊎◌, inl, inr, refl, sym, ap, ap₂, subst, ◌∙◌, ℕ, ◌<◌, Bool, true, false, not, ◌&&◌, ◌||◌, nat_eq, cond, if◌then◌else◌, List, [], ◌∷◌, ◌++◌, append_assoc, Option, Some, None, codes, length, length-set, is_none, nat_lt, arith}
 use Rattle.std.proofs.lemmas.Bool.{and_parts, eq-eqb, eqb-true, ltb-true, ne_eqb}
 use Rattle.std.specs.List.{list_all}
 use Rattle.dom_tree.proofs.Callers.{ProperParts, at_set, proper_parts}
-use Rattle.dom_tree.specs.Attributes.{Pairs, has_distinct_names}
+use Rattle.dom_tree.specs.Attributes.{Pairs}
 use Rattle.dom_tree.specs.Content.{new_content, with_attribute, with_value}
 use Rattle.dom_tree.specs.Name.{folded, is_folded_name, is_name}
 use Rattle.dom_tree.specs.Node.{Node, Nodes, children_at, is_element, kind_at, no_content, node_at, parent_at, with_content}
 use Rattle.dom_tree.specs.Sound.{is_proper, takes_value}
-use Rattle.dom_tree.specs.Steps.{is_there, sets_attribute, sets_value}
+use Rattle.dom_tree.specs.Steps.{sets_attribute, sets_value}
 use Rattle.dom_tree.specs.declared.content.Content.{Content}
-use Rattle.dom_tree.specs.declared.content.Kind.{Kind}
 use Rattle.host_relations.proofs.Callers.{attributes_are_rebuilt, folded_is}
 use Rattle.host_relations.specs.Attributed.{set_all}
-use Rattle.js_values.specs.declared.ids.NodeId.{NodeId}
 use Rattle.js_values.specs.declared.ids.ObjId.{ObjId}
 use Rattle.object_heap.specs.Chain.{object_at}
 use Rattle.object_heap.specs.Heap.{Contents}
@@ -21,10 +19,9 @@ use Rattle.object_heap.specs.Object.{Object}
 use Rattle.object_heap.specs.declared.object.Class.{Class}
 use Rattle.object_heap.specs.declared.object.Class.TheVariants as class
 use Rattle.page_host.specs.Host.{Host, object_of_node, with_nodes}
-use Rattle.page_host.specs.HostNames.{has_at_node, is_handler}
+use Rattle.page_host.specs.HostNames.{is_handler}
 use Rattle.page_host.specs.Sound.{is_plain}
-use Rattle.page_host.specs.Steps.{after_host, in_nodes}
-use Rattle.page_host.specs.declared.host_name.HostName.TheVariants.{Value as HasValue}
+use Rattle.page_host.specs.Steps.{in_nodes}
 use Rattle.page_meaning.specs.Places.{document}
 use Rattle.page_meaning.specs.Store.{Store}
 use Rattle.page_writer.specs.Frame.{nth_node}
@@ -35,7 +32,7 @@ use Rattle.rebuild_plan.specs.declared.phase.Phase.TheVariants as phase
 use Rattle.rebuild_plan.specs.declared.statement.Rebuild.{Rebuild}
 use Rattle.rebuild_plan.specs.declared.statement.Rebuild.TheVariants.{Attribute, SetValue}
 use Rattle.rebuilding.specs.Rebuilt.{ClassIsRebuilt, Succeeds, nth}
-use Rattle.rebuilding.specs.Running.{IsNodeHere, Lacks, Stand, node_here, object_here}
+use Rattle.rebuilding.specs.Running.{IsNodeHere, Lacks, node_here, object_here}
 use Rattle.rebuilding.specs.Scene.{IsHosting, IsRunning, Scene}
 use Rattle.rebuilding.proofs.HostPhase.{hosted_next}
 use Rattle.rebuilding.proofs.ListenPhase.{bare_lacks}

@@ -1,5 +1,5 @@
 -- Events are initialised and dispatched where they were: then each has the parts that were saved, and is not under dispatch.
-use Rattle.std.proofs.Common.{◌≡◌, ◌⊎◌, inl, inr, refl, sym, ap, subst, ◌∙◌, ℕ, suc, ◌+◌, ◌<◌, ◌≤◌, Bool, true, false, ◌&&◌, nat_lt, List, [], ◌∷◌, ◌++◌, append_assoc, Option, Some, None, length, codes, if◌then◌else◌, arith}
+use Rattle.std.proofs.Common.{◌≡◌, ◌⊎◌, inl, inr, refl, sym, ap, subst, ◌∙◌, ℕ, suc, ◌+◌, ◌<◌, ◌≤◌, Bool, true, false, nat_lt, List, [], ◌∷◌, ◌++◌, append_assoc, Option, Some, None, length, codes, if◌then◌else◌, arith}
 use Rattle.std.proofs.lemmas.Bool.{and_parts, cases_eq, cases_lt}
 use Rattle.std.specs.Option.{is_some}
 use Rattle.js_values.specs.declared.ids.ObjId.{ObjId}
@@ -21,9 +21,8 @@ use Rattle.page_meaning.specs.Store.{Store}
 use Rattle.rebuild_plan.specs.Events.{SavedEvent, event_as}
 use Rattle.rebuild_plan.specs.Moved.{first_thing}
 use Rattle.rebuild_plan.specs.Compact.{Compact, things_at}
-use Rattle.rebuild_plan.specs.Plan.{dispatch, each, event, init, thing_place, whole}
+use Rattle.rebuild_plan.specs.Plan.{dispatch, each, event, thing_place, whole}
 use Rattle.rebuild_plan.specs.declared.phase.Phase.TheVariants as phase
-use Rattle.rebuild_plan.specs.Stands.{standing}
 use Rattle.rebuild_plan.specs.declared.statement.Rebuild.{Rebuild}
 use Rattle.rebuild_plan.specs.declared.statement.Rebuild.TheVariants.{Init, Dispatch}
 use Rattle.rebuilding.specs.Rebuilt.{Succeeds, nth}

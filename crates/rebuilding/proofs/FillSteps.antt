@@ -26,7 +26,6 @@ use Rattle.rebuilding.proofs.Going.{Allowed, Going, going_begins}
 use Rattle.rebuilding.proofs.PropertyNames.{rebuilt_props}
 use Rattle.rebuilding.proofs.Stages.{IsFresh, MadeProps}
 use Rattle.rebuilding.proofs.EachThing.{StepSucceeds}
-use Rattle.page_meaning.specs.Places.{built_in_count}
 use Rattle.rebuilding.proofs.Placed.{site_thing, some_built_in}
 use Rattle.object_shapes.specs.Shapes.{HasShape}
 use Rattle.rebuild_plan.specs.Nodes.{node_maker}

@@ -1,10 +1,9 @@
 -- The nodes that a saved page is read with are sound: steps lead to them from a document alone.
-use Rattle.std.proofs.Common.{◌≡◌, refl, sym, subst, ℕ, zero, suc, Bool, true, false, List, [], ◌∷◌, None, nat_eq, codes, arith}
+use Rattle.std.proofs.Common.{◌≡◌, refl, sym, subst, ℕ, zero, suc, true, [], ◌∷◌, None, nat_eq, codes, arith}
 use Rattle.std.proofs.lemmas.Bool.{ne_eqb}
-use Rattle.js_values.specs.declared.ids.NodeId.{NodeId}
 use Rattle.dom_tree.proofs.Callers.{new_nodes_stay_sound, steps_stay_sound}
 use Rattle.dom_tree.specs.Content.{new_content}
-use Rattle.dom_tree.specs.Node.{Nodes, children_at, has, is_distinct, is_document, is_this, kind_at, may_have_children, node_at, parent_at, with_new}
+use Rattle.dom_tree.specs.Node.{Nodes, children_at, has, is_distinct, is_document, is_this, kind_at, node_at, parent_at, with_new}
 use Rattle.dom_tree.specs.Sound as dom
 use Rattle.dom_tree.specs.Sound.{is_proper, root}
 use Rattle.dom_tree.specs.Steps.{after_node, inserts}

@@ -1,6 +1,6 @@
 -- A maker leaves a thing as it says.
-use Rattle.std.proofs.Common.{◌≡◌, refl, sym, ap, subst, ◌∙◌, ℕ, suc, ◌+◌, ◌-◌, true, false, nat_lt, List, [], ◌∷◌, ◌++◌, Option, Some, length, ap₂, not}
-use Rattle.std.proofs.lemmas.Bool.{and_parts, eq-eqb, cond-false, not-true}
+use Rattle.std.proofs.Common.{◌≡◌, refl, sym, ap, subst, ◌∙◌, ℕ, suc, ◌+◌, ◌-◌, true, false, nat_lt, List, [], ◌∷◌, ◌++◌, Option, Some, length}
+use Rattle.std.proofs.lemmas.Bool.{and_parts, eq-eqb}
 use Rattle.std.specs.Prelude.{codes, ⊤}
 use Rattle.code_table.specs.Declarations.{name_of}
 use Rattle.heap_walker.specs.Things.{IsWalk, class_links, is_in, needs_of}
@@ -34,7 +34,6 @@ use Rattle.rebuilding.proofs.Placed.{array_low, error_low, function_low, needs_s
 use Rattle.rebuilding.proofs.Stages.{IsFresh, MadeProps}
 use Rattle.rebuilding.proofs.Lasting.{bound_same, proto_is}
 use Rattle.object_shapes.specs.Shapes.{HasBoundLength, HasShape}
-use Rattle.page_meaning.specs.Places.{built_in_count}
 use Rattle.object_shapes.specs.Links.{all_below}
 use Rattle.rebuild_plan.specs.Moved.{first_thing}
 use Rattle.dom_tree.specs.Node.{is_document, kind_at}
@@ -46,7 +45,6 @@ use Rattle.object_heap.specs.declared.object.EventParts.{EventParts}
 use Rattle.page_host.specs.Host.{Host}
 use Rattle.page_meaning.specs.Steps.{event_object}
 use Rattle.rebuild_plan.specs.Nodes.{node_maker}
-use Rattle.std.specs.List.{list_all}
 use Rattle.host_relations.proofs.Callers.{folded_is}
 
 -- ---- what is bound

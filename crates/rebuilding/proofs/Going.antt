@@ -25,7 +25,6 @@ use Rattle.page_meaning.specs.HostNames.{is_kept}
 use Rattle.rebuilding.specs.Scene.{IsHosting, IsRunning, Scene}
 use Rattle.rebuilding.specs.Sites.{site}
 use Rattle.rebuilding.proofs.WindowStays.{is_built}
-use Rattle.page_meaning.specs.Places.{built_in_count}
 use Rattle.object_shapes.specs.Links.{value_links, all_below}
 use Rattle.rebuild_plan.specs.Moved.{first_thing}
 

@@ -1,5 +1,5 @@
 -- A node whose content, children and listeners are rebuilt is saved as the thing is.
-use Rattle.std.proofs.Common.{◌≡◌, refl, sym, ap, subst, ◌∙◌, ℕ, List, [], ◌∷◌, Option, Some, None}
+use Rattle.std.proofs.Common.{◌≡◌, refl, ap, ◌∙◌, ℕ, List, [], ◌∷◌, Some}
 use Rattle.dom_tree.specs.Node.{children_at, node_at}
 use Rattle.dom_tree.specs.declared.content.Content.{Content}
 use Rattle.heap_relations.specs.Related.{Each, each, no_more}

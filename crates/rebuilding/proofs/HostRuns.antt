@@ -1,12 +1,10 @@
 -- Each statement of nodes, events, listeners and timers that can run does, and leaves the page that is wanted.
-use Rattle.std.proofs.Common.{◌≡◌, refl, sym, ap, subst, ◌∙◌, ℕ, suc, ◌+◌, ◌<◌, ◌≤◌, Bool, true, false, length, max, nat_le, List, [], ◌∷◌, Option, Some, None, arith, codes, if◌then◌else◌}
+use Rattle.std.proofs.Common.{◌≡◌, refl, sym, ap, subst, ◌∙◌, ℕ, suc, ◌+◌, ◌<◌, ◌≤◌, Bool, true, false, length, max, List, [], ◌∷◌, Option, Some, None, arith, codes, if◌then◌else◌}
 use Rattle.std.specs.Option.{option_map}
 use Rattle.js_core.specs.Tree.{name}
-use Rattle.js_values.specs.declared.built_in.BuiltIn.{BuiltIn}
 use Rattle.js_values.specs.declared.built_in.BuiltIn.TheVariants as built_in
 use Rattle.js_values.specs.declared.ids.ObjId.{ObjId}
 use Rattle.js_values.specs.declared.value.Value.TheVariants.{Object as Reference}
-use Rattle.dom_tree.specs.Node.{Nodes}
 use Rattle.dom_tree.specs.Steps.{NodeStep, inserts, sets_attribute, sets_value}
 use Rattle.dom_tree.proofs.Callers.{steps_stay_sound}
 use Rattle.object_heap.specs.Chain.{first_found, found, object_at}
@@ -29,7 +27,7 @@ use Rattle.page_meaning.specs.NodeRows.{listener_of}
 use Rattle.page_meaning.specs.Places.{function_at}
 use Rattle.page_meaning.specs.Reading.{seen_at}
 use Rattle.page_meaning.specs.Statements.{exec}
-use Rattle.page_meaning.specs.Steps.{after_step, changed_host, fits_host, in_host}
+use Rattle.page_meaning.specs.Steps.{after_step, fits_host, in_host}
 use Rattle.page_meaning.specs.Store.{Store, with_both, with_heap}
 use Rattle.page_writer.specs.Frame.{nth_node}
 use Rattle.page_writer.specs.References.{reference}

@@ -1,9 +1,8 @@
 -- The hosts of a page that was saved and of the one that was rebuilt mean the same: nodes with their objects, listeners, timers and clocks.
-use Rattle.std.proofs.Common.{◌≡◌, ◌⊎◌, inl, inr, refl, sym, ap, subst, ◌∙◌, ℕ, zero, suc, ◌+◌, ◌<◌, ◌≤◌, Bool, true, false, ◌||◌, nat_eq, List, [], ◌∷◌, ◌++◌, Option, Some, None, length, arith}
+use Rattle.std.proofs.Common.{◌≡◌, ◌⊎◌, inl, inr, refl, sym, ap, subst, ◌∙◌, ℕ, zero, suc, ◌<◌, ◌≤◌, Bool, true, false, nat_eq, List, [], ◌∷◌, ◌++◌, Option, Some, None, length, arith}
 use Rattle.std.specs.Prelude.{⊤}
 use Rattle.std.proofs.lemmas.Bool.{cases_eq, cases_lt, eq-eqb, eqb-true, ne_eqb, or_cases}
 use Rattle.js_values.specs.declared.ids.NodeId.{NodeId}
-use Rattle.js_values.specs.declared.ids.ObjId.{ObjId}
 use Rattle.dom_tree.proofs.Callers.{child_in, child_of_parent, has_head, has_tail, parent_in, parent_of_child}
 use Rattle.dom_tree.specs.Node.{children_at, has, node_at, parent_at}
 use Rattle.object_heap.specs.Chain.{object_at}
@@ -33,7 +32,7 @@ use Rattle.page_writer.specs.Frame.{nth_node}
 use Rattle.rebuild_plan.proofs.Callers.{built_in_is_no_node, document_class}
 use Rattle.rebuild_plan.specs.Compact.{moved, place_of}
 use Rattle.rebuild_plan.specs.Moved.{first_thing}
-use Rattle.rebuild_plan.specs.Nodes.{SavedNode, moved_listeners, moved_nodes, node_as, node_of}
+use Rattle.rebuild_plan.specs.Nodes.{moved_listeners, moved_nodes, node_as, node_of}
 use Rattle.rebuild_plan.specs.Timers.{moved_timers}
 use Rattle.rebuilding.specs.Rebuilt as rebuilt
 use Rattle.rebuilding.specs.Rebuilt.{ClassIsRebuilt, HostIsRebuilt, IsOwned, IsRebuilt, kind_as, nth, sited_ids, sited_listeners, sited_node, sited_timers}

@@ -1,5 +1,5 @@
 -- The phase of listeners: each node gets its listeners again, in order.
-use Rattle.std.proofs.Common.{◌≡◌, ◌⊎◌, inl, inr, refl, sym, ap, subst, ◌∙◌, ℕ, ◌<◌, Bool, true, false, nat_eq, if◌then◌else◌, List, [], ◌∷◌, ◌++◌, Option, None, codes, length}
+use Rattle.std.proofs.Common.{◌≡◌, inl, inr, refl, sym, ap, subst, ◌∙◌, ℕ, ◌<◌, Bool, true, if◌then◌else◌, List, [], ◌∷◌, ◌++◌, codes, length}
 use Rattle.std.proofs.lemmas.Bool.{eq-eqb, ne_eqb}
 use Rattle.host_relations.proofs.Callers.{AreNew, AreOf, all_of_node, with_more}
 use Rattle.host_relations.specs.Heard.{added}
@@ -20,7 +20,7 @@ use Rattle.page_meaning.specs.Places.{document}
 use Rattle.page_meaning.specs.Store.{Store}
 use Rattle.page_writer.specs.Frame.{nth_node}
 use Rattle.rebuild_plan.specs.Compact.{compact, thing_at}
-use Rattle.rebuild_plan.specs.Nodes.{SavedListener, node_as}
+use Rattle.rebuild_plan.specs.Nodes.{SavedListener}
 use Rattle.rebuild_plan.specs.Plan as plan
 use Rattle.rebuild_plan.specs.declared.phase.Phase.TheVariants as phase
 use Rattle.rebuild_plan.specs.declared.statement.Rebuild.{Rebuild}
@@ -28,7 +28,7 @@ use Rattle.rebuild_plan.specs.declared.statement.Rebuild.TheVariants.{Listen}
 use Rattle.rebuilding.specs.Rebuilt.{ClassIsRebuilt, Succeeds, nth}
 use Rattle.rebuilding.specs.Running.{IsNodeHere, Lacks, Stand, node_here, object_here}
 use Rattle.rebuilding.specs.Scene.{IsHosting, IsRunning, Scene}
-use Rattle.rebuilding.specs.Sites.{site, sited}
+use Rattle.rebuilding.specs.Sites.{sited}
 use Rattle.rebuilding.proofs.HostPhase.{hosted_next}
 use Rattle.rebuilding.proofs.NodePhase.{IsAt, NodesDone, at_node, at_other, whole_phase}
 use Rattle.rebuilding.proofs.OwnObjects.{IsNodeOn, OwnObjects, own_kept}

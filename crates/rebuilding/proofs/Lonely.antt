@@ -1,5 +1,5 @@
 -- Once all things are made, each node is alone: those of the things, and the document.
-use Rattle.std.proofs.Common.{◌≡◌, refl, sym, ap, subst, ◌∙◌, ℕ, ◌<◌, true, List, [], None}
+use Rattle.std.proofs.Common.{◌≡◌, refl, sym, ap, subst, ◌∙◌, ℕ, true, List, [], None}
 use Rattle.dom_tree.specs.Node.{is_document, kind_at, node_at}
 use Rattle.dom_tree.specs.declared.content.Kind.{Kind}
 use Rattle.dom_tree.specs.declared.content.Kind.TheVariants as content
@@ -17,7 +17,6 @@ use Rattle.rebuilding.specs.Rebuilt.{ClassIsRebuilt, bound, event, fault, list, 
 use Rattle.rebuilding.specs.Running.{node_of_class}
 use Rattle.rebuilding.specs.Scene.{Scene}
 use Rattle.rebuilding.proofs.ChildModel.{AreAlone}
-use Rattle.rebuilding.proofs.OwnObjects.{IsNodeOn}
 use Rattle.rebuilding.proofs.Stages.{Made, MadeHost}
 
 -- a thing that is a node stands as one

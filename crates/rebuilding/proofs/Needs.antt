@@ -13,7 +13,6 @@ use Rattle.object_heap.specs.Heap.{Contents, opened}
 use Rattle.object_heap.specs.Object.{Object}
 use Rattle.object_heap.specs.declared.object.Class.{Class}
 use Rattle.object_shapes.specs.Links.{all_below, value_links, values_links}
-use Rattle.page_meaning.specs.Places.{built_in_count}
 use Rattle.page_meaning.specs.Act.{Act, Calls, Ended, Outcome, bind, done, on_value, ret, then_on}
 use Rattle.page_meaning.specs.Calls.{begin, called, calls_at}
 use Rattle.page_meaning.specs.Expressions.{eval, eval_args}

@@ -1,9 +1,8 @@
 -- The makers of nodes and of events: the object is the next one, and a node is the next one of the host.
-use Rattle.std.proofs.Common.{◌≡◌, ◌⊎◌, inl, inr, refl, sym, ap, subst, ◌∙◌, ℕ, zero, suc, ◌+◌, ◌<◌, ◌≤◌, Bool, true, false, ◌&&◌, not, List, [], ◌∷◌, ◌++◌, None, Some, length, le_refl, length-append, codes, arith, if◌then◌else◌}
+use Rattle.std.proofs.Common.{◌≡◌, ◌⊎◌, inl, inr, refl, sym, ap, subst, ◌∙◌, ℕ, suc, ◌+◌, ◌<◌, ◌≤◌, Bool, true, List, [], ◌∷◌, Some, length, le_refl, length-append, arith, if◌then◌else◌}
 use Rattle.std.proofs.lemmas.Bool.{and_from, and_parts, cases_lt, lt-ltb}
 use Rattle.std.proofs.lemmas.List.{get_or_append_left, get_or_push}
 use Rattle.std.specs.Option.{ForSome}
-use Rattle.js_core.specs.Tree.{name}
 use Rattle.js_values.specs.declared.ids.ObjId.{ObjId}
 use Rattle.js_values.specs.declared.value.Value.TheVariants.{Object as Reference}
 use Rattle.dom_tree.specs.Content.{new_content}
@@ -11,7 +10,7 @@ use Rattle.dom_tree.specs.Name.{folded, is_folded_name, is_name}
 use Rattle.dom_tree.specs.Node.{Nodes, is_document, kind_at, with_new}
 use Rattle.dom_tree.specs.declared.content.Kind.{Kind}
 use Rattle.dom_tree.specs.declared.content.Kind.TheVariants as kind
-use Rattle.object_heap.proofs.Callers.{new_fit, object_before, object_last, settled_same}
+use Rattle.object_heap.proofs.Callers.{new_fit, object_last, settled_same}
 use Rattle.object_heap.specs.Chain.{object_at}
 use Rattle.object_heap.specs.Heap.{Contents, made, with_new_object}
 use Rattle.object_heap.specs.Object.{Object, target_of}
@@ -24,7 +23,7 @@ use Rattle.page_meaning.specs.Act.{Ended, Outcome}
 use Rattle.page_meaning.specs.Calls.{calls_at}
 use Rattle.page_meaning.specs.Expressions.{eval}
 use Rattle.page_meaning.specs.Places.{at_place, document, event_prototype, node_prototype}
-use Rattle.page_meaning.specs.Steps.{after_step, event_object, makes_event, makes_node, node_object, with_node_object}
+use Rattle.page_meaning.specs.Steps.{after_step, event_object, makes_event, makes_node, node_object}
 use Rattle.page_meaning.specs.Store.{Store, with_both, with_heap}
 use Rattle.page_meaning.specs.declared.signal.Signal.{Signal}
 use Rattle.page_meaning.specs.declared.signal.Signal.TheVariants.{Value as Val}

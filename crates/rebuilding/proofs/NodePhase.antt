@@ -1,7 +1,6 @@
 -- A phase that changes of the host, node by node, one part of each: what it is of the document and of each thing that is a node, and that it stays of others.
-use Rattle.std.proofs.Common.{◌≡◌, ◌⊎◌, inl, inr, refl, sym, ap, subst, ◌∙◌, ℕ, zero, suc, ◌+◌, ◌<◌, ◌≤◌, List, [], ◌∷◌, ◌++◌, append_assoc, length, arith}
+use Rattle.std.proofs.Common.{◌≡◌, ◌⊎◌, inl, inr, refl, sym, ap, subst, ◌∙◌, ℕ, suc, ◌<◌, ◌≤◌, List, [], ◌++◌, append_assoc, length, arith}
 use Rattle.std.proofs.lemmas.Bool.{cases_eq}
-use Rattle.js_values.specs.declared.ids.NodeId.{NodeId}
 use Rattle.object_heap.specs.Chain.{object_at}
 use Rattle.object_heap.specs.Heap.{Contents}
 use Rattle.page_host.specs.Host.{Host}

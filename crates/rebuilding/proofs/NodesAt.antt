@@ -1,5 +1,5 @@
 -- Things that are nodes, once they are made: what is asked of them before a statement, and that other things have nothing of a node.
-use Rattle.std.proofs.Common.{◌≡◌, ◌⊎◌, inl, inr, refl, sym, ap, subst, ◌∙◌, ℕ, ◌+◌, ◌<◌, Bool, true, List, Option, Some, None, length, ◌∷◌, [], arith}
+use Rattle.std.proofs.Common.{◌≡◌, ◌⊎◌, inl, inr, refl, sym, ap, subst, ◌∙◌, ℕ, ◌+◌, ◌<◌, true, List, Some, length, ◌∷◌, [], arith}
 use Rattle.std.proofs.lemmas.Bool.{and_from, lt-ltb}
 use Rattle.dom_tree.specs.Steps.{is_there}
 use Rattle.js_values.specs.declared.ids.ObjId.{ObjId}
@@ -10,7 +10,7 @@ use Rattle.object_heap.specs.Object.{Object}
 use Rattle.object_heap.specs.declared.object.Class.{Class}
 use Rattle.object_heap.specs.declared.object.Class.TheVariants as class
 use Rattle.page_host.specs.Host.{Host, object_of_node}
-use Rattle.page_meaning.specs.Places.{at_place, built_in_count, document, node_prototype}
+use Rattle.page_meaning.specs.Places.{at_place, document, node_prototype}
 use Rattle.page_meaning.specs.Store.{Store}
 use Rattle.page_writer.specs.Frame.{nth_node}
 use Rattle.rebuild_plan.specs.Moved.{first_thing}
@@ -19,7 +19,7 @@ use Rattle.rebuild_plan.specs.Plan as plan
 use Rattle.rebuilding.specs.Rebuilt.{ClassIsRebuilt, bound, event, fault, list, node, nth, page, plain}
 use Rattle.rebuilding.specs.Running.{IsNodeHere, Stand, node_here, node_of_class, object_here}
 use Rattle.rebuilding.specs.Scene.{IsRunning, Scene}
-use Rattle.rebuilding.specs.Sites.{site, sited}
+use Rattle.rebuilding.specs.Sites.{sited}
 use Rattle.rebuilding.proofs.OwnObjects.{IsNodeOn, OwnObjects}
 use Rattle.rebuilding.proofs.Placed.{site_low, site_thing}
 

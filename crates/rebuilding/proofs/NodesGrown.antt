@@ -1,16 +1,14 @@
 -- The phases of children and of contents in a row: the nodes mean what the saved ones mean.
-use Rattle.std.proofs.Common.{◌≡◌, ◌⊎◌, inl, inr, refl, sym, ap, subst, ◌∙◌, ℕ, ◌+◌, ◌<◌, Bool, true, nat_eq, List, [], ◌∷◌, ◌++◌, Option, length, arith}
+use Rattle.std.proofs.Common.{◌≡◌, ◌⊎◌, inl, inr, refl, sym, ap, subst, ◌∙◌, ℕ, ◌+◌, ◌<◌, true, nat_eq, List, ◌∷◌, ◌++◌, length, arith}
 use Rattle.std.proofs.lemmas.Bool.{eqb-true, or_cases}
 use Rattle.dom_tree.specs.Content.{new_content}
-use Rattle.dom_tree.specs.Node.{Node, Nodes, children_at, has, kind_at, node_at, parent_at}
-use Rattle.dom_tree.specs.declared.content.Content.{Content}
+use Rattle.dom_tree.specs.Node.{Node, Nodes, children_at, has, node_at, parent_at}
 use Rattle.heap_relations.specs.Naming.{World}
 use Rattle.heap_relations.specs.Related.{Each, Maybe}
 use Rattle.heap_walker.specs.Still.{Still}
 use Rattle.host_relations.specs.Linked.{Linked}
 use Rattle.host_relations.specs.Nodes.{NodeIds, NodeRel, NodesRel}
 use Rattle.js_values.specs.declared.ids.NodeId.{NodeId}
-use Rattle.js_values.specs.declared.ids.ObjId.{ObjId}
 use Rattle.object_heap.specs.Chain.{object_at}
 use Rattle.object_heap.specs.Environment.{Environment}
 use Rattle.object_heap.specs.Heap.{Contents}
@@ -34,7 +32,7 @@ use Rattle.rebuilding.proofs.ChildPhase.{Keeps, counterpart}
 use Rattle.rebuilding.proofs.ContentPhase.{CanHave, ContentsDone, content_as, contents_succeed}
 use Rattle.rebuilding.proofs.NodesAt.{NodesStand, document_node, thing_node}
 use Rattle.rebuilding.proofs.OwnObjects.{IsNodeOn, OwnObjects, own_kept}
-use Rattle.rebuilding.proofs.SavedNodes.{IsLinked, IsRest, first_has, in_pair, more_has, node_found, node_listed, nodes_world, pair_in}
+use Rattle.rebuilding.proofs.SavedNodes.{IsLinked, IsRest, in_pair, more_has, node_found, node_listed, nodes_world, pair_in}
 
 -- what is a node after it was rebuilt was one before
 pub record WasNode (C : Class) : Type 0 where

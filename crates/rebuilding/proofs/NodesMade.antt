@@ -1,12 +1,10 @@
 -- Nodes as their makers leave them: without properties, and alone.
-use Rattle.std.proofs.Common.{◌≡◌, ◌⊎◌, inl, inr, refl, sym, ap, subst, ◌∙◌, ℕ, ◌<◌, List, [], Option, Some, length, arith}
+use Rattle.std.proofs.Common.{◌≡◌, ap, subst, ◌∙◌, ℕ, ◌<◌, List, Some, length, arith}
 use Rattle.heap_walker.specs.Still.{Still}
 use Rattle.heap_walker.specs.Things.{IsWalk}
-use Rattle.js_values.specs.declared.ids.NodeId.{NodeId}
 use Rattle.object_heap.specs.Chain.{object_at}
 use Rattle.object_heap.specs.Heap.{Contents}
 use Rattle.object_heap.specs.Object.{Object}
-use Rattle.object_heap.specs.declared.object.Class.{Class}
 use Rattle.object_heap.specs.declared.object.Class.TheVariants as class
 use Rattle.object_shapes.specs.Shapes.{HasShape}
 use Rattle.page_host.specs.Host.{Host}
@@ -18,7 +16,7 @@ use Rattle.rebuilding.specs.Rebuilt.{nth}
 use Rattle.rebuilding.specs.Scene.{Scene}
 use Rattle.rebuilding.specs.Sites.{sited_proto}
 use Rattle.rebuilding.proofs.NodesAt.{NodesStand}
-use Rattle.rebuilding.proofs.NodesGrown.{WasNode, was_node}
+use Rattle.rebuilding.proofs.NodesGrown.{was_node}
 use Rattle.rebuilding.proofs.OwnObjects.{IsNodeOn}
 use Rattle.rebuilding.proofs.Placed.{is_thing_at, node_low, proto_built_in}
 use Rattle.rebuilding.proofs.Stages.{Made, MadeProps}

@@ -6,10 +6,10 @@ use Rattle.object_heap.specs.Heap.{Contents}
 use Rattle.object_heap.specs.declared.object.Class.{Class}
 use Rattle.object_heap.specs.declared.object.Class.TheVariants as class
 use Rattle.page_host.specs.Host.{Host, object_of_node}
-use Rattle.page_meaning.specs.Places.{at_place, built_in_count, document}
+use Rattle.page_meaning.specs.Places.{at_place, document}
 use Rattle.page_writer.specs.Frame.{nth_node}
 use Rattle.rebuilding.specs.Rebuilt.{IsFresh, IsOwned, nth}
-use Rattle.rebuilding.specs.Scene.{IsRunning, Scene, frame_count}
+use Rattle.rebuilding.specs.Scene.{IsRunning, Scene}
 use Rattle.rebuilding.proofs.SitesApart.{site_there, sites_differ}
 
 -- the object at the place is that of the node

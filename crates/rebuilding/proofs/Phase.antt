@@ -1,8 +1,6 @@
 -- What the statements of a phase did to each thing, one thing after another.
-use Rattle.std.proofs.Common.{◌≡◌, ◌⊎◌, inl, inr, sym, ap, ◌∙◌, ℕ, ◌<◌, ◌≤◌, true, not, ◌&&◌, nat_eq, nat_le, nat_lt, List, length, arith}
-use Rattle.std.proofs.lemmas.Bool.{and_parts, cases_eq, cases_order, leb-true, ltb-true}
-use Rattle.std.proofs.lemmas.List.Kept.{AllPairs-from_increasing}
-use Rattle.std.specs.List.Sorted.{IsStrictlyIncreasing}
+use Rattle.std.proofs.Common.{◌≡◌, ◌⊎◌, inl, inr, sym, ap, ◌∙◌, ℕ, ◌<◌, ◌≤◌, List, length, arith}
+use Rattle.std.proofs.lemmas.Bool.{cases_eq}
 use Rattle.object_heap.specs.Chain.{object_at}
 use Rattle.object_heap.specs.Environment.{environment_at}
 use Rattle.object_heap.specs.Heap.{Contents}
@@ -10,9 +8,9 @@ use Rattle.object_heap.specs.Object.{Object}
 use Rattle.object_heap.specs.Property.{Props}
 use Rattle.page_meaning.specs.Places.{window}
 use Rattle.rebuilding.specs.Rebuilt.{nth}
-use Rattle.rebuilding.specs.Scene.{IsRunning, Scene, frame_count, is_site, IsHosting}
+use Rattle.rebuilding.specs.Scene.{IsRunning, Scene, IsHosting}
 use Rattle.rebuilding.proofs.Going.{Going}
-use Rattle.rebuilding.proofs.Basics.{all_at, not_in}
+use Rattle.rebuilding.proofs.Basics.{not_in}
 use Rattle.rebuilding.proofs.Placed.{some_built_in}
 use Rattle.rebuilding.proofs.SitesApart.{site_there, sites_differ}
 use Rattle.page_host.specs.Host.{Host}

@@ -34,7 +34,6 @@ use Rattle.rebuilding.specs.Sites.{sited}
 use Rattle.rebuilding.proofs.Calling.{also_on, define_property_called, is_define_property, is_prevent_extensions, native_called, prevent_extensions_called}
 use Rattle.rebuilding.proofs.Literals.{with_literal}
 use Rattle.rebuilding.proofs.Reading.{reference_read}
-use Rattle.page_meaning.specs.Places.{built_in_count}
 use Rattle.object_shapes.specs.Links.{all_below}
 use Rattle.rebuild_plan.specs.Moved.{first_thing}
 

@@ -1,5 +1,5 @@
 -- What the end of a task leaves of a page: events are at rest, and all else is as it was. So a page that was rebuilt is still.
-use Rattle.std.proofs.Common.{◌≡◌, ◌⊎◌, inl, inr, refl, sym, ap, subst, ◌∙◌, ℕ, zero, suc, ◌+◌, ◌<◌, ◌≤◌, Bool, true, false, not, ◌&&◌, nat_eq, nat_le, nat_lt, List, length, slice_set, length-set, arith}
+use Rattle.std.proofs.Common.{◌≡◌, ◌⊎◌, inl, inr, refl, sym, ap, subst, ◌∙◌, ℕ, zero, suc, ◌<◌, ◌≤◌, Bool, true, false, not, ◌&&◌, nat_eq, nat_le, nat_lt, List, length, slice_set, length-set, arith}
 use Rattle.std.proofs.lemmas.Bool.{cases_eq, not-true}
 use Rattle.std.specs.List.{list_all}
 use Rattle.object_heap.proofs.Callers.{object_set_other, object_set_same}
@@ -10,7 +10,7 @@ use Rattle.object_heap.specs.Object.{Object, changed_event, is_event, with_class
 use Rattle.object_heap.specs.declared.object.Class.{Class}
 use Rattle.object_heap.specs.declared.object.Class.TheVariants as class
 use Rattle.page_meaning.specs.Events.{after_event, rests}
-use Rattle.page_meaning.specs.Places.{built_in_count, document, window}
+use Rattle.page_meaning.specs.Places.{document, window}
 use Rattle.page_meaning.specs.Pristine.{built_ins}
 use Rattle.page_meaning.specs.Steps.{after_steps}
 use Rattle.page_meaning.specs.Store.{Store, with_heap}

@@ -55,7 +55,6 @@ use Rattle.rebuilding.proofs.Reading.{thing_assigned, thing_put_and_given, refer
 use Rattle.rebuilding.proofs.Rows.{define_ran, length_defined, other_defined, prevent_ran}
 use Rattle.rebuilding.proofs.Staying.{all_through, site_stands, site_there, stands_site, stays_changed, stays_made, stays_on, hosting_changed}
 use Rattle.rebuilding.proofs.WindowStays.{is_built}
-use Rattle.page_meaning.specs.Places.{built_in_count}
 use Rattle.object_shapes.specs.Links.{value_links, all_below}
 use Rattle.rebuild_plan.specs.Moved.{first_thing}
 use Rattle.built_in_paths.specs.Paths.{held_by}

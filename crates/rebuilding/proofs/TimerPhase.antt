@@ -3,7 +3,7 @@ use Rattle.std.proofs.Common.{◌≡◌, refl, sym, ap, ap₂, subst, ◌∙◌,
 use Rattle.std.proofs.lemmas.Bool.Decides.{nat_tests}
 use Rattle.heap_walker.specs.Weight as weight
 use Rattle.host_relations.proofs.Callers.{AreAll, again_is, all_again, all_filled, none_yet, timers_are_rebuilt}
-use Rattle.host_relations.specs.Restart.{filled, greatest, larger, moved_timers, rebuilt, restarted, unfilled}
+use Rattle.host_relations.specs.Restart.{filled, greatest, larger, moved_timers, restarted, unfilled}
 use Rattle.js_values.specs.declared.built_in.BuiltIn.TheVariants.{Object as ObjectConstructor}
 use Rattle.js_values.specs.declared.ids.ObjId.{ObjId}
 use Rattle.object_heap.specs.Chain.{object_at}
@@ -16,7 +16,7 @@ use Rattle.rebuild_plan.specs.Plan as plan
 use Rattle.rebuild_plan.specs.declared.statement.Rebuild.{Rebuild}
 use Rattle.rebuild_plan.specs.declared.statement.Rebuild.TheVariants.{Clear, Filler, Timeout, Interval}
 use Rattle.rebuilding.specs.Rebuilt.{Succeeds, sited_timers}
-use Rattle.rebuilding.specs.Running.{CanStart, Stand}
+use Rattle.rebuilding.specs.Running.{Stand}
 use Rattle.rebuilding.specs.Scene.{IsHosting, Scene}
 use Rattle.rebuilding.specs.Sites.{site, sited}
 use Rattle.rebuilding.proofs.HostPhase.{hosted_next}

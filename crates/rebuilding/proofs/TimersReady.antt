@@ -1,15 +1,13 @@
 -- The timers of a page at rest can be started again: ids are distinct, rests are times of the language, and each calls a function that stands.
-use Rattle.std.proofs.Common.{◌≡◌, ◌⊎◌, inl, inr, refl, sym, ap, subst, ◌∙◌, ℕ, ◌+◌, ◌-◌, ◌<◌, ◌≤◌, ◌==◌, ◌||◌, Bool, true, false, nat_eq, List, [], ◌∷◌, Option, Some, None, length, arith}
+use Rattle.std.proofs.Common.{◌≡◌, inl, inr, refl, sym, ap, subst, ◌∙◌, ℕ, ◌<◌, ◌==◌, ◌||◌, true, nat_eq, List, [], ◌∷◌, length, arith}
 use Rattle.std.proofs.lemmas.Bool.{eq-eqb, or_left, or_right}
 use Rattle.heap_walker.proofs.Callers.{roots_in_walk, timers_among}
 use Rattle.heap_walker.specs.Still.{Still}
 use Rattle.heap_walker.specs.Things.{IsWalk, is_in, timers_links}
-use Rattle.js_values.specs.declared.ids.ObjId.{ObjId}
 use Rattle.object_heap.specs.Chain.{object_at}
 use Rattle.object_heap.specs.Heap.{Contents}
 use Rattle.object_heap.specs.declared.object.Class.TheVariants as class
 use Rattle.page_host.specs.Steps.{time_limit}
-use Rattle.page_meaning.specs.Classes.{is_callable_class}
 use Rattle.page_meaning.specs.Places.{document}
 use Rattle.page_meaning.specs.Store.{Store}
 use Rattle.page_writer.specs.Frame.{nth_node}
