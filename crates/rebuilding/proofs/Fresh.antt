@@ -78,7 +78,7 @@ IsEmpty h = (object_at h.objects document.0).props ≡ []
 
 can_make_node : (h : Contents) (sites things : List ℕ) (proto : Option ObjId) (k : Kind) → IsEmpty h → is_document k ≡ false → has_folded_name k ≡ true
     → CanMake h sites (node_maker things proto k)
-can_make_node h sites things proto content.Document empty other named = cc other
+can_make_node h sites things proto content.Document empty other named = tt
 can_make_node h sites things proto (content.Element x) empty other named = (named, folded_is x named, ap (λ ps. own_property ps (codes "createElement")) empty)
 can_make_node h sites things proto (content.Text x) empty other named = ap (λ ps. own_property ps (codes "createTextNode")) empty
 can_make_node h sites things proto (content.Comment x) empty other named = ap (λ ps. own_property ps (codes "createComment")) empty
