@@ -100,14 +100,14 @@ module _ (c : Scene) (End : Contents → Host → List ℕ → Type 0) (h : Cont
 
   -- ---- each known node
 
-  record HasPlace (k : NodeId) : Type 0 where
-    counter : ℕ
-    is : f k ≡ nth_node counter
-    inside : k.0 < length t
-    there : counter < length first.nodes
-    bare : node_at first.nodes counter ≡ bare_node (kind_at t k.0) None []
-    here : (g : Host) → Keeps first g → IsNodeHere h g sites (node_place s things k)
-    props : (object_here h sites (node_place s things k)).props ≡ []
+  pub record HasPlace (k : NodeId) : Type 0 where
+    pub counter : ℕ
+    pub is : f k ≡ nth_node counter
+    pub inside : k.0 < length t
+    pub there : counter < length first.nodes
+    pub bare : node_at first.nodes counter ≡ bare_node (kind_at t k.0) None []
+    pub here : (g : Host) → Keeps first g → IsNodeHere h g sites (node_place s things k)
+    pub props : (object_here h sites (node_place s things k)).props ≡ []
 
   own_here : (g : Host) → Keeps first g → OwnObjects h g sites
   own_here g kept = own_kept h first g sites (ap (λ (v : Host). v.objects) kept.0) kept.1 own
@@ -146,7 +146,7 @@ module _ (c : Scene) (End : Contents → Host → List ℕ → Type 0) (h : Cont
       plain : (m : ℕ) → 0 + m ≡ m
       plain m = omega arith
 
-  placed : (k : NodeId) → has k.0 known ≡ true → HasPlace k
+  pub placed : (k : NodeId) → has k.0 (nth_node 0 ∷ all_nodes s things) ≡ true → HasPlace k
   placed k h = by (or_cases (nat_eq k.0 0) (has k.0 (all_nodes s things)) h)
     where
       by : (nat_eq k.0 0 ≡ true) ⊎ (has k.0 (all_nodes s things) ≡ true) → HasPlace k
@@ -169,11 +169,11 @@ module _ (c : Scene) (End : Contents → Host → List ℕ → Type 0) (h : Cont
       ap (λ (o : ObjId). o.0) (sym (object_named k p) ∙ ap (λ m. object_of_node first.objects (nth_node m)) one ∙ object_named l q)
 
   -- the document's, or that of a thing's site
-  data IsSpot (k : NodeId) : Type 0 where
-    of_root : k.0 ≡ 0 → spot k ≡ document.0 → IsSpot k
-    of_thing : (n : ℕ) → n < length things → (object_at s.heap.objects (nth things n)).class ≡ class.Node k → spot k ≡ nth sites n → IsSpot k
+  pub data IsSpot (k : NodeId) : Type 0 where
+    of_root : k.0 ≡ 0 → site sites (node_place s things k).0 ≡ document.0 → IsSpot k
+    of_thing : (n : ℕ) → n < length things → (object_at s.heap.objects (nth things n)).class ≡ class.Node k → site sites (node_place s things k).0 ≡ nth sites n → IsSpot k
 
-  spot_is : (k : NodeId) → has k.0 known ≡ true → IsSpot k
+  pub spot_is : (k : NodeId) → has k.0 (nth_node 0 ∷ all_nodes s things) ≡ true → IsSpot k
   spot_is k h = by (or_cases (nat_eq k.0 0) (has k.0 (all_nodes s things)) h)
     where
       by : (nat_eq k.0 0 ≡ true) ⊎ (has k.0 (all_nodes s things) ≡ true) → IsSpot k

@@ -40,18 +40,18 @@ StepSucceeds c End s things sites w before after one =
     → ((i : Contents) → Going c h i w sites (nth sites n) (after n) → Allowed (length sites) rs → Succeeds c End i w sites rs)
     → Succeeds c End h w sites (one n (thing_of s things (object_at s.heap.objects (nth things n))) ++ rs)
 
-module _ (c : Scene) (End : Contents → Host → List ℕ → Type 0) (s : Store) (things sites : List ℕ) (g : Contents) (w : Host) (own : Props) (before after : ℕ → Object)
+module _ (c : Scene) (End : Contents → Host → List ℕ → Type 0) (s : Store) (things sites : List ℕ) (g : Contents) (w : Host) (own : Props) (root : Object) (before after : ℕ → Object)
     (all : ℕ → List Thing → List Rebuild) (one : ℕ → Thing → List Rebuild)
     (opens : (n : ℕ) (t : Thing) (ts : List Thing) → all n (t ∷ ts) ≡ one n t ++ all (suc n) ts) (none : (n : ℕ) → all n [] ≡ [])
     (step : StepSucceeds c End s things sites w before after one) (count : length sites ≡ length things) where
   pub each_succeeds : (ks : List ℕ) (n : ℕ) (h : Contents) (rs : List Rebuild) → n + length ks ≡ length things
       → ((j : ℕ) → j < length ks → nth ks j ≡ nth things (n + j))
-      → Phase c g h w sites own (mixed before after n) → Allowed (length sites) (all n (things_at s things ks) ++ rs)
-      → ((i : Contents) → Phase c g i w sites own after → Allowed (length sites) rs → Succeeds c End i w sites rs)
+      → Phase c g h w sites own root (mixed before after n) → Allowed (length sites) (all n (things_at s things ks) ++ rs)
+      → ((i : Contents) → Phase c g i w sites own root after → Allowed (length sites) rs → Succeeds c End i w sites rs)
       → Succeeds c End h w sites (all n (things_at s things ks) ++ rs)
   each_succeeds [] n h rs total at phase allowed later =
       subst (λ (xs : List Rebuild). Succeeds c End h w sites (xs ++ rs)) (sym (none n))
-      (later h (phase_same c g h w sites own (mixed before after n) after phase
+      (later h (phase_same c g h w sites own root (mixed before after n) after phase
       (λ m inside. mixed_last before after n m (omega (arith, inside, total, count))))
       (subst (λ (xs : List Rebuild). Allowed (length sites) (xs ++ rs)) (none n) allowed))
   each_succeeds (k ∷ ks) n h rs total at phase allowed later =
@@ -70,7 +70,7 @@ module _ (c : Scene) (End : Contents → Host → List ℕ → Type 0) (s : Stor
       (subst (Allowed (length sites)) are allowed)
       (λ i now more. each_succeeds ks (suc n) i rs (omega (arith, total))
       (λ j there. at (suc j) (omega (arith, there)) ∙ ap (nth things) (one_on n j))
-      (phase_next c g h i w sites own (mixed before after n) (mixed before after (suc n)) n (after n) phase within now
+      (phase_next c g h i w sites own root (mixed before after n) (mixed before after (suc n)) n (after n) phase within now
       (sym (mixed_last before after (suc n) n (omega arith))) (λ m other. mixed_other before after n m other))
       more later))
     where

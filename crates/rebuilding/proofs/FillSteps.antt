@@ -67,7 +67,7 @@ module _ (c : Scene) (End : Contents → Host → List ℕ → Type 0) (s : Stor
     (ordinary : is_window o.class ≡ false)
     (names : HasDistinctNames thing.props) (off : nat_eq at.0 window.0 ≡ false) (later : Later c End s things sites g w at off o thing.props rs)
     (free : IsFree c End s things sites g w at off o thing.props) where
-  by_class : (kind : Class) → is_list o.class ≡ is_list kind → MadeProps kind thing.props o.props → HasShape s thing kind
+  pub by_class : (kind : Class) → is_list o.class ≡ is_list kind → MadeProps kind thing.props o.props → HasShape s thing kind
       → IsProper (with_class thing kind)
       → Allowed (length sites) (fill_as s things thing.proto at kind thing.props ++ rs)
       → Succeeds c End h w sites (fill_as s things thing.proto at kind thing.props ++ rs)

@@ -1,5 +1,6 @@
 pub mod Again
 pub mod Agreeing
+pub mod Allowing
 pub mod ArrayFills
 pub mod Bared
 pub mod Basics
@@ -19,6 +20,8 @@ pub mod EachHost
 pub mod EachThing
 pub mod Entries
 pub mod EventPhase
+pub mod Evented
+pub mod EventsReady
 pub mod Families
 pub mod FillSteps
 pub mod Fills
@@ -70,6 +73,7 @@ pub mod Reading
 pub mod Rebuilds
 pub mod Rounds
 pub mod Rows
+pub mod SavedHosts
 pub mod SavedNodes
 pub mod Scripts
 pub mod Settling

@@ -94,7 +94,8 @@ module _ (c : Scene) (End : Contents → Host → List ℕ → Type 0) (h : Cont
   f_root =
       ap (node_here h sites) (root_place_is c End h s things sites first running count nodes own family lonely) ∙ (document_node c h first sites running own).0
 
-  linked : (n b : ℕ) (a : NodeId) → n < length things → (object_at s.heap.objects (nth things n)).class ≡ class.Node a → IsNodeOn h (nth sites n) b → N a.0 b
+  pub linked : (n b : ℕ) (a : NodeId) → n < length things → (object_at s.heap.objects (nth things n)).class ≡ class.Node a → IsNodeOn h (nth sites n) b
+      → Linked (nodes_world W (counterpart h s things sites) (nth_node 0 ∷ all_nodes s things)) a.0 b
   linked n b a inside is on =
       subst (λ j. N a.0 j) (ap (λ (m : NodeId). m.0) (f_is n b a inside is on))
       (record { named = in_pair f known a (more_has a.0 (nth_node 0) (all_nodes s things) (node_listed s things things 0 n a all_rest (omega arith) inside is)) })
