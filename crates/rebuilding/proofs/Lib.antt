@@ -45,6 +45,7 @@ pub mod Indices
 pub mod Lasting
 pub mod List
 pub mod ListenPhase
+pub mod ListensReady
 pub mod Literals
 pub mod Loading
 pub mod Lonely

@@ -31,7 +31,7 @@ finished g s things sites n = with_extensible (filled g s things sites n) (objec
 abbrev pub prevent_thing : ℕ → Thing → List Rebuild
 prevent_thing n t = prevent (thing_place n) t
 
-prevents : (o : Object) → o.closed ≡ false → is_window o.class ≡ false → prevented o ≡ done (not_extensible o)
+pub prevents : (o : Object) → o.closed ≡ false → is_window o.class ≡ false → prevented o ≡ done (not_extensible o)
 prevents o closed window =
     cond-false (o.closed || is_window o.class) (throws o CannotDefine) (done (not_extensible o)) (or_from o.closed (is_window o.class) closed window)
 

@@ -99,8 +99,8 @@ all_same f g same [] = refl
 all_same f g same (p ∷ ps) = let later = all_same f g same ps in (λ i. not (same p.0 i) && later i)
 
 none_kept : (t : Nodes) (D : Class) → ((x : List ℕ) → is_kept t D x ≡ false) → (ps : Props) → list_all (λ e. not (is_kept t D e.0)) ps ≡ true
-none_kept t D none [] = refl
-none_kept t D none (p ∷ ps) = rw (none p.0) (none_kept t D none ps)
+none_kept t D free [] = refl
+none_kept t D free (p ∷ ps) = rw (free p.0) (none_kept t D free ps)
 
 -- no own name of a thing is kept from the object that is rebuilt
 free_of : {c : Scene} {es : List Environment} {s : Store} {things sites : List ℕ} {k : ℕ} {C D : Class} (u : Nodes) (thing : Object) → ClassIsRebuilt c es s things sites k C D
@@ -116,8 +116,8 @@ free_of {s = s} u thing (node {a = a} {b = b}) o is nodes e shape =
     all_same (is_kept u o.class) (is_kept s.host.nodes thing.class)
     (λ x. ap (λ d. is_kept u d x) is ∙ nodes a b refl is x ∙ ap (λ d. is_kept s.host.nodes d x) (sym e)) thing.props
     ∙ shape.1
-free_of {s = s} u thing (event {a = a}) o is nodes e shape =
-    all_same (is_kept u (evented _ o (event_as _ (class.Event a))).class) (is_kept s.host.nodes thing.class) (λ x. ap (λ d. is_kept s.host.nodes d x) (sym e)) thing.props
+free_of {s = s} {things = things} {sites = sites} u thing (event {a = a}) o is nodes e shape =
+    all_same (is_kept u (evented sites o (event_as things (class.Event a))).class) (is_kept s.host.nodes thing.class) (λ x. ap (λ d. is_kept s.host.nodes d x) (sym e)) thing.props
     ∙ shape.1
 
 -- ---- all things
@@ -292,7 +292,7 @@ module _ (c : Scene) (End : Contents → Host → List ℕ → Type 0) (s : Stor
           (subst (λ y. Maybe (NodeIds N) (parent_at s.host.nodes was.node.0) y) e (grown.nodes.at was.node.0 k.0 (linked_at place.0 was.node k inside was.is on)).parent)
 
       up : IsLinked f known over.node.0 p.0
-      up = pair_in f known over.node.0 p.0 over.above
+      up = pair_in f known over.node.0 p.0 over.above.named
 
       spot : (object_of_node last.objects p).0 ≡ site sites (node_place s things up.node).0
       spot =
