@@ -46,7 +46,7 @@ use Rattle.rebuilding.proofs.MadeHosts.{Joined, host_made, host_stays, joined_cl
 
 -- ---- what holds of each maker
 
-one_more : (n : ℕ) (rs : List Rebuild) → standing (1 + n) rs ≡ true → standing (suc n) rs ≡ true
+pub one_more : (n : ℕ) (rs : List Rebuild) → standing (1 + n) rs ≡ true → standing (suc n) rs ≡ true
 one_more n rs h =
     let same : 1 + n ≡ suc n = omega arith in
     subst (λ m. standing m rs ≡ true) same h

@@ -18,7 +18,7 @@ use Rattle.object_heap.specs.declared.object.Class.TheVariants as class
 use Rattle.object_shapes.specs.Shapes.{HasShape, built_in_at}
 use Rattle.page_host.specs.Host.{Host, with_listeners, with_nodes, with_timers}
 use Rattle.page_meaning.specs.Classes.{is_callable_class}
-use Rattle.page_meaning.specs.Places.{built_in_count, document, function_at, window}
+use Rattle.page_meaning.specs.Places.{built_in_count, document, function_at, function_place, window}
 use Rattle.page_meaning.specs.Store.{Store}
 use Rattle.page_writer.specs.Frame.{nth_node}
 use Rattle.page_writer.specs.Literals.{HaveLiterals}
@@ -52,6 +52,7 @@ use Rattle.rebuilding.proofs.Hearable.{node_can_hear, node_hears_new}
 use Rattle.rebuilding.proofs.ListenPhase.{ListenersDone, listeners_succeed}
 use Rattle.rebuilding.proofs.ListensReady.{document_can, document_new, things_can, things_new}
 use Rattle.rebuilding.proofs.Lonely.{lonely}
+use Rattle.rebuilding.proofs.MakePhase.{one_more}
 use Rattle.rebuilding.proofs.Naming.{rebuilt_world}
 use Rattle.rebuilding.proofs.NodesAt.{NodesStand}
 use Rattle.rebuilding.proofs.NodesGrown.{nodes_succeed}
@@ -76,7 +77,7 @@ after_makes [] n rest allowed =
 after_makes (t ∷ ts) n rest allowed =
     let long : suc n + length ts ≡ n + length (t ∷ ts) = omega arith in
     subst (λ m. Allowed m rest) long (after_makes ts (suc n) rest (record {
-      stands = (and_parts _ (standing (suc n) (plan.makes (suc n) ts ++ rest)) allowed.stands).1;
+      stands = one_more n (plan.makes (suc n) ts ++ rest) (and_parts _ (standing (1 + n) (plan.makes (suc n) ts ++ rest)) allowed.stands).1;
       in_range = range_rest (Make n t.maker) (plan.makes (suc n) ts ++ rest) allowed.in_range;
     }))
 
@@ -86,16 +87,17 @@ things_length s things (k ∷ ks) = ap suc (things_length s things ks)
 
 -- ---- what timers are filled with is a function
 
-filler_low : (function_at ObjectConstructor).0 < built_in_count
-unfolding built_in_count
-filler_low = omega arith
+filler_low : (0 < (function_at ObjectConstructor).0) × ((function_at ObjectConstructor).0 < built_in_count)
+unfolding built_in_count function_place
+filler_low = (omega arith, omega arith)
 
 filler_is : is_callable_class (built_in_at (function_at ObjectConstructor).0).class ≡ true
+unfolding built_in_count function_place
 filler_is = refl
 
 filler_callable : (c : Scene) (h : Contents) (sites : List ℕ) → IsRunning c h sites → is_callable_class (object_at h.objects (function_at ObjectConstructor).0).class ≡ true
 filler_callable c h sites running =
-    ap (λ (o : Object). is_callable_class o.class) (running.built_ins (function_at ObjectConstructor).0 (omega arith) filler_low) ∙ filler_is
+    ap (λ (o : Object). is_callable_class o.class) (running.built_ins (function_at ObjectConstructor).0 filler_low.0 filler_low.1) ∙ filler_is
 
 -- ---- from the things that are made to the page
 
@@ -227,23 +229,23 @@ module _ (c : Scene) (s : Store) (things sites : List ℕ) (h : Contents) (g : H
       -- ---- the page is there
 
       page_rebuilt : (j : Contents) → Phase c i j g3 sites own root_finished (finished i s things sites) → IsRebuilt c s things j g3 sites
-      page_rebuilt j phase = record {
-        running = phase.running;
-        hosting = phase.hosting;
+      page_rebuilt j state = record {
+        running = state.running;
+        hosting = state.hosting;
         count = made.count;
         each = λ n inside.
-            subst (IsRebuiltAs c j.environments s things sites (nth sites n) (thing n)) (sym (phase.things n (up n inside)))
-            (finished_rebuilt c s things sites i j n phase.more_environments phase.environments (fresh n inside));
+            subst (IsRebuiltAs c j.environments s things sites (nth sites n) (thing n)) (sym (state.things n (up n inside)))
+            (finished_rebuilt c s things sites i j n state.more_environments state.environments (fresh n inside));
         hosted = λ n inside.
             hosted_again c End s things sites h i g g1 g3 still made stand fam alone W events grown_last n (object_at j.objects (nth sites n)) inside (same n inside);
-        parents = parents_again c End s things sites h i g g1 g3 still made stand fam alone W events grown_last j phase.hosting same;
+        parents = parents_again c End s things sites h i g g1 g3 still made stand fam alone W events grown_last j state.hosting same;
         document = record {
-          host = document_again c End s things sites h i g g1 g3 still made stand fam alone W events grown_last (object_at j.objects document.0) phase.running.document.class;
-          extensible = ap (λ (o : Object). o.extensible) phase.document;
-          closed = ap (λ (o : Object). o.closed) phase.document ∙ root_closed;
-          props = ap (λ (o : Object). o.props) phase.document;
+          host = document_again c End s things sites h i g g1 g3 still made stand fam alone W events grown_last (object_at j.objects document.0) state.running.document.class;
+          extensible = ap (λ (o : Object). o.extensible) state.document;
+          closed = ap (λ (o : Object). o.closed) state.document ∙ root_closed;
+          props = ap (λ (o : Object). o.props) state.document;
         };
-        globals = phase.globals ∙ ap (λ (q : Props). q ++ rebuilt_props sites things (globals_of s)) globals_first;
+        globals = state.globals ∙ ap (λ (q : Props). q ++ rebuilt_props sites things (globals_of s)) globals_first;
         timers = refl;
       }
         where
@@ -251,7 +253,7 @@ module _ (c : Scene) (s : Store) (things sites : List ℕ) (h : Contents) (g : H
           up n inside = omega (arith, inside, made.count)
 
           same : (n : ℕ) → n < length things → (object_at j.objects (nth sites n)).class ≡ (first n).class
-          same n inside = ap (λ (o : Object). o.class) (phase.things n (up n inside))
+          same n inside = ap (λ (o : Object). o.class) (state.things n (up n inside))
 
       -- ---- those that get no new properties
 
@@ -269,11 +271,11 @@ module _ (c : Scene) (s : Store) (things sites : List ℕ) (h : Contents) (g : H
 
       prevents_left : (j : Contents) → Phase c i j g3 sites own root_finished (filled i s things sites) → Allowed (length sites) (plan.each phase.Ends 0 ts)
           → Succeeds c End j g3 sites (plan.each phase.Ends 0 ts)
-      prevents_left j phase allowed =
+      prevents_left j state allowed =
           subst (Succeeds c End j g3 sites) (append-nil (plan.each phase.Ends 0 ts))
           (each_succeeds c End s things sites i g3 own root_finished (filled i s things sites) (finished i s things sites) (plan.each phase.Ends) prevent_thing
           (λ n t us. refl) (λ n. refl) (prevent_step c End s things sites i g3 fresh) made.count things 0 j [] zero_more (λ m there. ap (nth things) (zero_on m))
-          (phase_same c i j g3 sites own root_finished (filled i s things sites) (mixed (filled i s things sites) (finished i s things sites) 0) phase
+          (phase_same c i j g3 sites own root_finished (filled i s things sites) (mixed (filled i s things sites) (finished i s things sites) 0) state
           (λ n inside. same_from (filled i s things sites) (finished i s things sites) n))
           (subst (Allowed (length sites)) (sym (append-nil (plan.each phase.Ends 0 ts))) allowed)
           (λ k finish more. page_rebuilt k finish))
@@ -292,27 +294,27 @@ module _ (c : Scene) (s : Store) (things sites : List ℕ) (h : Contents) (g : H
 
       ends_left : (j : Contents) → Phase c i j g3 sites own root_filled (filled i s things sites) → Allowed (length sites) (plan.whole phase.Ends (compact s things))
           → Succeeds c End j g3 sites (plan.whole phase.Ends (compact s things))
-      ends_left j phase allowed =
-          document_prevented root_thing.extensible j (plan.each phase.Ends 0 ts) (going_begins c j g3 sites document.0 root_filled phase.running phase.hosting phase.document) allowed
-          (λ k now more. prevents_left k (phase_document c i j k g3 sites own root_filled root_finished (filled i s things sites) phase now) more)
+      ends_left j state allowed =
+          document_prevented root_thing.extensible j (plan.each phase.Ends 0 ts) (going_begins c j g3 sites document.0 root_filled state.running state.hosting state.document) allowed
+          (λ k now more. prevents_left k (phase_document c i j k g3 sites own root_filled root_finished (filled i s things sites) state now) more)
 
       -- ---- timers
 
       classes_after : (j : Contents) → Phase c i j g2 sites own root_filled (filled i s things sites) → (n : ℕ) → n < length things
           → ClassIsRebuilt c j.environments s things sites (nth sites n) (thing n).class (object_at j.objects (nth sites n)).class
-      classes_after j phase n inside =
-          subst (λ (o : Object). ClassIsRebuilt c j.environments s things sites (nth sites n) (thing n).class o.class) (sym (phase.things n (omega (arith, inside, made.count))))
-          (class_stays c i.environments j.environments phase.more_environments phase.environments (fresh n inside).class)
+      classes_after j state n inside =
+          subst (λ (o : Object). ClassIsRebuilt c j.environments s things sites (nth sites n) (thing n).class o.class) (sym (state.things n (omega (arith, inside, made.count))))
+          (class_stays c i.environments j.environments state.more_environments state.environments (fresh n inside).class)
 
       timers_left : (j : Contents) → Phase c i j g2 sites own root_filled (filled i s things sites)
           → Allowed (length sites) (plan.timers (compact s things).timers ++ plan.whole phase.Ends (compact s things))
           → Succeeds c End j g2 sites (plan.timers (compact s things).timers ++ plan.whole phase.Ends (compact s things))
-      timers_left j phase allowed =
-          timers_succeed c End j sites g2 ts_saved ends phase.hosting no_timers (filler_callable c j sites phase.running)
+      timers_left j state allowed =
+          timers_succeed c End j sites g2 ts_saved ends state.hosting no_timers (filler_callable c j sites state.running)
           (distinct_moved things s.host.clock s.host.timers still.shaped.host.sound.ids)
           (timely_moved things s.host.clock s.host.timers still.shaped.host.sound.timely)
-          (are_timers c j s things sites phase.running made.count still walk fam.root (classes_after j phase))
-          (λ hosting. ends_left j (phase_hosted c i j g2 g3 sites own root_filled (filled i s things sites) phase hosting)
+          (are_timers c j s things sites state.running made.count still walk fam.root (classes_after j state))
+          (λ hosting. ends_left j (phase_hosted c i j g2 g3 sites own root_filled (filled i s things sites) state hosting)
           (allowed_past (length sites) (plan.timers ts_saved) ends (timers_none ts_saved) allowed))
         where
           no_timers : g2.timers ≡ []
@@ -323,12 +325,12 @@ module _ (c : Scene) (s : Store) (things sites : List ℕ) (h : Contents) (g : H
       fills_left : (j : Contents) → Phase c i j g2 sites own root_filled first
           → Allowed (length sites) (plan.each phase.Properties 0 ts ++ after_properties)
           → Succeeds c End j g2 sites (plan.each phase.Properties 0 ts ++ after_properties)
-      fills_left j phase allowed =
+      fills_left j state allowed =
           each_succeeds c End s things sites i g2 own root_filled first (filled i s things sites) (plan.each phase.Properties) fill_thing (λ n t us. refl) (λ n. refl)
           (fill_step c End s things sites i g2 still.sound fresh shapes
           (λ n inside. free_again c End s things sites h i g g1 g2 still made stand fam alone W events grown n inside (shapes n inside)))
           made.count things 0 j after_properties zero_more (λ m there. ap (nth things) (zero_on m))
-          (phase_same c i j g2 sites own root_filled first (mixed first (filled i s things sites) 0) phase
+          (phase_same c i j g2 sites own root_filled first (mixed first (filled i s things sites) 0) state
           (λ n inside. same_from first (filled i s things sites) n))
           allowed
           (λ k filled_now more. timers_left k filled_now more)
@@ -339,13 +341,13 @@ module _ (c : Scene) (s : Store) (things sites : List ℕ) (h : Contents) (g : H
       properties_left : (j : Contents) → Phase c i j g2 sites own root first
           → Allowed (length sites) (plan.whole phase.Properties (compact s things) ++ after_properties)
           → Succeeds c End j g2 sites (plan.whole phase.Properties (compact s things) ++ after_properties)
-      properties_left j phase allowed =
+      properties_left j state allowed =
           subst (Succeeds c End j g2 sites) (sym are)
           (by_class c End s things sites j g2 document root_thing root j (plan.each phase.Properties 0 ts ++ after_properties)
-          (going_begins c j g2 sites (site sites document.0) root phase.running phase.hosting (ap (object_at j.objects) at_document ∙ phase.document))
+          (going_begins c j g2 sites (site sites document.0) root state.running state.hosting (ap (object_at j.objects) at_document ∙ state.document))
           root_closed root_extensible root_window (still.sound.names document.0) off
           (λ k now more. fills_left k
-          (phase_document c i j k g2 sites own root root_filled first phase (subst (λ q. Going c j k g2 sites q root_filled) at_document now)) more)
+          (phase_document c i j k g2 sites own root root_filled first state (subst (λ q. Going c j k g2 sites q root_filled) at_document now)) more)
           (document_free c End s things sites h i g g1 g2 still made stand fam alone W events grown root root_class)
           root_thing.class (ap is_list root_class ∙ sym (ap is_list fam.root))
           (subst (λ C. MadeProps C root_thing.props root.props) (sym fam.root) (ap (λ (o : Object). o.props) root_is ∙ made.document_props))
