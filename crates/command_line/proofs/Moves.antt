@@ -118,17 +118,16 @@ saved_short laws bytes page earlier things accepted sound can =
 
 pub saved_steps : (laws : SavingLaws) (bytes : List ℕ) (page : Page) (earlier : List Event) (things : List ℕ)
     → IsAccepted bytes page → IsSound page.nodes → CanBeSaved (run_of (opened page) earlier) things
-    → (now : Page) (script : tree.Stmts) → IsAccepted (saved_page (run_of (opened page) earlier) things) now → now.scripts ≡ script ∷ []
-    → LoadsWithin script (4 * (load_of (run_of (opened page) earlier) things).things + 4)
-saved_steps laws bytes page earlier things accepted sound can now script b only =
+    → (now : Page) → IsAccepted (saved_page (run_of (opened page) earlier) things) now
+    → LoadsWithin (running now) (4 * (load_of (run_of (opened page) earlier) things).things + 4)
+saved_steps laws bytes page earlier things accepted sound can now b =
     let text = saved_page (run_of (opened page) earlier) things in
     let n : ℕ = (load_of (run_of (opened page) earlier) things).things in
     let found : moved.GoesOn text (opened page) earlier (4 * n + 4) =
     (laws.moved (opened page) earlier things (can_be_moved laws bytes page earlier things accepted sound can)).0 in
     let at_last = laws.one text now (framed_page found.script) b found.goes_on.accepted in
-    let same : script ∷ [] ≡ found.script ∷ [] = sym only ∙ ap (λ (p : Page). p.scripts) at_last in
-    let one_script : script ≡ found.script = cc same in
-    subst (λ (c : tree.Stmts). LoadsWithin c (4 * n + 4)) (sym one_script) found.within
+    let runs : running now ≡ in_frame (found.script ∷ []) = ap running at_last ∙ framed_runs found.script in
+    subst (λ (p : RunningPage). LoadsWithin p (4 * n + 4)) (sym runs) found.within
 
 pub saved_moves : (laws : SavingLaws) (bytes : List ℕ) (page : Page) (earlier : List Event) (things : List ℕ)
     → IsAccepted bytes page → IsSound page.nodes → HaveNumbers page.kind page.scripts → CanBeSaved (run_of (opened page) earlier) things

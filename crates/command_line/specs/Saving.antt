@@ -1,9 +1,8 @@
 -- What `save` writes, and that it goes on as the page would.
-use Rattle.std.specs.Prelude.{ℕ, ◌≡◌, ◌<◌, ◌⊎◌, List, [], ◌+◌, ◌*◌, ◌≤◌, length, ◌∷◌}
+use Rattle.std.specs.Prelude.{ℕ, ◌≡◌, ◌<◌, ◌⊎◌, List, [], ◌+◌, ◌*◌, ◌≤◌, length}
 use Rattle.heap_walker.specs.Things.{IsWalk}
 use Rattle.heap_walker.specs.Weight.{load_of, told}
 use Rattle.heap_walker.specs.declared.weight.Weight.{Weight}
-use Rattle.js_core.specs.Tree.{Stmts}
 use Rattle.js_values.specs.declared.event.Event.{Event}
 use Rattle.page_check.specs.declared.page.Kind.TheVariants.{Form}
 use Rattle.page_meaning.specs.Pages.{lines_after, lines_of_run, run_of}
@@ -68,8 +67,8 @@ pub record Saves (bytes file text : List ℕ) : Type 0 where
   pub saved : text ≡ saved_page state things
   -- at most 160 bytes for each thing, besides its text, and 4,096 more
   pub short : length text ≤ 160 * (load_of state things).things + (load_of state things).text + 4096
-  -- and at most four steps for each thing, and four, when it loads
-  pub steps : (now : Page) (script : Stmts) → IsAccepted text now → now.scripts ≡ script ∷ [] → LoadsWithin script (4 * (load_of state things).things + 4)
+  -- and each of its scripts at most four steps for each thing, and four, when it loads
+  pub steps : (now : Page) → IsAccepted text now → LoadsWithin (running now) (4 * (load_of state things).things + 4)
   pub moves : MovesTo bytes after.events text
 
 -- what may have been put where memory ran out: nothing, or a front of the saved page

@@ -1,5 +1,5 @@
 -- A moved page behaves as if it had never moved.
-use Rattle.std.proofs.Common.{◌≡◌, ap, ◌∙◌, ℕ, ◌+◌, ◌*◌, ◌<◌, ◌≤◌, List, [], drop, length, arith}
+use Rattle.std.proofs.Common.{◌≡◌, ap, ◌∙◌, ℕ, ◌+◌, ◌*◌, ◌<◌, ◌≤◌, List, [], ◌∷◌, drop, length, arith}
 use Rattle.heap_walker.specs.Weight as weight
 use Rattle.js_core.specs.Tree as tree
 use Rattle.js_print.specs.Lined.{LinedScriptsAreReadAgain}
@@ -8,9 +8,11 @@ use Rattle.js_values.specs.declared.line.Line.{Line}
 use Rattle.heap_walker.specs.Still.{Still}
 use Rattle.page_meaning.specs.Pages.{Page, load_of, run_all, run_of}
 use Rattle.page_meaning.specs.Store.{Store}
-use Rattle.page_meaning.specs.Tasks.{step_limit}
+use Rattle.page_meaning.specs.Pristine.{pristine}
+use Rattle.page_meaning.specs.Tasks.{Script, after_task, step_limit}
 use Rattle.page_rest.specs.Laws.{PagesRest}
 use Rattle.page_writer.specs.FormScripts.{SavedScriptsAreForm}
+use Rattle.page_writer.specs.Frame.{frame_nodes}
 use Rattle.page_writer.specs.Length.{PagesAreShort}
 use Rattle.page_writer.specs.Page.{page_of, saved_page}
 use Rattle.page_writer.specs.Script.{saved_in_frame, saved_script}
@@ -21,7 +23,7 @@ use Rattle.rebuild_plan.specs.Plan.{plan}
 use Rattle.rebuild_plan.specs.Stands.{PlansStand}
 use Rattle.rebuild_plan.specs.declared.statement.Rebuild.{Rebuild}
 use Rattle.rebuilding.specs.Again.{SavedAgain}
-use Rattle.rebuilding.specs.Laws.{LoadsWithin, ScriptsTakeFewSteps, CanBeRebuilt, RebuiltPagesGoOn, ScriptsRebuild}
+use Rattle.rebuilding.specs.Laws.{EndWithin, ScriptsTakeFewSteps, CanBeRebuilt, RebuiltPagesGoOn, ScriptsRebuild}
 use Rattle.printed_pages.proofs.Callers.{ScriptPages}
 use Rattle.moved_pages.specs.Moved.{CanBeMoved, MovedPagesGoOn, longest_page}
 use Rattle.moved_pages.proofs.Accepted.{saved_pages_are_accepted}
@@ -39,8 +41,12 @@ few_within : (n load : ℕ) → n ≤ 4 * load + 1 → n + 1 ≤ 4 * load + 4
 few_within n load few = omega (arith, few)
 
 -- what takes few steps takes no more than more
-loads_within : (script : tree.Stmts) (n m : ℕ) → n ≤ m → LoadsWithin script n → LoadsWithin script m
-loads_within script n m more h = record { signal = h.signal; after = h.after; left = h.left; ends = h.ends; few = omega (arith, more, h.few) }
+ends_within : (scripts : List tree.Stmts) (s : Store) (n m : ℕ) → n ≤ m → EndWithin s scripts n → EndWithin s scripts m
+ends_within [] s n m more h = tt
+ends_within (script ∷ scripts) s n m more h = (
+  record { signal = h.0.signal; after = h.0.after; left = h.0.left; ends = h.0.ends; few = omega (arith, more, h.0.few) },
+  ends_within scripts (after_task (Script script) s) n m more h.1,
+)
 
 -- the largest saved page is short enough to be read
 fits : (n things text : ℕ) → n ≤ 160 * things + text + 4096 → things ≤ things_limit → text ≤ text_limit → n ≤ longest_page
@@ -73,7 +79,7 @@ moved_pages_go_on bound form lined pages stand few rest rebuild go_on saved_agai
     let silent : t.lines ≡ [] = (rebuild s things ready).0 in (
       record {
         script = saved_script rs;
-        within = loads_within (saved_script rs) (length rs + 1) (4 * (weight.load_of s things).things + 4)
+        within = ends_within (saved_script rs ∷ []) (pristine frame_nodes) (length rs + 1) (4 * (weight.load_of s things).things + 4)
             (few_within (length rs) (weight.load_of s things).things (few s things still can.walked)) (steps s things ready);
         goes_on = record {
           fits = fits (length (saved_page s things)) (weight.load_of s things).things (weight.load_of s things).text

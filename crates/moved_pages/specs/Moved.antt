@@ -48,10 +48,10 @@ pub record GoesOnAs (text : List ℕ) (page : Page) (earlier : List Event) (scri
   -- saved again, without events, it has the same text
   pub again : (things : List ℕ) → IsWalk (run_of (in_frame (script ∷ [])) []) things → saved_page (run_of (in_frame (script ∷ [])) []) things ≡ text
 
--- so does some script, which takes at most so many steps when it loads
+-- so does some script, and the page takes at most so many steps when it loads
 pub record GoesOn (text : List ℕ) (page : Page) (earlier : List Event) (steps : ℕ) : Type 0 where
   pub script : tree.Stmts
-  pub within : LoadsWithin script steps
+  pub within : LoadsWithin (in_frame (script ∷ [])) steps
   pub goes_on : GoesOnAs text page earlier script
 
 -- the saved page takes at most 160 bytes for each thing, besides its text, and 4,096 more

@@ -9,7 +9,7 @@ use Rattle.object_heap.specs.Heap.{Contents}
 use Rattle.object_heap.specs.Object.{Object}
 use Rattle.object_heap.specs.declared.object.Class.{Class}
 use Rattle.page_meaning.specs.Classes.{is_callable_class}
-use Rattle.page_meaning.specs.Places.{built_in_count, document, window}
+use Rattle.page_meaning.specs.Places.{built_in_count, document}
 use Rattle.page_meaning.specs.Store.{Store}
 use Rattle.page_writer.specs.Frame.{nth_node}
 use Rattle.object_heap.specs.declared.object.Class.TheVariants as class

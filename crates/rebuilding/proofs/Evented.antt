@@ -1,26 +1,22 @@
 -- The page once its events are dispatched: things are as fresh as before, but for the parts of events, and nothing else has changed.
-use Rattle.std.proofs.Common.{◌≡◌, refl, sym, ap, subst, ◌∙◌, ℕ, ◌<◌, ◌≤◌, true, false, List, [], Option, Some, None, length, arith}
-use Rattle.std.specs.Option.{is_some}
+use Rattle.std.proofs.Common.{◌≡◌, refl, sym, ap, subst, ◌∙◌, ℕ, ◌<◌, List, Option, Some, None, length, arith}
 use Rattle.object_heap.specs.Chain.{object_at}
 use Rattle.object_heap.specs.Environment.{Environment}
 use Rattle.object_heap.specs.Heap.{Contents}
 use Rattle.object_heap.specs.Object.{Object}
-use Rattle.object_heap.specs.Property.{Props}
 use Rattle.object_heap.specs.declared.object.Class.{Class}
 use Rattle.object_heap.specs.declared.object.Class.TheVariants as class
 use Rattle.page_host.specs.Host.{Host}
-use Rattle.page_meaning.specs.Places.{document, node_prototype, window}
+use Rattle.page_meaning.specs.Places.{document, window}
 use Rattle.page_meaning.specs.Store.{Store}
 use Rattle.page_writer.specs.Frame.{nth_node}
 use Rattle.rebuild_plan.specs.Events.{SavedEvent, event_as}
 use Rattle.rebuilding.specs.Rebuilt.{ClassIsRebuilt, bound, event, fault, list, node, nth, page, plain}
-use Rattle.rebuilding.specs.Scene.{IsRunning, Scene}
+use Rattle.rebuilding.specs.Scene.{Scene}
 use Rattle.rebuilding.proofs.EventPhase.{EventsDone, evented, is_event_class}
 use Rattle.rebuilding.proofs.NodesAt.{NodesStand}
-use Rattle.rebuilding.proofs.NodesGrown.{was_node}
 use Rattle.rebuilding.proofs.OwnObjects.{IsNodeOn, OwnObjects}
 use Rattle.rebuilding.proofs.Prevents.{class_stays}
-use Rattle.rebuilding.proofs.SitesApart.{site_there}
 use Rattle.rebuilding.proofs.Stages.{IsFresh, Made, MadeProps}
 
 -- ---- one object

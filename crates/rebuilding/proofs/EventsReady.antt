@@ -1,5 +1,5 @@
 -- Events as their makers leave them can be initialised and dispatched as they were.
-use Rattle.std.proofs.Common.{◌≡◌, ◌⊎◌, inl, inr, refl, sym, ap, subst, ◌∙◌, ℕ, ◌+◌, ◌<◌, ◌≤◌, Bool, true, false, ◌||◌, nat_eq, List, [], ◌∷◌, Option, Some, None, length, codes, arith}
+use Rattle.std.proofs.Common.{◌≡◌, ◌⊎◌, inl, inr, refl, sym, ap, subst, ◌∙◌, ℕ, ◌<◌, ◌≤◌, Bool, true, false, nat_eq, List, [], Option, Some, None, length, codes, arith}
 use Rattle.std.proofs.lemmas.Bool.{cases_lt, eq-eqb, or_left}
 use Rattle.std.specs.Option.{is_some}
 use Rattle.heap_walker.proofs.Callers.{host_among, links_in_walk}
@@ -12,7 +12,6 @@ use Rattle.object_heap.specs.Chain.{object_at}
 use Rattle.object_heap.specs.Environment.{Environment}
 use Rattle.object_heap.specs.Heap.{Contents}
 use Rattle.object_heap.specs.Object.{Object}
-use Rattle.object_heap.specs.Property.{own_property}
 use Rattle.object_heap.specs.declared.object.Class.{Class}
 use Rattle.object_heap.specs.declared.object.Class.TheVariants as class
 use Rattle.object_heap.specs.declared.object.EventParts.{EventParts}
@@ -27,18 +26,17 @@ use Rattle.page_writer.specs.Frame.{nth_node}
 use Rattle.rebuild_plan.proofs.Callers.{built_in_is_no_node}
 use Rattle.rebuild_plan.specs.Compact.{moved, moved_proto}
 use Rattle.rebuild_plan.specs.Events.{SavedEvent, event_as, event_of}
-use Rattle.rebuild_plan.specs.Moved.{first_thing}
 use Rattle.rebuild_plan.specs.Plan as plan
 use Rattle.rebuilding.specs.Rebuilt.{ClassIsRebuilt, bound, event, fault, list, node, nth, page, plain}
-use Rattle.rebuilding.specs.Running.{IsNodeHere, Lacks, object_here}
-use Rattle.rebuilding.specs.Scene.{IsRunning, Scene}
+use Rattle.rebuilding.specs.Running.{Lacks, object_here}
+use Rattle.rebuilding.specs.Scene.{Scene}
 use Rattle.rebuilding.specs.Sites.{sited_proto}
 use Rattle.rebuilding.proofs.Basics.{nothing}
 use Rattle.rebuilding.proofs.Callables.{IsKnownPlace}
-use Rattle.rebuilding.proofs.EventPhase.{AreReady, IsInOrder, IsReached, IsReady, saved}
+use Rattle.rebuilding.proofs.EventPhase.{AreReady, IsInOrder, IsReached}
 use Rattle.rebuilding.proofs.ListenPhase.{bare_lacks}
 use Rattle.rebuilding.proofs.NodesAt.{NodesStand, document_here, document_node, thing_here, thing_node}
-use Rattle.rebuilding.proofs.OwnObjects.{IsNodeOn, OwnObjects}
+use Rattle.rebuilding.proofs.OwnObjects.{OwnObjects}
 use Rattle.rebuilding.proofs.Placed.{event_low, is_thing_at, number_at, place_in, place_low, proto_built_in}
 use Rattle.rebuilding.proofs.Stages.{Made, MadeHost, MadeProps}
 

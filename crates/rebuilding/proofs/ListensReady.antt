@@ -1,5 +1,5 @@
 -- The listeners of each thing that is a node, and of the document, can be added again.
-use Rattle.std.proofs.Common.{◌≡◌, refl, sym, ap, subst, ◌∙◌, ℕ, ◌+◌, ◌<◌, List, [], ◌∷◌, length, arith}
+use Rattle.std.proofs.Common.{◌≡◌, refl, sym, ap, subst, ℕ, ◌+◌, ◌<◌, List, [], length, arith}
 use Rattle.heap_walker.specs.Still.{Still}
 use Rattle.heap_walker.specs.Things.{IsWalk, heard_at}
 use Rattle.host_relations.proofs.Callers.{AreNew}

@@ -69,7 +69,7 @@ pub record IsScriptOf (s : Store) (things : List ℕ) (t : Store) : Type 0 where
   pub after : Contents
   pub host : Host
   pub sites : List ℕ
-  pub within : LoadsWithin (saved_script (plan (compact s things))) (length (plan (compact s things)) + 1)
+  pub within : LoadsWithin (saved_in_frame (plan (compact s things))) (length (plan (compact s things)) + 1)
   pub loaded : t ≡ page_with after host
   pub rebuilt : IsRebuilt scene s things after host sites
 
@@ -108,7 +108,7 @@ script_rebuilt sound run plans s things can =
       after = last;
       host = out.host;
       sites = out.sites;
-      within = record { signal = nothing; after = page_with out.after out.host; left = out.left; ends = ends; few = omega (arith, out.few) };
+      within = (record { signal = nothing; after = page_with out.after out.host; left = out.left; ends = ends; few = omega (arith, out.few) }, tt);
       loaded = loaded;
       rebuilt = still_rebuilt scene s things out.after last out.host out.sites out.end
           (settled_quiet (length out.after.objects) out.after (omega arith)) (subst (λ (t : Store). IsSound t.heap) loaded (sound (saved_in_frame rs)));

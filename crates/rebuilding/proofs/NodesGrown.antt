@@ -2,7 +2,7 @@
 use Rattle.std.proofs.Common.{◌≡◌, ◌⊎◌, inl, inr, refl, sym, ap, subst, ◌∙◌, ℕ, ◌+◌, ◌<◌, true, nat_eq, List, ◌∷◌, ◌++◌, length, arith}
 use Rattle.std.proofs.lemmas.Bool.{eqb-true, or_cases}
 use Rattle.dom_tree.specs.Content.{new_content}
-use Rattle.dom_tree.specs.Node.{Node, Nodes, children_at, has, node_at, parent_at}
+use Rattle.dom_tree.specs.Node.{Nodes, children_at, has, node_at, parent_at}
 use Rattle.heap_relations.specs.Naming.{World}
 use Rattle.heap_relations.specs.Related.{Each, Maybe}
 use Rattle.heap_walker.specs.Still.{Still}

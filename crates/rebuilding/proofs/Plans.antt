@@ -1,5 +1,5 @@
 -- From the things that are made, the phases of a plan one after another: they leave the page that was saved.
-use Rattle.std.proofs.Common.{◌≡◌, refl, sym, ap, subst, ◌∙◌, ℕ, suc, ◌+◌, ◌<◌, Bool, true, false, nat_eq, nat_lt, List, [], ◌∷◌, ◌++◌, append_assoc, Option, None, length, arith, if◌then◌else◌}
+use Rattle.std.proofs.Common.{◌≡◌, refl, sym, ap, subst, ◌∙◌, ℕ, suc, ◌+◌, ◌<◌, Bool, true, false, nat_eq, nat_lt, List, [], ◌∷◌, ◌++◌, append_assoc, length, arith, if◌then◌else◌}
 use Rattle.std.proofs.lemmas.Bool.{and_parts, cond-false, le-ltb, ne_eqb}
 use Rattle.std.proofs.lemmas.List.{append-nil}
 use Rattle.heap_relations.specs.Naming.{World}
@@ -8,22 +8,20 @@ use Rattle.heap_walker.specs.Things.{IsWalk, globals_of}
 use Rattle.host_relations.specs.Linked.{Linked}
 use Rattle.host_relations.specs.Nodes.{NodesRel}
 use Rattle.js_values.specs.declared.built_in.BuiltIn.TheVariants.{Object as ObjectConstructor}
-use Rattle.js_values.specs.declared.ids.ObjId.{ObjId}
 use Rattle.object_heap.specs.Chain.{object_at}
 use Rattle.object_heap.specs.Heap.{Contents}
-use Rattle.object_heap.specs.Object.{Object, is_list, is_window, not_extensible, with_class, with_extensible, with_props}
+use Rattle.object_heap.specs.Object.{Object, is_list, is_window, not_extensible, with_extensible, with_props}
 use Rattle.object_heap.specs.Property.{Props}
-use Rattle.object_heap.specs.declared.object.Class.{Class}
 use Rattle.object_heap.specs.declared.object.Class.TheVariants as class
 use Rattle.object_shapes.specs.Shapes.{HasShape, built_in_at}
-use Rattle.page_host.specs.Host.{Host, with_listeners, with_nodes, with_timers}
+use Rattle.page_host.specs.Host.{Host, with_timers}
 use Rattle.page_meaning.specs.Classes.{is_callable_class}
 use Rattle.page_meaning.specs.Places.{built_in_count, document, function_at, function_place, window}
 use Rattle.page_meaning.specs.Store.{Store}
 use Rattle.page_writer.specs.Frame.{nth_node}
 use Rattle.page_writer.specs.Literals.{HaveLiterals}
 use Rattle.rebuild_plan.proofs.Callers.{all_nodes, plans_stand}
-use Rattle.rebuild_plan.specs.Compact.{Compact, Thing, compact, moved_props, thing_at, things_at}
+use Rattle.rebuild_plan.specs.Compact.{Compact, Thing, compact, thing_at, things_at}
 use Rattle.rebuild_plan.specs.Events.{event_as}
 use Rattle.rebuild_plan.specs.Plan as plan
 use Rattle.rebuild_plan.specs.Stands.{standing}
@@ -35,7 +33,7 @@ use Rattle.timer_queue.specs.declared.timer.Live.{Live}
 use Rattle.rebuilding.specs.Rebuilt.{ClassIsRebuilt, IsRebuilt, IsRebuiltAs, Succeeds, nth, sited_timers}
 use Rattle.rebuilding.specs.Running.{node_here}
 use Rattle.rebuilding.specs.Scene.{IsHosting, IsRunning, Scene}
-use Rattle.rebuilding.specs.Sites.{site, sited_props}
+use Rattle.rebuilding.specs.Sites.{site}
 use Rattle.rebuilding.proofs.Allowing.{allowed_past, children_none, contents_none, listeners_none, timers_none}
 use Rattle.rebuilding.proofs.ChildModel.{AreAlone, IsFamily}
 use Rattle.rebuilding.proofs.ChildPhase.{Keeps, counterpart}
@@ -44,11 +42,10 @@ use Rattle.rebuilding.proofs.EachThing.{each_succeeds, mixed}
 use Rattle.rebuilding.proofs.EventPhase.{EventsDone, events_succeed}
 use Rattle.rebuilding.proofs.Evented.{document_stays, fresh_still, nodes_stand_still, own_still, window_stays}
 use Rattle.rebuilding.proofs.EventsReady.{events_ready}
-use Rattle.rebuilding.proofs.Families.{family, heard_known}
+use Rattle.rebuilding.proofs.Families.{family}
 use Rattle.rebuilding.proofs.FillSteps.{by_class, fill_step, fill_thing, filled}
 use Rattle.rebuilding.proofs.Globals.{globals_succeed}
 use Rattle.rebuilding.proofs.Going.{Allowed, Going, going_begins, prevent_next, range_rest}
-use Rattle.rebuilding.proofs.Hearable.{node_can_hear, node_hears_new}
 use Rattle.rebuilding.proofs.ListenPhase.{ListenersDone, listeners_succeed}
 use Rattle.rebuilding.proofs.ListensReady.{document_can, document_new, things_can, things_new}
 use Rattle.rebuilding.proofs.Lonely.{lonely}
@@ -65,7 +62,7 @@ use Rattle.rebuilding.proofs.PropertyNames.{rebuilt_props}
 use Rattle.rebuilding.proofs.SavedHosts.{IsGrown, document_again, document_free, free_again, hosted_again, parents_again}
 use Rattle.rebuilding.proofs.SavedNodes.{nodes_world}
 use Rattle.rebuilding.proofs.Stages.{IsFresh, Made, MadeProps}
-use Rattle.rebuilding.proofs.TimerPhase.{IsTimer, timers_succeed}
+use Rattle.rebuilding.proofs.TimerPhase.{timers_succeed}
 use Rattle.rebuilding.proofs.TimersReady.{are_timers, distinct_moved, timely_moved}
 
 -- ---- what comes after the makers may be run

@@ -4,12 +4,12 @@ use Rattle.std.proofs.lemmas.Bool.{cases_lt, eq-eqb, lt-ltb, or_left, or_right}
 use Rattle.std.specs.List.{list_all}
 use Rattle.std.specs.Option.{option_map}
 use Rattle.dom_tree.proofs.Callers.{parent_past}
-use Rattle.dom_tree.specs.Node.{Node, Nodes, kind_at, node_at, parent_at}
+use Rattle.dom_tree.specs.Node.{Nodes, kind_at, node_at, parent_at}
 use Rattle.dom_tree.specs.declared.content.Content.{Content}
 use Rattle.heap_relations.specs.Naming.{World}
-use Rattle.heap_relations.specs.Related.{Maybe, none, some}
+use Rattle.heap_relations.specs.Related.{Maybe, some}
 use Rattle.heap_walker.specs.Still.{Still}
-use Rattle.heap_walker.specs.Things.{IsWalk, heard_at, is_in}
+use Rattle.heap_walker.specs.Things.{heard_at, is_in}
 use Rattle.host_relations.specs.Linked.{Linked}
 use Rattle.host_relations.specs.Nodes.{NodeIds, NodesRel}
 use Rattle.js_values.specs.declared.ids.NodeId.{NodeId}
@@ -26,16 +26,16 @@ use Rattle.page_host.specs.Host.{Host, object_of_node}
 use Rattle.page_host.specs.HostNames.{host_name, is_handler}
 use Rattle.page_host.specs.declared.host_name.HostName.{HostName}
 use Rattle.page_meaning.specs.HostNames.{has_named_host, is_kept}
-use Rattle.page_meaning.specs.Places.{at_place, document}
+use Rattle.page_meaning.specs.Places.{document}
 use Rattle.page_meaning.specs.Store.{Store}
 use Rattle.page_writer.specs.Frame.{nth_node}
 use Rattle.rebuild_plan.proofs.Callers.{all_nodes}
 use Rattle.rebuild_plan.specs.Compact.{moved_proto, place_of, thing_at}
 use Rattle.rebuild_plan.specs.Events.{event_as}
 use Rattle.rebuild_plan.specs.Moved.{first_thing}
-use Rattle.rebuild_plan.specs.Nodes.{SavedListener, moved_listeners, node_as}
+use Rattle.rebuild_plan.specs.Nodes.{moved_listeners, node_as}
 use Rattle.rebuilding.specs.Rebuilt.{ClassIsRebuilt, HostIsRebuilt, IsOwned, IsRested, bound, event, fault, kind_as, list, node, nth, page, plain, sited_event, sited_node}
-use Rattle.rebuilding.specs.Scene.{IsHosting, IsRunning, Scene}
+use Rattle.rebuilding.specs.Scene.{IsHosting, Scene}
 use Rattle.rebuilding.specs.Sites.{site, sited, sited_proto}
 use Rattle.rebuilding.proofs.ChildModel.{AreAlone, IsFamily, IsSpot, of_root, of_thing, placed, spot_is}
 use Rattle.rebuilding.proofs.ChildPhase.{counterpart, node_place}
