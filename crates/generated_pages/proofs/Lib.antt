@@ -1,0 +1,4 @@
+pub mod Rules
+pub mod Script
+pub mod Syntax
+pub mod Texts

@@ -1,0 +1,19 @@
+//! What holds of generated pages and their lists of events.
+
+ghost use Rattle.generated_pages.specs.Lists.{ListsAreRead};
+ghost use Rattle.generated_pages.specs.Pages.{PagesAreAccepted};
+
+use page_reader::law_script_pages;
+
+/// The page with any number of parts that the language has is accepted, as a plain page with an empty body and one script.
+pub fn law_generated_pages_are_accepted()
+    ensures { PagesAreAccepted }
+{
+    law_script_pages();
+}
+
+/// The list of events for a page with up to 99,999 parts is read as the events that are chosen for it, one more than the parts.
+pub fn law_generated_lists_are_read()
+    ensures { ListsAreRead }
+{
+}
