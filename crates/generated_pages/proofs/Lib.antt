@@ -1,3 +1,6 @@
+pub mod Accepted
+pub mod Json
+pub mod Read
 pub mod Rules
 pub mod Script
 pub mod Syntax

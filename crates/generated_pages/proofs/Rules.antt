@@ -1,18 +1,17 @@
 -- The script of a generated page breaks no early rule, is low, and has no reserved name.
-use Rattle.std.proofs.Common.{◌≡◌, ℕ, zero, suc, ◌≤◌, Bool, true, false, ◌||◌, None, refl, arith}
+use Rattle.std.proofs.Common.{◌≡◌, ℕ, zero, suc, ◌≤◌, Bool, false, None, refl, arith}
 use Rattle.std.specs.Prelude.{nat_lt}
-use Rattle.std.proofs.lemmas.Bool.{or_from}
 use Rattle.std.proofs.lemmas.Bool.Decides.{nat_tests}
 use Rattle.early_rules.specs.EarlyRules.{assigns_own_name, deletes_name, early_rule, early_rules, has_bad_target, has_restricted_name, has_stray_jump, redeclares_global, repeats_field, repeats_formal}
 use Rattle.early_rules.specs.FormNodes.{has_reserved_identifier}
-use Rattle.early_rules.specs.Jumps.{leaves, strays}
+use Rattle.early_rules.specs.Jumps.{leaves}
 use Rattle.early_rules.specs.Limits.{plain_height_limit}
 use Rattle.early_rules.specs.declared.jump.Jump.TheVariants as jump
 use Rattle.global_names.specs.Names.{global_names}
 use Rattle.js_core.specs.Height.{stmts_height}
 use Rattle.js_core.specs.Tree as tree
 use Rattle.js_core.specs.Tree.{no_stmts, then_stmt}
-use Rattle.scope_analysis.specs.Nodes.{Node, stmts_any}
+use Rattle.scope_analysis.specs.Nodes.{stmts_any}
 use Rattle.script_rules.specs.Form.{has_reserved_name}
 use Rattle.generated_pages.proofs.Script.{after_calls, made_script, opened_by, part_call, start_of}
 
@@ -74,7 +73,6 @@ breaks_no_rule n =
     refl
 
 -- ---- height
-
 
 pub is_low : (n : ℕ) → stmts_height (made_script n) ≤ 200
 is_low = over_script (λ ss. stmts_height ss ≤ 200) (λ i k ss low. omega (arith, low)) (λ ss low. omega (arith, low)) (omega arith)

@@ -1,5 +1,5 @@
 -- The tree of a generated page's script.
-use Rattle.std.specs.Prelude.{ℕ, zero, suc, ◌%◌, pos, List, [], ◌∷◌, Some, None, false, codes}
+use Rattle.std.specs.Prelude.{ℕ, zero, suc, ◌%◌, pos, [], ◌∷◌, Some, None, false, codes}
 use Rattle.js_core.specs.Tree as tree
 use Rattle.js_core.specs.Tree.{name, num, text, bool, null, list, literal, func, member, index, call, binary, assign, no_exprs, then_expr, one_expr, no_holes, no_fields, then_field, code, var, function, expr, if_else, return, no_stmts, then_stmt, no_body, no_declarators, then_declarator}
 use Rattle.js_core.specs.declared.operators.BinaryOp.TheVariants as op

@@ -1,5 +1,5 @@
 -- Which events the lists for generated pages hold.
-use Rattle.std.specs.Prelude.{◌≡◌, ◌≤◌, ◌<◌, ℕ, zero, suc, ◌+◌, ◌/◌, ◌%◌, ◌==◌, true, if◌then◌else◌, List, [], ◌∷◌, ◌++◌, codes, Ok}
+use Rattle.std.specs.Prelude.{◌≡◌, ◌≤◌, ◌<◌, ℕ, zero, suc, ◌+◌, ◌/◌, ◌%◌, ◌==◌, true, if◌then◌else◌, List, [], ◌∷◌, ◌++◌, length, codes, Ok}
 use Rattle.std.specs.Fmt.{decimal}
 use Rattle.event_file.specs.Events.{events_of, most_events}
 use Rattle.js_core.specs.Text.{utf16_of}
@@ -23,6 +23,6 @@ chosen_before parts (suc n) es = chosen_before parts n (chosen parts (drawn (par
 abbrev pub made_events : ℕ → List Event
 made_events n = chosen_before n n (Call (utf16_of (codes "total")) ∷ [])
 
--- the list for the page with n parts holds these events, where they are not too many for a file of events
+-- the list for the page with n parts holds these events, one more than the parts, where they are not too many for a file of events
 abbrev pub ListsAreRead : Type 0
-ListsAreRead = (n : ℕ) → 1 ≤ n → n < most_events → events_of (event_list n) ≡ Ok (made_events n)
+ListsAreRead = (n : ℕ) → 1 ≤ n → n < most_events → (events_of (event_list n) ≡ Ok (made_events n)) × (length (made_events n) ≡ n + 1)

@@ -15,5 +15,4 @@ pub fn law_generated_pages_are_accepted()
 /// The list of events for a page with up to 99,999 parts is read as the events that are chosen for it, one more than the parts.
 pub fn law_generated_lists_are_read()
     ensures { ListsAreRead }
-{
-}
+{}
