@@ -3,5 +3,6 @@ pub mod Json
 pub mod Read
 pub mod Rules
 pub mod Script
+pub mod Sizes
 pub mod Syntax
 pub mod Texts

@@ -2,6 +2,7 @@
 
 ghost use Rattle.generated_pages.specs.Lists.{ListsAreRead};
 ghost use Rattle.generated_pages.specs.Pages.{PagesAreAccepted};
+ghost use Rattle.generated_pages.specs.Sizes.{FilesFit};
 
 use page_reader::law_script_pages;
 
@@ -15,4 +16,9 @@ pub fn law_generated_pages_are_accepted()
 /// The list of events for a page with up to 99,999 parts is read as the events that are chosen for it, one more than the parts.
 pub fn law_generated_lists_are_read()
     ensures { ListsAreRead }
+{}
+
+/// The page with up to 99,999 parts has no more bytes than a page file may have, and its list no more than an event file.
+pub fn law_generated_files_fit()
+    ensures { FilesFit }
 {}

@@ -3,4 +3,6 @@
 
 mod laws;
 
-pub use laws::{law_generated_lists_are_read, law_generated_pages_are_accepted};
+pub use laws::{
+    law_generated_files_fit, law_generated_lists_are_read, law_generated_pages_are_accepted,
+};
