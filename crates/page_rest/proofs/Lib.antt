@@ -1,4 +1,4 @@
--- What every function in a script of a form page is, in a call that binds its needed variables, and that pages in form are at rest.
+-- What every function in a script of a form page is, in a call that binds its needed variables, that pages in form are at rest, and that each page has a walk.
 pub mod AskedTrees
 pub mod Assigning
 pub mod Formed
@@ -12,4 +12,5 @@ pub mod Remaking
 pub mod Resting
 pub mod Tests
 pub mod Trees
+pub mod Walked
 pub mod Wrapped

@@ -1,4 +1,4 @@
--- That pages are at rest between two events.
+-- That pages are at rest between two events, and have walks.
 use Rattle.std.specs.Prelude.{◌≡◌, ℕ, List, Option}
 use Rattle.std.specs.List.{All}
 use Rattle.dom_tree.specs.Sound.{IsSound}
@@ -32,3 +32,12 @@ abbrev pub PagesRest : Type 0
 PagesRest =
     (page : Page) (es : List Event) (things : List ℕ) → IsSound page.nodes → ArePlain page.nodes → All IsInForm page.scripts → IsWalk (run_of page es) things
     → Still (run_of page es) × HasSyntax (run_of page es) × AllCanBeRemade (run_of page es) things
+
+-- the reachable things of a page, each once, oldest first
+pub record HasWalk (s : Store) : Type 0 where
+  pub things : List ℕ
+  pub walk : IsWalk s things
+
+-- every page has a walk, at rest or not
+abbrev pub PagesHaveWalks : Type 0
+PagesHaveWalks = (s : Store) → HasWalk s

@@ -1,7 +1,7 @@
 //! What holds of pages in form.
 
 ghost use Rattle.page_rest.specs.Asks.{FunctionsAreAsked};
-ghost use Rattle.page_rest.specs.Laws.{PagesRest};
+ghost use Rattle.page_rest.specs.Laws.{PagesHaveWalks, PagesRest};
 
 use agreement::law_standing_pages_agree;
 
@@ -16,3 +16,8 @@ pub fn law_pages_rest()
 {
     law_standing_pages_agree();
 }
+
+/// Every page has a walk: what can be reached in it, by age.
+pub fn law_pages_have_walks()
+    ensures { PagesHaveWalks }
+{}

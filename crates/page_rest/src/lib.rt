@@ -3,4 +3,4 @@
 
 mod laws;
 
-pub use laws::{law_functions_are_asked, law_pages_rest};
+pub use laws::{law_functions_are_asked, law_pages_have_walks, law_pages_rest};
