@@ -92,7 +92,7 @@ picked_is_printed true c part length ts h = click_is_printed part ts h
 picked_is_printed false true part length ts h = tick_is_printed length ts
 picked_is_printed false false part length ts h = total_is_printed ts
 
--- behind a value a comma stands before these items
+-- after a value a comma stands before these items
 abbrev Follows : json.Items → Type 0
 Follows js = print_from true (items_tokens js) ≡ 44 ∷ print_from false (items_tokens js)
 

@@ -81,7 +81,7 @@ first_is_event i d e ds es few is rest =
     let at : event_at All i d ≡ Some e = rw (few_enough i few) is in
     ap (λ (o : Option Event). with_event o i (events_from All (i + 1) ds)) at ∙ ap (λ (r : Result (List Event) ℕ). with_event (Some e) i r) rest
 
--- n events and these, of which the first is behind n others
+-- n events and these, of which the first comes after n others
 events_are : (parts n : ℕ) (ds : Items) (es : List Event) → n < 100000 → events_from All (n + 1) ds ≡ Ok es → events_from All 1 (data_before parts n ds) ≡ Ok (chosen_before parts n es)
 events_are parts zero ds es few is = is
 events_are parts (suc n) ds es few is =

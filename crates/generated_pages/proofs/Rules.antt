@@ -15,7 +15,7 @@ use Rattle.scope_analysis.specs.Nodes.{stmts_any}
 use Rattle.script_rules.specs.Form.{has_reserved_name}
 use Rattle.generated_pages.proofs.Script.{after_calls, made_script, opened_by, part_call, start_of}
 
--- what holds of no statements, and of those behind a call if of the others, holds of the calls
+-- what holds of no statements, and of those after a call if of the others, holds of the calls
 module _ (P : tree.Stmts → Type 0) (more : (i k : ℕ) (ss : tree.Stmts) → P ss → P (then_stmt (part_call i k) ss)) where
   over_calls : (n : ℕ) (ss : tree.Stmts) → P ss → P (after_calls n ss)
   over_calls zero ss p = p

@@ -62,7 +62,7 @@ script_may n = opening_may (after_lines n []) (after_calls n no_stmts) (calls_ma
 abbrev pub script_text : ℕ → List ℕ
 script_text n = codes "\"use strict\";\n" ++ (codes "var parts=[],sum=0;\n" ++ (part_text ++ (total_text ++ calls n)))
 
--- one LF behind a text
+-- one LF after a text
 abbrev ended : List ℕ → List ℕ
 ended us = us ++ 10 ∷ []
 

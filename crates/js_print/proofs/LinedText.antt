@@ -240,7 +240,7 @@ lined_scripts_are_read_again script ls is may =
       strict = λ e. lined_strict size ls script e (omega arith);
     }
 
--- ---- and a line end behind all of them
+-- ---- and a line end after all of them
 
 ends_with_gap : Gap (10 ∷ []) [] true
 ends_with_gap = gap_more (10 ∷ []) [] [] true false (line_feed_is_gap []) (no_gap_more [] no_gap_at_end)
@@ -271,7 +271,7 @@ ended_has size (x ∷ xs) ls before after_word w c =
     (subst (λ (e : ℕ). TokensOf (size + 1) (g ++ here) (first (size - length (lexeme_units x ++ rest)) e ∷ lined_from size (others_of ls) xs)) behind_rest
     (subst (λ (s : ℕ). TokensOf (size + 1) (g ++ here) (first s ((size + 1) - length (rest ++ 10 ∷ [])) ∷ lined_from size (others_of ls) xs)) from_here found))
 
--- no end tag is made by a line end behind a text
+-- no end tag is made by a line end after a text
 ended_has_no_tag : (us : List ℕ) → HasNoEndTag us → HasNoEndTag (us ++ 10 ∷ [])
 ended_has_no_tag us none [] after e = by us none e
   where
@@ -298,7 +298,7 @@ ended_has_no_tag (u ∷ us) none (b ∷ before) after e =
 line_feed_is_coded : Coded (10 ∷ []) (10 ∷ [])
 line_feed_is_coded = ascii_is_coded (10 ∷ []) refl
 
--- a script is read again, too, where a line end stands behind it
+-- a script is read again, too, where a line end stands after it
 pub ended_scripts_are_read_again : (script : tree.Stmts) (ls : List Bool) → IsSyntax script → may_be_lined opening ls (stmts_lexemes script) ≡ true
     → LinedAgain script (lined_text ls (stmts_lexemes script) ++ 10 ∷ [])
 ended_scripts_are_read_again script ls is may =
