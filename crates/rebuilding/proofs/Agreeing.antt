@@ -67,7 +67,7 @@ round_of c h s things sites k a b (rebuilt.page {code = own} {env = from} {round
     (subst (λ e. IsRoundOf c h.environments k (needs own from) (name_of own) e) where_same r))
 
 -- where there are no scopes, a function stands outermost, or was rebuilt
-placed_round : {W : World} {d e : Class} → ((z : Slot) → In z W.slots → ⊥) → (k : ℕ) → ClassRel (named W) d e → IsPlaced W k d
+pub placed_round : {W : World} {d e : Class} → ((z : Slot) → In z W.slots → ⊥) → (k : ℕ) → ClassRel (named W) d e → IsPlaced W k d
 placed_round {W = W} none k (page h) = by h.round
   where
     by : {fs : List Frame} {e f : Option EnvId} {name : Option (List ℕ)} → Round W fs e f → IsOlder W k name e

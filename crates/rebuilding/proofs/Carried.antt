@@ -82,7 +82,7 @@ tails_same e = cc e
 abbrev pub AreYoung : List ℕ → Type 0
 AreYoung ks = (n : ℕ) → n < length ks → first_thing ≤ nth ks n
 
-place_low : (ks : List ℕ) (k : ℕ) → AreYoung ks → k < first_thing → place_of ks k ≡ k
+pub place_low : (ks : List ℕ) (k : ℕ) → AreYoung ks → k < first_thing → place_of ks k ≡ k
 place_low ks k young low = by (position (nat_eq k) ks) refl
   where
     by : (o : Option ℕ) → position (nat_eq k) ks ≡ o → place_of ks k ≡ k

@@ -109,7 +109,7 @@ record IsKeptEvent (things : List ℕ) (p : EventParts) : Type 0 where
   sent : p.sent ≡ is_some p.target
   known : (j : ℕ) → is_in j (proto_links p.target) ≡ true → IsKnown things j
 
-shaped_sent : (s : Store) (o : Object) (c : Class) (p : EventParts) → c ≡ class.Event p → HasShape s o c → p.sent ≡ is_some p.target
+pub shaped_sent : (s : Store) (o : Object) (c : Class) (p : EventParts) → c ≡ class.Event p → HasShape s o c → p.sent ≡ is_some p.target
 shaped_sent s o (class.Event q) p e shape = let same : q ≡ p = cc e in subst (λ (r : EventParts). r.sent ≡ is_some r.target) same shape.2.sent
 shaped_sent s o class.Plain p e shape = absurd (cc e)
 shaped_sent s o class.List p e shape = absurd (cc e)

@@ -6,6 +6,7 @@ pub mod Bared
 pub mod Basics
 pub mod Binds
 pub mod Callables
+pub mod Callers
 pub mod Calling
 pub mod Carried
 pub mod Changing

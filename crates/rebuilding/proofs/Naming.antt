@@ -86,15 +86,15 @@ rebuilt_trees s h things sites = record { opens = refl; opened = λ n fs c. refl
 -- ---- what is in lists
 
 module _ {A : Type 0} (x : A) where
-  in_left : (xs ys : List A) → In x xs → In x (xs ++ ys)
+  pub in_left : (xs ys : List A) → In x xs → In x (xs ++ ys)
   in_left xs ys here = here
   in_left (y ∷ xs) ys (there i) = there (in_left xs ys i)
 
-  in_right : (xs ys : List A) → In x ys → In x (xs ++ ys)
+  pub in_right : (xs ys : List A) → In x ys → In x (xs ++ ys)
   in_right [] ys i = i
   in_right (y ∷ xs) ys i = there (in_right xs ys i)
 
-  in_either : (xs ys : List A) → In x (xs ++ ys) → In x xs ⊎ In x ys
+  pub in_either : (xs ys : List A) → In x (xs ++ ys) → In x xs ⊎ In x ys
   in_either [] ys i = inr i
   in_either (y ∷ xs) ys here = inl here
   in_either (y ∷ xs) ys (there i) = further (in_either xs ys i)
@@ -161,7 +161,7 @@ base_is_with source env (class.Page other round) b here =
 base_is_with source env (class.Page other round) b (there i) = elim i [ ]
 base_is_with source env d b i = elim i [ ]
 
-base_is : (c d : Class) (b : Base) → In b (base_of c d) → IsBase b c d
+pub base_is : (c d : Class) (b : Base) → In b (base_of c d) → IsBase b c d
 base_is (class.Page source env) d b i = base_is_with source env d b i
 base_is c d b i = elim i [ ]
 
@@ -205,7 +205,7 @@ node_pair_is_with k (class.Node j) a b here = record { one = refl; two = refl }
 node_pair_is_with k (class.Node j) a b (there i) = elim i [ ]
 node_pair_is_with k d a b i = elim i [ ]
 
-node_pair_is : (c d : Class) (a b : ℕ) → In (pair a b) (node_pair_of c d) → IsNodePair c d a b
+pub node_pair_is : (c d : Class) (a b : ℕ) → In (pair a b) (node_pair_of c d) → IsNodePair c d a b
 node_pair_is (class.Node k) d a b i = node_pair_is_with k d a b i
 node_pair_is c d a b i = elim i [ ]
 

@@ -27,7 +27,7 @@ use Rattle.object_shapes.specs.Shapes.{built_in_at, IsWindow}
 
 -- ---- the globals that scripts made
 
-window_props : (s : Store) → IsWindow (object_at s.heap.objects places.window.0)
+pub window_props : (s : Store) → IsWindow (object_at s.heap.objects places.window.0)
     → (object_at s.heap.objects places.window.0).props ≡ (built_in_at places.window.0).props ++ globals_of s
 window_props s rest =
     rest.props ∙ ap (λ ps. (built_in_at places.window.0).props ++ ps) (sym (globals_are (object_at s.heap.objects places.window.0) rest))
