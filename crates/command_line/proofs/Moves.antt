@@ -7,7 +7,7 @@ use Rattle.heap_walker.specs.Things.{IsWalk}
 use Rattle.heap_walker.specs.Weight.{load_of, told}
 use Rattle.js_core.specs.Tree as tree
 use Rattle.js_values.specs.declared.event.Event.{Event}
-use Rattle.moved_pages.specs.Moved.{AcceptedPagesArePlain, AcceptedScriptsAreInForm, CanBeMoved, GoesOnAs, IsShort, MovedPagesGoOn}
+use Rattle.moved_pages.specs.Moved.{AcceptedPagesArePlain, AcceptedScriptsAreInForm, CanBeMoved, GoesOnAs, IsLittle, IsShort, MovedPagesGoOn}
 use Rattle.moved_pages.specs.Moved as moved
 use Rattle.opened_pages.specs.Opened.{HaveNumbers, OpenedPagesAreAccepted, OpenedPagesPutOutTheSame, OpensAs, PutOutTheSame, opened_text}
 use Rattle.page_check.specs.Accept.{ArePageScripts, texts_of}
@@ -46,6 +46,11 @@ few_things s things little = few_of (load_of s things).things things_limit _ (om
 little_text : (s : Store) (things : List ℕ) → ¬ IsTooMuch (told (load_of s things)) → (load_of s things).text ≤ text_limit
 little_text s things little = few_of (load_of s things).text text_limit _ (omega arith) (λ more. little (inr more))
 
+-- and the other way round: what is told is no more than the number
+little_of : (s : Store) (things : List ℕ) → IsLittle s things → ¬ IsTooMuch (told (load_of s things))
+little_of s things little (inl more) = omega (arith, little.0, more)
+little_of s things little (inr more) = omega (arith, little.1, more)
+
 -- the laws of the crates below on moved and opened pages
 pub record SavingLaws : Type 0 where
   pub one : OneAcceptance
@@ -58,6 +63,10 @@ pub record SavingLaws : Type 0 where
 -- the frame of a saved page is read as its nodes
 framed_runs : (script : tree.Stmts) → running (framed_page script) ≡ in_frame (script ∷ [])
 framed_runs script = refl
+
+-- its scopes are open
+framed_opens : (script : tree.Stmts) → opened (framed_page script) ≡ in_frame (script ∷ [])
+framed_opens script = refl
 
 -- the script of a moved page goes on as the page, whichever pages they are accepted as
 goes_on_by : (script : tree.Stmts) (earlier : List Event) (text : List ℕ) (page now : Page) → now ≡ framed_page script
@@ -73,14 +82,9 @@ goes_on_by script earlier text page now f h alike before e =
           ∙ sym (ap (λ (p : Page). lines_after (running p) earlier later) e);
     }
 
--- and it is saved again as the same text
-again_by : (script : tree.Stmts) (text : List ℕ) (now : Page) (things : List ℕ) → now ≡ framed_page script
-    → ((ks : List ℕ) → IsWalk (run_of (in_frame (script ∷ [])) []) ks → saved_page (run_of (in_frame (script ∷ [])) []) ks ≡ text)
-    → IsWalk (run_of (running now) []) things → saved_page (run_of (running now) []) things ≡ text
-again_by script text now things f h walk =
-    let runs : running now ≡ in_frame (script ∷ []) = ap running f ∙ framed_runs script in
-    ap (λ (p : RunningPage). saved_page (run_of p []) things) runs
-    ∙ h things (subst (λ (p : RunningPage). IsWalk (run_of p []) things) runs walk)
+-- and what holds of it as it is saved again
+again_by : (script : tree.Stmts) (P : RunningPage → Type 0) (now : Page) → now ≡ framed_page script → P (in_frame (script ∷ [])) → P (opened now)
+again_by script P now f h = subst P (sym (ap opened f ∙ framed_opens script)) h
 
 -- the scripts of a page with opened scopes are those of some form page
 some_opening : (kind : Kind) (bytes : List ℕ) (page : Page) → IsAccepted bytes page → (text : List ℕ) × OpensAs kind bytes page text
@@ -144,7 +148,11 @@ saved_moves laws bytes page earlier things accepted sound numbered can =
           let at_first = laws.one bytes before page a accepted in
           let at_last = laws.one text now (framed_page found.script) b found.goes_on.accepted in
           goes_on_by found.script earlier text page now at_last found.goes_on alike before at_first;
-      again = λ now ks b walk.
+      again = λ now ks b.
           let at_last = laws.one text now (framed_page found.script) b found.goes_on.accepted in
-          again_by found.script text now ks at_last found.goes_on.again walk;
+          again_by found.script (λ (p : RunningPage). IsWalk (run_of p []) ks → saved_page (run_of p []) ks ≡ text) now at_last (found.goes_on.again ks);
+      little = λ now ks b.
+          let at_last = laws.one text now (framed_page found.script) b found.goes_on.accepted in
+          again_by found.script (λ (p : RunningPage). IsWalk (run_of p []) ks → ¬ IsTooMuch (told (load_of (run_of p []) ks))) now at_last
+          (λ walk. little_of (run_of (in_frame (found.script ∷ [])) []) ks (found.goes_on.little ks walk));
     }

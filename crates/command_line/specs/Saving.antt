@@ -52,12 +52,14 @@ pub record GoesOn (page : Page) (earlier : List Event) (moved : Page) : Type 0 w
   pub same : (later : List Event) → lines_after (running moved) [] later ≡ lines_after (running page) earlier later
 
 -- **A moved page behaves as if it had never moved.** The saved bytes are a page, which is not too long to be read, and whichever page
--- they are accepted as goes on as whichever page the bytes are accepted as. It is saved again, without events, as the same bytes.
+-- they are accepted as goes on as whichever page the bytes are accepted as. It is saved again, without events, as the same bytes, and is never
+-- too large for that.
 pub record MovesTo (bytes : List ℕ) (earlier : List Event) (saved : List ℕ) : Type 0 where
   pub moved : Page
   pub page : IsPage saved moved
   pub goes_on : (before now : Page) → IsAccepted bytes before → IsAccepted saved now → GoesOn before earlier now
-  pub again : (now : Page) (things : List ℕ) → IsAccepted saved now → IsWalk (run_of (running now) []) things → saved_page (run_of (running now) []) things ≡ saved
+  pub again : (now : Page) (things : List ℕ) → IsAccepted saved now → IsWalk (run_of (opened now) []) things → saved_page (run_of (opened now) []) things ≡ saved
+  pub little : (now : Page) (things : List ℕ) → IsAccepted saved now → IsWalk (run_of (opened now) []) things → ¬ IsTooMuch (told (load_of (run_of (opened now) []) things))
 
 -- the page that is saved after the events of the file, to which the page moves
 pub record Saves (bytes file text : List ℕ) : Type 0 where

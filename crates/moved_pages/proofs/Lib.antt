@@ -6,4 +6,5 @@ pub mod LinedPage
 pub mod Moved
 pub mod PlainPages
 pub mod UsedNames
+pub mod Weighing
 pub mod Written

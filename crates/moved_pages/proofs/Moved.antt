@@ -27,6 +27,7 @@ use Rattle.rebuilding.specs.Laws.{EndWithin, ScriptsTakeFewSteps, CanBeRebuilt, 
 use Rattle.printed_pages.proofs.Callers.{ScriptPages}
 use Rattle.moved_pages.specs.Moved.{CanBeMoved, MovedPagesGoOn, longest_page}
 use Rattle.moved_pages.proofs.Accepted.{saved_pages_are_accepted}
+use Rattle.moved_pages.proofs.Weighing.{loads_are_same}
 use Rattle.moved_pages.proofs.Written.{are_written}
 
 -- ---- what a saved page is rebuilt from
@@ -88,6 +89,9 @@ moved_pages_go_on bound form lined pages stand few rest rebuild go_on saved_agai
           formed = (form s things still can.walked written).1.form.formed;
           silent = silent;
           again = λ (again : List ℕ) walk. ap (λ c. page_of (plan c)) (saved_again s things again ready walk);
+          little = λ (again : List ℕ) walk.
+              let same : weight.load_of t again ≡ weight.load_of s things = loads_are_same t s again things (saved_again s things again ready walk) in
+              (rw same can.few, rw same can.short);
           same = λ later. ap (λ (ls : List Line). drop (length ls) (run_all t later).lines) silent ∙ go_on s things later ready;
         };
       },

@@ -33,6 +33,10 @@ pub record CanBeMoved (page : Page) (earlier : List Event) (things : List ℕ) :
   pub few : (load_of (run_of page earlier) things).things ≤ things_limit
   pub short : (load_of (run_of page earlier) things).text ≤ text_limit
 
+-- these things and their text are no more than a saved page may have
+abbrev pub IsLittle : Store → List ℕ → Type 0
+IsLittle s things = ((load_of s things).things ≤ things_limit) × ((load_of s things).text ≤ text_limit)
+
 -- no page has more bytes
 abbrev pub longest_page : ℕ
 longest_page = 16777216
@@ -45,8 +49,9 @@ pub record GoesOnAs (text : List ℕ) (page : Page) (earlier : List Event) (scri
   pub formed : in_form script ≡ true
   pub silent : lines_of_run (in_frame (script ∷ [])) [] ≡ []
   pub same : (later : List Event) → lines_after (in_frame (script ∷ [])) [] later ≡ lines_after page earlier later
-  -- saved again, without events, it has the same text
+  -- saved again, without events, it has the same text, and is little enough for that
   pub again : (things : List ℕ) → IsWalk (run_of (in_frame (script ∷ [])) []) things → saved_page (run_of (in_frame (script ∷ [])) []) things ≡ text
+  pub little : (things : List ℕ) → IsWalk (run_of (in_frame (script ∷ [])) []) things → IsLittle (run_of (in_frame (script ∷ [])) []) things
 
 -- so does some script, and the page takes at most so many steps when it loads
 pub record GoesOn (text : List ℕ) (page : Page) (earlier : List Event) (steps : ℕ) : Type 0 where
