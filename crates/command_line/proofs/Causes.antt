@@ -18,7 +18,6 @@ use Rattle.command_line.specs.Parking.{AreUsed, greatest, last_version, listed}
 use Rattle.command_line.specs.Replay.{IsEventFile}
 use Rattle.command_line.specs.Saving.{IsTooLarge, IsMovable}
 use Rattle.command_line.specs.Stages.{Seen, Of, Held, IsNoEventFile, Stage, words, page_file, acceptance, event_file, moving, next_row, one_row, all_rows, made_page, made_events, halfway, Stops, Passes, PassesAll, EndsAt, EndsBy, IsQuiet, CausesExclude, IsReadOrFailed, names_of, work_of, work_behind, stages_of, SomeCause}
-use Rattle.command_line.specs.Stress.{IsMovableHalfway}
 use Rattle.page_maker.specs.Events.{event_list}
 use Rattle.page_maker.specs.Page.{page as page_text}
 use Rattle.command_line.proofs.Faring.{one_weight_halfway, large_or_little_halfway, some_halfway}

@@ -1,7 +1,6 @@
 -- How generated pages fare: the causes of each end, and the line.
-use Rattle.std.proofs.Common.{◌≡◌, ℕ, List, [], ◌∷◌, drop, length, Option, Some, None, Result, Ok as Good, Err, IfOk, IfErr, Vec, Global, refl, sym, ap, subst, ◌∙◌, inl, inr, arith}
+use Rattle.std.proofs.Common.{◌≡◌, ℕ, List, [], drop, length, Some, None, Result, Ok as Good, Err, IfOk, IfErr, Vec, Global, refl, sym, ap, subst, ◌∙◌, inl, inr}
 use Rattle.dom_tree.specs.Sound.{IsSound}
-use Rattle.event_file.specs.Events.{events_of}
 use Rattle.heap_walker.specs.Things.{IsWalk}
 use Rattle.heap_walker.specs.Weight.{load_of, told}
 use Rattle.heap_walker.specs.declared.weight.Weight.{Weight}
@@ -11,23 +10,21 @@ use Rattle.js_values.specs.declared.line.Line.{Line}
 use Rattle.opened_pages.specs.Opened.{HaveNumbers}
 use Rattle.page_check.specs.Accept.{IsRefused}
 use Rattle.page_check.specs.declared.page.Refusal.{Refusal}
-use Rattle.page_io.specs.Seen.{FilesSeen, KeeperSeen, SinkSeen}
-use Rattle.page_maker.specs.Events.{event_list}
 use Rattle.page_maker.specs.Page.{page as page_text}
-use Rattle.page_meaning.specs.Pages.{Page as RunningPage, lines_after, lines_of_run, run_all, run_of, load_of as loaded}
+use Rattle.page_meaning.specs.Pages.{lines_after, lines_of_run, run_of}
 use Rattle.page_meaning.specs.Store.{Store}
 use Rattle.page_writer.specs.Page.{saved_page}
 use Rattle.command_line.specs.Command.{stress}
-use Rattle.command_line.specs.Faring.{CountsLines, IsMovedBy, IsSavedInVain, IsUnmoved, IsWhole}
-use Rattle.command_line.specs.Moving.{CanBeSaved, IsOverweight, IsSaved}
+use Rattle.command_line.specs.Faring.{IsMovedBy, IsUnmoved, IsWhole}
+use Rattle.command_line.specs.Moving.{IsOverweight, IsSaved}
 use Rattle.command_line.specs.Page.{Page, IsAccepted, opened, running}
 use Rattle.command_line.specs.Reading.{IsUntaken}
 use Rattle.command_line.specs.Saving.{GoesOn, IsTooMuch, MovesTo}
-use Rattle.command_line.specs.Stages.{Seen, seen_between, unasked, unread, unwritten, halfway, EndsAt, PassesAll, StopsAtMadeEvents, work_of}
-use Rattle.command_line.specs.Stress.{earlier, last_line, later, stress_line, IsHalfway, IsMade, IsMoved, IsMovableHalfway, IsTooLargeHalfway, Measures}
+use Rattle.command_line.specs.Stages.{Seen, seen_between, unasked, unread, unwritten, EndsAt, StopsAtMadeEvents, work_of}
+use Rattle.command_line.specs.Stress.{earlier, last_line, later, stress_line, IsHalfway, IsMade, IsMoved, IsMovableHalfway, IsTooLargeHalfway}
 use Rattle.command_line.specs.Texts.{Gives}
 use Rattle.command_line.specs.declared.status.Status.{Status}
-use Rattle.command_line.specs.declared.status.Status.TheVariants.{PageRefused, EventsRefused, TooLarge, OutOfMemory}
+use Rattle.command_line.specs.declared.status.Status.TheVariants.{PageRefused, TooLarge, OutOfMemory}
 use Rattle.command_line.proofs.Moves.{OneAcceptance, SavingLaws, saved_moves}
 use Rattle.command_line.proofs.Walking.{some_walk}
 

@@ -1,6 +1,5 @@
 -- What running, saving and moving a generated page answers.
 use Rattle.std.specs.Prelude.{ℕ, ◌≡◌, List, Some, length}
-use Rattle.heap_walker.specs.declared.weight.Weight.{Weight}
 use Rattle.js_values.specs.declared.event.Event.{Event}
 use Rattle.opened_pages.specs.Opened.{HaveNumbers}
 use Rattle.page_check.specs.Accept.{IsRefused}

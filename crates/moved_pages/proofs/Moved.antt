@@ -1,5 +1,5 @@
 -- A moved page behaves as if it had never moved.
-use Rattle.std.proofs.Common.{◌≡◌, ap, ◌∙◌, ℕ, ◌+◌, ◌*◌, ◌<◌, ◌≤◌, List, [], ◌∷◌, drop, length, arith}
+use Rattle.std.proofs.Common.{◌≡◌, ap, subst, sym, ◌∙◌, ℕ, ◌+◌, ◌*◌, ◌<◌, ◌≤◌, List, [], ◌∷◌, drop, length, arith}
 use Rattle.heap_walker.specs.Weight as weight
 use Rattle.js_core.specs.Tree as tree
 use Rattle.js_print.specs.Lined.{LinedScriptsAreReadAgain}
@@ -25,7 +25,7 @@ use Rattle.rebuild_plan.specs.declared.statement.Rebuild.{Rebuild}
 use Rattle.rebuilding.specs.Again.{SavedAgain}
 use Rattle.rebuilding.specs.Laws.{EndWithin, ScriptsTakeFewSteps, CanBeRebuilt, RebuiltPagesGoOn, ScriptsRebuild}
 use Rattle.printed_pages.proofs.Callers.{ScriptPages}
-use Rattle.moved_pages.specs.Moved.{CanBeMoved, MovedPagesGoOn, longest_page}
+use Rattle.moved_pages.specs.Moved.{CanBeMoved, IsLittle, MovedPagesGoOn, longest_page}
 use Rattle.moved_pages.proofs.Accepted.{saved_pages_are_accepted}
 use Rattle.moved_pages.proofs.Weighing.{loads_are_same}
 use Rattle.moved_pages.proofs.Written.{are_written}
@@ -65,6 +65,11 @@ can_be_rebuilt few rest page earlier things can =
       few = few_steps (length (plan (compact s things))) (weight.load_of s things).things (few s things still can.walked) can.few;
     }
 
+-- a page of which the same is saved as of one that is little enough is that too
+little_again : (s t : Store) (things again : List ℕ) → compact t again ≡ compact s things → IsLittle s things → IsLittle t again
+little_again s t things again same little =
+    subst (λ (l : weight.Load). (l.things ≤ things_limit) × (l.text ≤ text_limit)) (sym (loads_are_same t s again things same)) little
+
 -- ---- the law
 
 pub moved_pages_go_on : PagesAreShort → SavedScriptsAreForm → LinedScriptsAreReadAgain → ScriptPages → PlansStand → PlansAreFew → PagesRest → ScriptsRebuild → RebuiltPagesGoOn → SavedAgain → ScriptsTakeFewSteps
@@ -89,9 +94,7 @@ moved_pages_go_on bound form lined pages stand few rest rebuild go_on saved_agai
           formed = (form s things still can.walked written).1.form.formed;
           silent = silent;
           again = λ (again : List ℕ) walk. ap (λ c. page_of (plan c)) (saved_again s things again ready walk);
-          little = λ (again : List ℕ) walk.
-              let same : weight.load_of t again ≡ weight.load_of s things = loads_are_same t s again things (saved_again s things again ready walk) in
-              (rw same can.few, rw same can.short);
+          little = λ (again : List ℕ) walk. little_again s t things again (saved_again s things again ready walk) (can.few, can.short);
           same = λ later. ap (λ (ls : List Line). drop (length ls) (run_all t later).lines) silent ∙ go_on s things later ready;
         };
       },

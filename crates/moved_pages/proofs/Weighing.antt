@@ -4,7 +4,7 @@ use Rattle.dom_tree.specs.Node.{node_at}
 use Rattle.dom_tree.specs.declared.content.Kind.{Kind}
 use Rattle.dom_tree.specs.declared.content.Kind.TheVariants as kind
 use Rattle.heap_walker.specs.Things.{globals_of, heard_at, needs_of}
-use Rattle.heap_walker.specs.Weight.{Load, argument_load, arguments_load, attributes_load, class_load, code_load, document_load, greatest, has_made_length, kind_load, listeners_load, load, load_of, needs_load, object_load, props_load, set_load, text_load, thing_load, things_load, timers_load, together, units, value_load, value_units, written}
+use Rattle.heap_walker.specs.Weight.{Load, arguments_load, attributes_load, class_load, code_load, document_load, greatest, has_made_length, kind_load, listeners_load, load, load_of, needs_load, object_load, props_load, set_load, text_load, thing_load, things_load, timers_load, together, units, value_load, value_units, written}
 use Rattle.js_values.specs.declared.ids.NodeId.{NodeId}
 use Rattle.js_values.specs.declared.ids.ObjId.{ObjId}
 use Rattle.js_values.specs.declared.value.Value.{Value}

@@ -1,4 +1,4 @@
-use Rattle.std.proofs.Common.{ℕ, List, subst, ◌∙◌}
+use Rattle.std.proofs.Common.{ℕ, List, subst}
 use Rattle.command_line.specs.Reading.{IsUntaken}
 use Rattle.command_line.proofs.Faring.{untaken_is_unmoved}
 use Rattle.command_line.proofs.stress.move_page.Goals as goal

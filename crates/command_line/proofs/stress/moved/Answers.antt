@@ -1,4 +1,4 @@
-use Rattle.std.proofs.Common.{◌≡◌, List, rules}
+use Rattle.std.proofs.Common.{rules}
 use Rattle.command_line.proofs.Faring.{moved_if, unmoved_if}
 use Rattle.command_line.proofs.stress.moved.Goals as goal
 

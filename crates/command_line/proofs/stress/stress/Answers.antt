@@ -1,4 +1,3 @@
-use Rattle.std.proofs.Common.{◌∙◌}
 use Rattle.command_line.proofs.Faring.{stress_gives}
 use Rattle.command_line.proofs.stress.stress.Goals as goal
 
