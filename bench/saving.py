@@ -2,7 +2,7 @@
 """Times what it costs to write a page that rebuilds another one, and how much memory that takes. Each page makes things of a kind, so many that it
 weighs about 1,000, 10,000 and 74,900, where 75,000 is the most that may be saved. For each size it prints the milliseconds of processor time of
 `save`, those that are left over less the ones of `replay` of the page with opened scopes, and the most megabytes; last how often the time left over
-for 10,000 stands in that for 74,900, which stays near 7.5 where the cost is in proportion. Times are the best of five runs.
+for 10,000 stands in that for 74,900, which stays near 7.5 where the cost is in proportion. Times are the best of three runs.
 
 Closures of one long code are more text than a saved page may have: of these the cost is that of finding it out. After it comes the
 same for as many closures of a code that is ten times as long, where the ratio would be near 1 if each code were measured once.
@@ -69,8 +69,8 @@ def best(script, folder, status=0):
         file.write("[]")
     with open(opened, "wb") as file:
         run(("instrument", page), 0, file)
-    saves = [run(("save", page, events), status) for _ in range(5)]
-    loads = [run(("replay", opened, events), 0) for _ in range(5)]
+    saves = [run(("save", page, events), status) for _ in range(3)]
+    loads = [run(("replay", opened, events), 0) for _ in range(3)]
     spent = min(it[0] for it in saves)
     return spent, spent - min(it[0] for it in loads), max(it[1] for it in saves)
 
