@@ -1,0 +1,7 @@
+//! What holds where two pages at rest agree.
+//! Two pages that agree go on alike: laws on the meaning of pages, for whatever compares two of them.
+#![tactic(auto)]
+
+mod laws;
+
+pub use laws::law_agreeing_pages_go_on;
