@@ -1,10 +1,11 @@
 -- No object that a page begins with is a function of the page.
-use Rattle.std.proofs.Common.{◌≡◌, ◌⊎◌, inl, inr, refl, sym, ap, ◌∙◌, ℕ, zero, suc, ◌<◌, ◌≤◌, Bool, true, false, ◌&&◌, List, [], ◌∷◌, Option, length, arith}
+use Rattle.std.proofs.Common.{◌≡◌, ◌⊎◌, inl, inr, refl, sym, ap, ◌∙◌, ℕ, zero, suc, ◌<◌, ◌≤◌, Bool, true, false, true≢false, ◌&&◌, List, [], ◌∷◌, Option, length, arith}
 use Rattle.std.proofs.lemmas.Bool.{and_parts, cases_lt}
 use Rattle.dom_tree.specs.Node.{Nodes, is_document, kind_at}
 use Rattle.heap_walker.specs.Still.{Still}
 use Rattle.js_core.specs.Tree.{Code}
 use Rattle.js_values.specs.declared.ids.EnvId.{EnvId}
+use Rattle.js_values.specs.declared.ids.NodeId.{NodeId}
 use Rattle.object_heap.specs.Chain.{object_at}
 use Rattle.object_heap.specs.Object.{Object}
 use Rattle.object_heap.specs.declared.object.Class.{Class}
@@ -52,7 +53,15 @@ module _ (s : Store) (still : Still s) where
   begun_is_no_function k c env low is = by (cases_lt k built_in_count)
     where
       by : (k < built_in_count) ⊎ (built_in_count ≤ k) → ⊥
-      by (inl h) = cc (sym (built_in_other k h) ∙ ap is_other is)
+      by (inl h) = true≢false (sym (built_in_other k h) ∙ ap is_other is)
       by (inr h) =
           let last : k ≡ document.0 = omega (arith, h, low) in
           cc (sym document_class ∙ ap (λ n. (object_at s.heap.objects n).class) (sym last) ∙ is)
+
+  -- and none is a node's but that of the document
+  pub node_is_past : (k : ℕ) (n : NodeId) → (object_at s.heap.objects k).class ≡ class.Node n → built_in_count ≤ k
+  node_is_past k n is = by (cases_lt k built_in_count)
+    where
+      by : (k < built_in_count) ⊎ (built_in_count ≤ k) → built_in_count ≤ k
+      by (inl h) = absurd (true≢false (sym (built_in_other k h) ∙ ap is_other is))
+      by (inr h) = h

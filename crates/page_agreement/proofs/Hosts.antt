@@ -1,10 +1,10 @@
 -- The hosts of two pages at rest that agree mean the same.
-use Rattle.std.proofs.Common.{◌≡◌, ◌⊎◌, inl, inr, refl, sym, ap, subst, ◌∙◌, ℕ, ◌<◌, ◌≤◌, true, nat_eq, List, length, arith}
+use Rattle.std.proofs.Common.{◌≡◌, ◌⊎◌, inl, inr, refl, sym, ap, subst, ◌∙◌, ℕ, ◌<◌, ◌≤◌, nat_eq, List, length, arith}
 use Rattle.std.proofs.lemmas.Bool.{cases_eq, eq-eqb, eqb-true, ne_eqb}
 use Rattle.agreement.specs.Acts.{clocks_of}
 use Rattle.dom_tree.specs.Node.{node_at}
 use Rattle.heap_relations.proofs.Callers.{each_map}
-use Rattle.heap_relations.specs.Naming.{Named, Pair, World, named}
+use Rattle.heap_relations.specs.Naming.{Named, Pair, World}
 use Rattle.heap_relations.specs.Related.{Each, each, no_more}
 use Rattle.heap_walker.specs.Still.{Still}
 use Rattle.heap_walker.specs.Things.{heard_at}
@@ -27,7 +27,7 @@ use Rattle.page_agreement.proofs.Built.{document_inside}
 use Rattle.page_agreement.proofs.Mapped.{maybe_map}
 use Rattle.page_agreement.proofs.Pairs.{all_pairs, correspond_apart, corresponding, paired}
 use Rattle.page_agreement.proofs.World.{are_nodes, node_paired, pair_world}
-use Rattle.page_agreement.specs.Agree.{Agree, Corresponds, ListenersCorrespond, NodesCorrespond, TimersCorrespond, built_in}
+use Rattle.page_agreement.specs.Agree.{Agree, AreReached, Corresponds, ListenersCorrespond, NodesCorrespond, TimersCorrespond, built_in, firsts, seconds}
 
 abbrev nth_node : ℕ → NodeId
 nth_node n = record { 0 = n }
@@ -72,6 +72,35 @@ module _ (m : List Pair) (s t : Store) (one : Still s) (two : Still t) where
             (subst (λ j. Corresponds m p.one j) (sym (ap (λ at. at.0) y.1)) (corresponding m p.one p.two p.among));
       }
 
+  -- two nodes with one object are one
+  one_node : (s : Store) → Still s → (a c : ℕ) → a < length s.host.nodes → c < length s.host.nodes
+      → (object_of_node s.host.objects (nth_node a)).0 ≡ (object_of_node s.host.objects (nth_node c)).0 → a ≡ c
+  one_node s still a c first second same =
+      same_node a c (sym (still.shaped.host.object_of a first) ∙ ap (λ n. (object_at s.heap.objects n).class) same ∙ still.shaped.host.object_of c second)
+
+  module _ (left : AreReached s (firsts m)) (right : AreReached t (seconds m)) where
+    pub nodes_apart : (a b c d : ℕ) → NodesCorrespond m s t a b → NodesCorrespond m s t c d → nat_eq a c ≡ nat_eq b d
+    nodes_apart a b c d x y = by (cases_eq a c)
+      where
+        ones : ℕ → ℕ
+        ones n = (object_of_node s.host.objects (nth_node n)).0
+
+        twos : ℕ → ℕ
+        twos n = (object_of_node t.host.objects (nth_node n)).0
+
+        places : nat_eq (ones a) (ones c) ≡ nat_eq (twos b) (twos d)
+        places = correspond_apart m s t left right (ones a) (twos b) (ones c) (twos d) x.objects y.objects
+
+        by : (a ≡ c) ⊎ (a ≡ c → ⊥) → nat_eq a c ≡ nat_eq b d
+        by (inl same) =
+            let equal : twos b ≡ twos d = eqb-true (twos b) (twos d) (sym places ∙ eq-eqb (ones a) (ones c) (ap ones same)) in
+            eq-eqb a c same ∙ sym (eq-eqb b d (one_node t two b d x.two y.two equal))
+        by (inr other) =
+            ne_eqb a c other
+            ∙ sym (ne_eqb b d (λ same.
+            let equal : ones a ≡ ones c = eqb-true (ones a) (ones c) (places ∙ eq-eqb (twos b) (twos d) (ap twos same)) in
+            other (one_node s one a c x.one y.one equal)))
+
   module _ (agree : Agree m s t) where
     -- ---- nodes
 
@@ -84,40 +113,6 @@ module _ (m : List Pair) (s t : Store) (one : Still s) (two : Still t) where
     both_there : (a b : ℕ) → Linked W a b → (a < length s.host.nodes) × (b < length t.host.nodes)
     both_there a b l = let h = node_back a b l in (h.one, h.two)
 
-    -- two nodes with one object are one
-    one_node : (s : Store) → Still s → (a c : ℕ) → a < length s.host.nodes → c < length s.host.nodes
-        → (object_of_node s.host.objects (nth_node a)).0 ≡ (object_of_node s.host.objects (nth_node c)).0 → a ≡ c
-    one_node s still a c first second same =
-        same_node a c (sym (still.shaped.host.object_of a first) ∙ ap (λ n. (object_at s.heap.objects n).class) same ∙ still.shaped.host.object_of c second)
-
-    nodes_apart : (a b c d : ℕ) → Linked W a b → Linked W c d → nat_eq a c ≡ nat_eq b d
-    nodes_apart a b c d l k = by (cases_eq a c)
-      where
-        x : NodesCorrespond m s t a b
-        x = node_back a b l
-
-        y : NodesCorrespond m s t c d
-        y = node_back c d k
-
-        ones : ℕ → ℕ
-        ones n = (object_of_node s.host.objects (nth_node n)).0
-
-        twos : ℕ → ℕ
-        twos n = (object_of_node t.host.objects (nth_node n)).0
-
-        places : nat_eq (ones a) (ones c) ≡ nat_eq (twos b) (twos d)
-        places = correspond_apart m s t agree.left agree.right (ones a) (twos b) (ones c) (twos d) x.objects y.objects
-
-        by : (a ≡ c) ⊎ (a ≡ c → ⊥) → nat_eq a c ≡ nat_eq b d
-        by (inl same) =
-            let equal : twos b ≡ twos d = eqb-true (twos b) (twos d) (sym places ∙ eq-eqb (ones a) (ones c) (ap ones same)) in
-            eq-eqb a c same ∙ sym (eq-eqb b d (one_node t two b d x.two y.two equal))
-        by (inr other) =
-            ne_eqb a c other
-            ∙ sym (ne_eqb b d (λ same.
-            let equal : ones a ≡ ones c = eqb-true (ones a) (ones c) (places ∙ eq-eqb (twos b) (twos d) (ap twos same)) in
-            other (one_node s one a c x.one y.one equal)))
-
     pub document_linked : Linked (pair_world s t m) 0 0
     document_linked =
         let left : (object_of_node s.host.objects (nth_node 0)).0 ≡ document.0 = ap (λ at. at.0) one.shaped.host.document in
@@ -129,7 +124,7 @@ module _ (m : List Pair) (s t : Store) (one : Still s) (two : Still t) where
         })
 
     nodes_rel : NodesRel (Linked W) s.host.nodes t.host.nodes
-    nodes_rel = record { at = node_rel; inside = both_there; same = nodes_apart; document = document_linked }
+    nodes_rel = record { at = node_rel; inside = both_there; same = λ a b c d l k. nodes_apart agree.left agree.right a b c d (node_back a b l) (node_back c d k); document = document_linked }
 
     -- ---- listeners
 

@@ -1,8 +1,14 @@
 pub mod Built
+pub mod Classes
+pub mod Compacts
 pub mod GoingOn
 pub mod Hosts
+pub mod Known
 pub mod Mapped
+pub mod Moved
 pub mod Pairs
+pub mod Parents
+pub mod Rebuilt
 pub mod Rounds
 pub mod Stores
 pub mod World

@@ -1,6 +1,6 @@
 -- Pairs of things: their sides, and that they are one to one where no thing is twice on a side.
 use Rattle.std.proofs.Common.{◌≡◌, ◌⊎◌, inl, inr, refl, sym, ap, subst, ◌∙◌, ℕ, ◌<◌, ◌≤◌, true, false, not, nat_eq, nat_lt, List, [], ◌∷◌, ◌++◌, length, arith}
-use Rattle.std.proofs.lemmas.Bool.{and_parts, eq-eqb, ltb-true, ne_eqb, not-true}
+use Rattle.std.proofs.lemmas.Bool.{and_parts, eq-eqb, eqb-true, ltb-true, ne_eqb, not-true, or_cases}
 use Rattle.heap_relations.specs.Naming.{In, Pair, here, pair, there}
 use Rattle.heap_walker.proofs.Callers.{thing_of}
 use Rattle.heap_walker.specs.Things.{is_in}
@@ -8,7 +8,7 @@ use Rattle.page_meaning.specs.Places.{built_in_count}
 use Rattle.page_meaning.specs.Store.{Store}
 use Rattle.rebuild_plan.specs.Moved.{first_thing}
 use Rattle.rebuilding.proofs.Callers.{below_named, head_in, in_either, is_same, member_left, member_right, same_below, tail_in}
-use Rattle.page_agreement.specs.Agree.{AreReached, Corresponds, built_in, firsts, is_once, seconds, thing}
+use Rattle.page_agreement.specs.Agree.{AreReached, Corresponds, built_in, firsts, is_once, pairs, seconds, thing}
 
 -- ---- sides
 
@@ -21,6 +21,43 @@ pub second_in : (m : List Pair) (a b : ℕ) → In (pair a b) m → is_in b (sec
 second_in [] a b i = elim i [ ]
 second_in (p ∷ m) a b here = head_in b (seconds m)
 second_in (p ∷ m) a b (there i) = tail_in b p.two (seconds m) (second_in m a b i)
+
+-- one of each side has its partner
+pub record HasSecond (m : List Pair) (a : ℕ) : Type 0 where
+  pub other : ℕ
+  pub among : In (pair a other) m
+
+pub second_of : (m : List Pair) (a : ℕ) → is_in a (firsts m) ≡ true → HasSecond m a
+second_of [] a h = cc h
+second_of (p ∷ m) a h = by (or_cases (nat_eq a p.one) (is_in a (firsts m)) h) (λ g. second_of m a g)
+  where
+    by : (nat_eq a p.one ≡ true) ⊎ (is_in a (firsts m) ≡ true) → (is_in a (firsts m) ≡ true → HasSecond m a) → HasSecond (p ∷ m) a
+    by (inl e) later = record { other = p.two; among = subst (λ k. In (pair k p.two) (p ∷ m)) (sym (eqb-true a p.one e)) here }
+    by (inr g) later = let f = later g in record { other = f.other; among = there f.among }
+
+pub record HasFirst (m : List Pair) (b : ℕ) : Type 0 where
+  pub other : ℕ
+  pub among : In (pair other b) m
+
+pub first_of : (m : List Pair) (b : ℕ) → is_in b (seconds m) ≡ true → HasFirst m b
+first_of [] b h = cc h
+first_of (p ∷ m) b h = by (or_cases (nat_eq b p.two) (is_in b (seconds m)) h) (λ g. first_of m b g)
+  where
+    by : (nat_eq b p.two ≡ true) ⊎ (is_in b (seconds m) ≡ true) → (is_in b (seconds m) ≡ true → HasFirst m b) → HasFirst (p ∷ m) b
+    by (inl e) later = record { other = p.one; among = subst (λ k. In (pair p.one k) (p ∷ m)) (sym (eqb-true b p.two e)) here }
+    by (inr g) later = let f = later g in record { other = f.other; among = there f.among }
+
+-- the pairs of two lists have these for their sides
+pub firsts_are : (ks js : List ℕ) → length js ≡ length ks → firsts (pairs ks js) ≡ ks
+firsts_are [] js same = refl
+firsts_are (k ∷ ks) [] same = absurd (omega (arith, same))
+firsts_are (k ∷ ks) (j ∷ js) same = ap (λ xs. k ∷ xs) (firsts_are ks js (omega (arith, same)))
+
+pub seconds_are : (ks js : List ℕ) → length js ≡ length ks → seconds (pairs ks js) ≡ js
+seconds_are [] [] same = refl
+seconds_are [] (j ∷ js) same = absurd (omega (arith, same))
+seconds_are (k ∷ ks) [] same = absurd (omega (arith, same))
+seconds_are (k ∷ ks) (j ∷ js) same = ap (λ xs. j ∷ xs) (seconds_are ks js (omega (arith, same)))
 
 -- ---- one to one
 

@@ -1,12 +1,25 @@
 //! What holds where two pages agree.
 
-ghost use Rattle.page_agreement.specs.Laws.{AgreeingPagesGoOn};
+ghost use Rattle.page_agreement.specs.Laws.{AgreeingPagesGoOn, EqualCompactsAgree, RebuiltPagesAgree};
 
 use agreement::law_events_agree;
+use rebuilding::law_saved_again;
 
 /// Two pages at rest that agree put out the same lines under every list of later events.
 pub fn law_agreeing_pages_go_on()
     ensures { AgreeingPagesGoOn }
 {
     law_events_agree();
+}
+
+/// Two pages at rest whose compact pages are equal agree, whatever the order of their things.
+pub fn law_equal_compacts_agree()
+    ensures { EqualCompactsAgree }
+{}
+
+/// The page that a saved page loads as agrees with the one that was saved, if it is at rest.
+pub fn law_rebuilt_pages_agree()
+    ensures { RebuiltPagesAgree }
+{
+    law_saved_again();
 }

@@ -4,4 +4,4 @@
 
 mod laws;
 
-pub use laws::law_agreeing_pages_go_on;
+pub use laws::{law_agreeing_pages_go_on, law_equal_compacts_agree, law_rebuilt_pages_agree};
