@@ -85,11 +85,11 @@ module _ (c : Scene) (s : Store) (things : List ℕ) (h : Contents) (g : Host) (
       let attributes : (node_of g sites b).attributes ≡ (node_of s.host things a).attributes = ap (λ n. n.attributes) e in
       let value : (node_of g sites b).value ≡ (node_of s.host things a).value = ap (λ n. n.value) e in
       let children =
-      nodes_back things sites is.running.rising is.count old young s.host.objects g.objects (children_at s.host.nodes a.0) (children_at g.nodes b.0)
+      nodes_back things sites is.running.place.rising is.count old young s.host.objects g.objects (children_at s.host.nodes a.0) (children_at g.nodes b.0)
       (λ j i. known j (in_right j up (down ++ calls) (in_left j down calls i))) (ap (λ n. n.children) e)
       in
       let listeners =
-      listeners_back things sites is.running.rising is.count old young (heard_at a.0 s.host.listeners) (heard_at b.0 g.listeners)
+      listeners_back things sites is.running.place.rising is.count old young (heard_at a.0 s.host.listeners) (heard_at b.0 g.listeners)
       (λ j i. known j (in_right j up (down ++ calls) (in_right j down calls i))) (ap (λ n. n.listeners) e)
       in
       (λ i. record { attributes = attributes i; value = value i; children = children i; listeners = listeners i })
@@ -101,7 +101,7 @@ module _ (c : Scene) (s : Store) (things : List ℕ) (h : Contents) (g : Host) (
       let bubbles : q.bubbles ≡ p.bubbles = ap (λ x. x.bubbles) e in
       let cancelable : q.cancelable ≡ p.cancelable = ap (λ x. x.cancelable) e in
       let begun : q.begun ≡ p.begun = ap (λ x. x.begun) e in
-      let target = target_back things sites is.running.rising is.count old young p.target q.target known (ap (λ x. x.target) e) in
+      let target = target_back things sites is.running.place.rising is.count old young p.target q.target known (ap (λ x. x.target) e) in
       (λ i. record { kind = kind i; bubbles = bubbles i; cancelable = cancelable i; begun = begun i; target = target i })
 
   -- what is saved of an object of this class as a node and an event
@@ -121,7 +121,7 @@ module _ (c : Scene) (s : Store) (things : List ℕ) (h : Contents) (g : Host) (
 
   proto_moved : (p q : Option ObjId) → q ≡ sited_proto sites (moved_proto things p) → ((j : ℕ) → is_in j (proto_links p) ≡ true → IsKnown things j)
       → moved_proto sites q ≡ moved_proto things p
-  proto_moved p q above known = ap (moved_proto sites) above ∙ proto_back things sites is.running.rising is.count old young p known
+  proto_moved p q above known = ap (moved_proto sites) above ∙ proto_back things sites is.running.place.rising is.count old young p known
 
   -- an error keeps its kind, since its prototype is built in
   kind_same : (p q : Option ObjId) → (o : Object) → HasShape s o class.Fault → p ≡ o.proto
@@ -145,10 +145,10 @@ module _ (c : Scene) (s : Store) (things : List ℕ) (h : Contents) (g : Host) (
   maker_same k p q a b rebuilt.fault above kinds known parts same = ap made.Fault (kinds refl)
   maker_same k p q a b (rebuilt.page {code = source} {env = env} {round = round} r) above kinds known parts same =
       ap (made.Func source)
-      (ap (moved_needs sites) (needs_same c s t things sites is.running.sound.environments k source env round r)
-      ∙ needs_back things sites is.running.rising is.count old young (needs_of s env source) parts)
+      (ap (moved_needs sites) (needs_same c s t things sites is.running.place.sound.environments k source env round r)
+      ∙ needs_back things sites is.running.place.rising is.count old young (needs_of s env source) parts)
   maker_same k p q a b (rebuilt.bound {target = target} {this = this} {args = args}) above kinds known parts same =
-      let back = bound_back things sites is.running.rising is.count old young target this args parts in
+      let back = bound_back things sites is.running.place.rising is.count old young target this args parts in
       let one = back.0 in
       let two = back.1 in
       let three = back.2 in
@@ -180,7 +180,7 @@ module _ (c : Scene) (s : Store) (things : List ℕ) (h : Contents) (g : Host) (
       let event : event_as sites p.class ≡ event_as things o.class = beside.1 in
       let props : moved_props sites p.props ≡ moved_props things o.props =
       ap (moved_props sites) made_as.props
-      ∙ props_back things sites is.running.rising is.count old young o.props (λ j i. linked j (props_among s k j i))
+      ∙ props_back things sites is.running.place.rising is.count old young o.props (λ j i. linked j (props_among s k j i))
       in
       let extensible = made_as.extensible in
       (λ i. record { maker = maker i; node = node i; event = event i; props = props i; extensible = extensible i })
@@ -196,11 +196,11 @@ module _ (c : Scene) (s : Store) (things : List ℕ) (h : Contents) (g : Host) (
       let o : Object = object_at s.heap.objects document.0 in
       let p : Object = object_at h.objects document.0 in
       let left : o.class ≡ class.Node (nth_node 0) = document_class s things still walk in
-      let right : p.class ≡ class.Node (nth_node 0) = is.running.document.class in
+      let right : p.class ≡ class.Node (nth_node 0) = is.running.own.document.class in
       let inherited : o.proto ≡ Some node_prototype = shape_proto s o o.class (nth_node 0) left still.shaped.document in
       let above : moved_proto sites p.proto ≡ moved_proto things o.proto =
       proto_moved o.proto p.proto
-      (is.running.document.proto ∙ sym (proto_built_in s things sites node_prototype.0 walk node_low) ∙ ap (λ q. sited_proto sites (moved_proto things q)) (sym inherited))
+      (is.running.own.document.proto ∙ sym (proto_built_in s things sites node_prototype.0 walk node_low) ∙ ap (λ q. sited_proto sites (moved_proto things q)) (sym inherited))
       (λ j i. document_known j (made_among s document.0 j (in_left j (proto_links o.proto) (class_links s o.class) i)))
       in
       let kinds : kind_as g (class.Node (nth_node 0)) ≡ kind_as s.host (class.Node (nth_node 0)) =
@@ -216,7 +216,7 @@ module _ (c : Scene) (s : Store) (things : List ℕ) (h : Contents) (g : Host) (
       let o : Object = object_at s.heap.objects document.0 in
       let p : Object = object_at h.objects document.0 in
       let left : o.class ≡ class.Node (nth_node 0) = document_class s things still walk in
-      let right : p.class ≡ class.Node (nth_node 0) = is.running.document.class in
+      let right : p.class ≡ class.Node (nth_node 0) = is.running.own.document.class in
       let maker = document_maker in
       let told : node_of g [] (nth_node 0) ≡ sited_node sites (node_of s.host things (nth_node 0)) =
       sym (ap (λ d. node_as g [] d) right) ∙ is.document.host.node ∙ ap (λ d. sited_node sites (node_as s.host things d)) left
@@ -230,7 +230,7 @@ module _ (c : Scene) (s : Store) (things : List ℕ) (h : Contents) (g : Host) (
       let event : event_as sites p.class ≡ event_as things o.class = ap (event_as sites) right ∙ sym (ap (event_as things) left) in
       let props : moved_props sites p.props ≡ moved_props things o.props =
       ap (moved_props sites) is.document.props
-      ∙ props_back things sites is.running.rising is.count old young o.props (λ j i. document_known j (props_among s document.0 j i))
+      ∙ props_back things sites is.running.place.rising is.count old young o.props (λ j i. document_known j (props_among s document.0 j i))
       in
       let extensible = is.document.extensible in
       (λ i. record { maker = maker i; node = node i; event = event i; props = props i; extensible = extensible i })
@@ -240,7 +240,7 @@ module _ (c : Scene) (s : Store) (things : List ℕ) (h : Contents) (g : Host) (
   timers_same : moved_timers sites g.clock g.timers ≡ moved_timers things s.host.clock s.host.timers
   timers_same =
       ap (λ n. moved_timers sites n g.timers) is.hosting.clock ∙ ap (moved_timers sites 0) is.timers
-      ∙ timers_back things sites is.running.rising is.count old young s.host.clock s.host.timers
+      ∙ timers_back things sites is.running.place.rising is.count old young s.host.clock s.host.timers
       (λ j i. roots_in_walk s things still walk j (timers_among s j i))
 
   pub compact_same : (again : List ℕ) → IsWalk (page_with h g) again → compact (page_with h g) again ≡ compact s things
@@ -248,7 +248,7 @@ module _ (c : Scene) (s : Store) (things : List ℕ) (h : Contents) (g : Host) (
       let rebuilt_walk : IsWalk t sites = walked_again c s things h g sites still walk is in
       let globals =
       ap (moved_props sites) (globals_same c s things h g sites still walk is)
-      ∙ props_back things sites is.running.rising is.count old young (globals_of s) (λ j i. roots_in_walk s things still walk j (global_among s j i))
+      ∙ props_back things sites is.running.place.rising is.count old young (globals_of s) (λ j i. roots_in_walk s things still walk j (global_among s j i))
       in
       let each = things_same s t things sites things sites is.count thing_same in
       let document = document_same in

@@ -111,7 +111,7 @@ module _ (c : Scene) (s : Store) (things : List ℕ) (h : Contents) (g : Host) (
   built_in_rel zero low = window_rel c s things h g sites still walk is built_ins_named
   built_in_rel (suc k) low =
       subst (λ o. ObjectRel (named W) o (object_at h.objects (suc k))) (sym (still.shaped.built_ins (suc k) (omega arith) low))
-      (subst (λ p. ObjectRel (named W) (built_in_at (suc k)) p) (sym (is.running.built_ins (suc k) (omega arith) low))
+      (subst (λ p. ObjectRel (named W) (built_in_at (suc k)) p) (sym (is.running.own.objects (suc k) (omega arith) low))
       (built_in_itself built_ins_named (suc k)))
 
   -- the document's object
@@ -120,7 +120,7 @@ module _ (c : Scene) (s : Store) (things : List ℕ) (h : Contents) (g : Host) (
       let o : Object = object_at s.heap.objects document.0 in
       let p : Object = object_at h.objects document.0 in
       let left : o.class ≡ class.Node (nth_node 0) = document_class s things still walk in
-      let right : p.class ≡ class.Node (nth_node 0) = is.running.document.class in
+      let right : p.class ≡ class.Node (nth_node 0) = is.running.own.document.class in
       let kind : ClassRel (named W) (class.Node (nth_node 0)) (class.Node (nth_node 0)) = node (document_linked c s things h g sites still walk is) in
       let above : Maybe (ObjectIds (named W)) (Some node_prototype) (Some node_prototype) =
       some (record { linked = built_ins_named node_prototype.0 (omega (arith, node_low)) })
@@ -131,7 +131,7 @@ module _ (c : Scene) (s : Store) (things : List ℕ) (h : Contents) (g : Host) (
       in
       record {
         class = subst (λ d. ClassRel (named W) d p.class) (sym left) (subst (λ d. ClassRel (named W) (class.Node (nth_node 0)) d) (sym right) kind);
-        proto = subst (λ q. Maybe (ObjectIds (named W)) q p.proto) (sym inherited) (subst (λ q. Maybe (ObjectIds (named W)) (Some node_prototype) q) (sym is.running.document.proto) above);
+        proto = subst (λ q. Maybe (ObjectIds (named W)) q p.proto) (sym inherited) (subst (λ q. Maybe (ObjectIds (named W)) (Some node_prototype) q) (sym is.running.own.document.proto) above);
         extensible = sym is.document.extensible;
         closed = still.shaped.document_open ∙ sym is.document.closed;
         props = subst (λ qs. Entries (PropRel (named W)) o.props qs) (sym is.document.props) (props_rel s h things sites walk is.count o.props held);
@@ -151,7 +151,7 @@ module _ (c : Scene) (s : Store) (things : List ℕ) (h : Contents) (g : Host) (
   inside : (a b : ℕ) → IsPair things sites a b → (a < length s.heap.objects) × (b < length h.objects)
   inside a b (built_in same low) = (
     let all = still.shaped.all_there in omega (arith, all, low),
-    omega (arith, low, same, is.running.list_young, is.running.list_there),
+    omega (arith, low, same, is.running.place.list_young, is.running.place.list_there),
   )
   inside a b (thing p) =
       (omega (arith, p.one, there_at s things walk p.place p.below), omega (arith, p.two, (site_parts c s things h g sites walk is p.place p.below).1))
@@ -208,7 +208,7 @@ module _ (c : Scene) (s : Store) (things : List ℕ) (h : Contents) (g : Host) (
 
   pub stores_rel : StoreRel (rebuilt_world s h things sites) s (page_with h g)
   stores_rel = record {
-    heap = record { objects = objects_rel; slots = slots_rel; left = still.sound; right = is.running.sound };
+    heap = record { objects = objects_rel; slots = slots_rel; left = still.sound; right = is.running.place.sound };
     lines = record { more = []; one = sym (append-nil s.lines); two = refl };
     host = hosts_rel c s things h g sites still walk is;
     built_ins = built_ins_named;

@@ -74,7 +74,7 @@ module _ (c : Scene) (h : Contents) (s : Store) (things sites : List ℕ) (runni
       by : (x ≡ 0) ⊎ (x ≡ 0 → ⊥) → (x < built_in_count) ⊎ (built_in_count ≤ x) → is_callable_class (object_at h.objects x).class ≡ true
       by (inl first) place = nothing class.Window refl (ap (λ k. (object_at s.heap.objects k).class) first ∙ still.shaped.window.class)
       by (inr other) (inl built) =
-          ap (λ (o : Object). is_callable_class o.class) (running.built_ins x (omega (arith, other)) built ∙ sym (still.shaped.built_ins x (omega (arith, other)) built)) ∙ is
+          ap (λ (o : Object). is_callable_class o.class) (running.own.objects x (omega (arith, other)) built ∙ sym (still.shaped.built_ins x (omega (arith, other)) built)) ∙ is
       by (inr other) (inr past) =
           let last : x ≡ document.0 = omega (arith, low, past) in
           nothing (class.Node (nth_node 0)) refl (ap (λ k. (object_at s.heap.objects k).class) last ∙ document_class)
@@ -99,4 +99,4 @@ module _ (c : Scene) (h : Contents) (s : Store) (things sites : List ℕ) (runni
       by : (i.0 ≡ j.0) ⊎ (i.0 ≡ j.0 → ⊥) → x ≡ y
       by (inl e) = sym i.3 ∙ ap (nth things) e ∙ j.3
       by (inr other) =
-          absurd (sites_differ sites i.0 j.0 running.rising (omega (arith, i.2, count)) (omega (arith, j.2, count)) other (sym i.1 ∙ same ∙ j.1))
+          absurd (sites_differ sites i.0 j.0 running.place.rising (omega (arith, i.2, count)) (omega (arith, j.2, count)) other (sym i.1 ∙ same ∙ j.1))

@@ -59,7 +59,7 @@ module _ (c : Scene) (s : Store) (sites : List ℕ) (r : IsRunning c s.heap site
   -- ---- what is built in is what it was
 
   class_stays : (k : ℕ) → 0 < k → k < built_in_count → (object_at s.heap.objects k).class ≡ (built_in_at k).class
-  class_stays k positive low = ap (λ (o : Object). o.class) (r.built_ins k positive low)
+  class_stays k positive low = ap (λ (o : Object). o.class) (r.own.objects k positive low)
 
   pub is_define_property : (object_at s.heap.objects (function_place built_in.ObjectDefineProperty)).class ≡ Native built_in.ObjectDefineProperty
   unfolding function_place built_in_count

@@ -78,7 +78,7 @@ may_change c h sites k r (inl low) open_place = by (cases_eq k 0) (cases_eq k do
     by (inr far) (inl e) = of_document e
     by (inr far) (inr apart) =
         let positive : 0 < k = omega (arith, far) in
-        let closed : (object_at h.objects k).closed ≡ true = ap (λ (o : Object). o.closed) (r.built_ins k positive (omega (arith, low, apart)))
+        let closed : (object_at h.objects k).closed ≡ true = ap (λ (o : Object). o.closed) (r.own.objects k positive (omega (arith, low, apart)))
         ∙ built_in_closed k positive in
         cc (closed, open_place)
 
@@ -126,11 +126,11 @@ module _ (c : Scene) (h : Contents) (sites : List ℕ) (r : IsRunning c h sites)
         inr (inl (
           first,
           window_defined (object_at h.objects (site sites at)) name change
-              (subst (λ k. IsWindow (object_at h.objects k)) (sym first) r.window) other,
+              (subst (λ k. IsWindow (object_at h.objects k)) (sym first) r.own.window) other,
         ))
     defined_who (of_document here) =
         let o = object_at h.objects (site sites at) in
-        let is : IsDocument o = subst (λ k. IsDocument (object_at h.objects k)) (sym here) r.document in
+        let is : IsDocument o = subst (λ k. IsDocument (object_at h.objects k)) (sym here) r.own.document in
         inr (inr (here, document_defined o is name change))
 
     pub defined_at : IsChanged c h sites (site sites at) (define_own h (site sites at) name change)
@@ -142,7 +142,7 @@ module _ (c : Scene) (h : Contents) (sites : List ℕ) (r : IsRunning c h sites)
         let open_place : o.closed ≡ false = (or_parts o.closed
         (is_window o.class && (names_global name && is_some (own_property o.props name))) shut).0 in
         let who = may_change c h sites (site sites at) r (site_place c h sites r at stands) open_place in
-        let result = changed_so (object.define_own o name change).after (sound_define_own h r.sound (site sites at) name change) (defined_who who) in
+        let result = changed_so (object.define_own o name change).after (sound_define_own h r.place.sound (site sites at) name change) (defined_who who) in
         record { thrown = done; running = result.running; changed = result.changed }
 
   -- an event with other parts
@@ -151,7 +151,7 @@ module _ (c : Scene) (h : Contents) (sites : List ℕ) (r : IsRunning c h sites)
       (record { after = with_object h (site sites at) (with_parts (object_at h.objects (site sites at)) f); thrown = None })
       (with_parts (object_at h.objects (site sites at)) f)
   parts_at parts f is =
-      changed_so (with_parts (object_at h.objects (site sites at)) f) (sound_steps h (gives_parts (site sites at) f ∷ []) r.sound) (who (site_place c h sites r at stands))
+      changed_so (with_parts (object_at h.objects (site sites at)) f) (sound_steps h (gives_parts (site sites at) f ∷ []) r.place.sound) (who (site_place c h sites r at stands))
     where
       open_event : (k : ℕ) → 0 < k → k < built_in_count → object_at h.objects k ≡ built_in_at k → (object_at h.objects k).class ≡ class.Event parts → ⊥
       open_event k some low e own = no_event k parts (sym (ap (λ (o : Object). o.class) e) ∙ own)
@@ -162,12 +162,12 @@ module _ (c : Scene) (h : Contents) (sites : List ℕ) (r : IsRunning c h sites)
         where
           by : (site sites at ≡ 0) ⊎ (site sites at ≡ 0 → ⊥) → (site sites at ≡ document.0) ⊎ (site sites at ≡ document.0 → ⊥)
               → MayChange (site sites at) (with_parts (object_at h.objects (site sites at)) f)
-          by (inl e) b = cc (sym (ap (λ k. (object_at h.objects k).class) e ∙ r.window.class) ∙ is)
-          by (inr far) (inl e) = cc (sym (ap (λ k. (object_at h.objects k).class) e ∙ r.document.class) ∙ is)
+          by (inl e) b = cc (sym (ap (λ k. (object_at h.objects k).class) e ∙ r.own.window.class) ∙ is)
+          by (inr far) (inl e) = cc (sym (ap (λ k. (object_at h.objects k).class) e ∙ r.own.document.class) ∙ is)
           by (inr far) (inr apart) =
               let some : 0 < site sites at = omega (arith, far) in
               let below : site sites at < built_in_count = omega (arith, low, apart) in
-              absurd (open_event (site sites at) some below (r.built_ins (site sites at) some below) is)
+              absurd (open_event (site sites at) some below (r.own.objects (site sites at) some below) is)
 
   module _ (done : (prevented (object_at h.objects (site sites at))).thrown ≡ None) where
     prevented_who : is_window (object_at h.objects (site sites at)).class ≡ false → IsFree (site sites at)
@@ -175,11 +175,11 @@ module _ (c : Scene) (h : Contents) (sites : List ℕ) (r : IsRunning c h sites)
     prevented_who ordinary (of_page old) = inl old
     prevented_who ordinary (of_document here) =
         let o = object_at h.objects (site sites at) in
-        let is : IsDocument o = subst (λ k. IsDocument (object_at h.objects k)) (sym here) r.document in
+        let is : IsDocument o = subst (λ k. IsDocument (object_at h.objects k)) (sym here) r.own.document in
         inr (inr (here, document_prevented o is))
     prevented_who ordinary (of_window first) =
         let global : is_window (object_at h.objects (site sites at)).class ≡ true = ap (λ k. is_window (object_at h.objects k).class) first
-        ∙ ap is_window r.window.class in
+        ∙ ap is_window r.own.window.class in
         cc (global, ordinary)
 
     pub prevented_at : IsChanged c h sites (site sites at) (prevent_extensions h (site sites at))
@@ -189,5 +189,5 @@ module _ (c : Scene) (h : Contents) (sites : List ℕ) (r : IsRunning c h sites)
         let o = object_at h.objects (site sites at) in
         let parts = or_parts o.closed (is_window o.class) (thrown_none (o.closed || is_window o.class) o CannotDefine _ done) in
         let who = may_change c h sites (site sites at) r (site_place c h sites r at stands) parts.0 in
-        let result = changed_so (prevented o).after (sound_prevent h r.sound (site sites at)) (prevented_who parts.1 who) in
+        let result = changed_so (prevented o).after (sound_prevent h r.place.sound (site sites at)) (prevented_who parts.1 who) in
         record { thrown = done; running = result.running; changed = result.changed }

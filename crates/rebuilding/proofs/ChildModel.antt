@@ -199,7 +199,7 @@ module _ (c : Scene) (End : Contents → Host → List ℕ → Type 0) (h : Cont
           equal : (n ≡ m) ⊎ (n ≡ m → ⊥) → k.0 ≡ l.0
           equal (inl at) = node_same (sym is ∙ ap (λ i. (object_at s.heap.objects (nth things i)).class) at ∙ same_is)
           equal (inr other) =
-              absurd (sites_differ sites n m running.rising (omega (arith, inside, count)) (omega (arith, within, count)) other (sym x ∙ e ∙ y))
+              absurd (sites_differ sites n m running.place.rising (omega (arith, inside, count)) (omega (arith, within, count)) other (sym x ∙ e ∙ y))
 
   -- ---- each node once
 

@@ -110,7 +110,7 @@ module _ (c : Scene) (h : Contents) (sites : List ℕ) (r : IsRunning c h sites)
 
   pub names_running : IsRunning c (with_environment h b names) sites
   names_running =
-      running_after c h (with_environment h b names) sites r (subst IsSound opened_same (sound_opened h r.sound (Some (env_at b)) names)) names_stay
+      running_after c h (with_environment h b names) sites r (subst IsSound opened_same (sound_opened h r.place.sound (Some (env_at b)) names)) names_stay
 
   pub names_there : length h.environments < length (with_environment h b names).environments
   names_there = omega (arith, length-append h.environments (new_environment (Some (env_at b)) names ∷ []))
@@ -154,7 +154,7 @@ pub record Closes (c : Scene) (s : Store) (sites : List ℕ) (k : Code) (needs :
 
 pub binding_there : (c : Scene) (h : Contents) (sites : List ℕ) (needs : Bound) (b : ℕ) → IsRunning c h sites → IsBinding c h.environments needs b
     → b < length h.environments
-binding_there c h sites needs b r none_needed = r.scope_there
+binding_there c h sites needs b r none_needed = r.place.scope_there
 binding_there c h sites needs b r (needed e there is) = there
 
 binding_on : (c : Scene) (h i : Contents) (needs : Bound) (b : ℕ) → Stays h i [] → IsBinding c h.environments needs b
@@ -223,5 +223,5 @@ module _ (c : Scene) (s : Store) (sites : List ℕ) (r : IsRunning c s.heap site
           is_round = named e (binding_on c h i needs b still binds) (subst (λ m. e < m) (sym (set_count f e x v)) there) is_bound;
         };
         stays = still;
-        running = running_after c h i sites r (sound_set f (function_running c g sites named_page k env).sound e x v) still;
+        running = running_after c h i sites r (sound_set f (function_running c g sites named_page k env).place.sound e x v) still;
       }

@@ -267,7 +267,7 @@ module _ (c : Scene) (End : Contents → Host → List ℕ → Type 0) (s : Stor
       moves : (m : ℕ) → m < length sites → (m ≡ n → ⊥) → object_at i.objects (nth sites m) ≡ object_at h.objects (nth sites m)
       moves m within apart =
           now.stays.objects (nth sites m) (site_there c h sites m so.running within).1
-          (not_in (nth sites m) (nth sites n) (sites_differ sites m n so.running.rising within inside apart))
+          (not_in (nth sites m) (nth sites n) (sites_differ sites m n so.running.place.rising within inside apart))
 
       by : (m : ℕ) → m < length sites → m < n + 1 → (m ≡ n) ⊎ (m ≡ n → ⊥)
           → object_at i.objects (nth sites m) ≡ evented sites (first m) (saved m)

@@ -97,11 +97,11 @@ module _ (c : Scene) (s : Store) (things sites : List ℕ) (h i : Contents) (fir
 
   pub document_stays : object_at i.objects document.0 ≡ object_at h.objects document.0
   document_stays =
-      done.objects document.0 (omega (arith, made.running.list_young, made.running.list_there)) (ap is_event_class made.running.document.class)
+      done.objects document.0 (omega (arith, made.running.place.list_young, made.running.place.list_there)) (ap is_event_class made.running.own.document.class)
 
   pub window_stays : object_at i.objects window.0 ≡ object_at h.objects window.0
   window_stays =
-      done.objects window.0 (omega (arith, made.running.list_young, made.running.list_there)) (ap is_event_class made.running.window.class)
+      done.objects window.0 (omega (arith, made.running.place.list_young, made.running.place.list_there)) (ap is_event_class made.running.own.window.class)
 
   pub nodes_stand_still : NodesStand h sites → NodesStand i sites
   nodes_stand_still nodes = record {

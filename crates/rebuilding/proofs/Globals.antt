@@ -89,14 +89,14 @@ globals_succeed c End s things sites h w rs still running hosting now allowed la
     let o : Object = object_at h.objects window.0 in
     let rest : IsWindow (object_at s.heap.objects window.0) = still.shaped.window in
     let left : globals_of s ≡ rest.others = globals_are (object_at s.heap.objects window.0) rest in
-    let ordinary : is_list o.class ≡ false = ap is_list running.window.class in
+    let ordinary : is_list o.class ≡ false = ap is_list running.own.window.class in
     defines_succeed c End sites h w (moved_props things (globals_of s)) h window o rs
     (going_begins c h w sites (site sites window.0) o running hosting (ap (object_at h.objects) (at_window sites)))
-    running.window.closed running.window.extensible ordinary
+    running.own.window.closed running.own.window.extensible ordinary
     (globals_new (built_in_at window.0).props rest.others (object_at s.heap.objects window.0).props o.props (globals_of s) things left rest.props
     (still.sound.names window.0) now)
     (globals_own rest.others (globals_of s) things (sym (own_names rest.others) ∙ rest.own) left)
-    (none_kept w.nodes o.class (moved_props things (globals_of s)) running.window.class)
+    (none_kept w.nodes o.class (moved_props things (globals_of s)) running.own.window.class)
     allowed
     (λ i now_there more. later i
     (subst (λ k. Going c h i w sites k (and_props o (rebuilt_props sites things (globals_of s)))) (at_window sites) now_there) more)

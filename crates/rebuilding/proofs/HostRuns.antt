@@ -115,7 +115,7 @@ module _ (c : Scene) (s : Store) (sites : List ℕ) (r : IsRunning c s.heap site
       let l = node_here s.heap sites to in
       hosted (Append at to) (in_nodes (inserts k l None)) n of_nodes refl (omega arith)
       (append_runs (inside c) d s n (reference at) (reference to) (sited sites at) (sited sites to) k l (read at can.parent.stands) (read to can.child.stands)
-      (methods.appends s r.sound.prototypes r.built_ins (sited sites at) can.parent.proto can.lacks)
+      (methods.appends s r.place.sound.prototypes r.own.objects (sited sites at) can.parent.proto can.lacks)
       (node_is at can.parent) (node_is to can.child) can.fits)
       (λ i. i)
 
@@ -124,7 +124,7 @@ module _ (c : Scene) (s : Store) (sites : List ℕ) (r : IsRunning c s.heap site
       let k = node_here s.heap sites at in
       hosted (Attribute at x v) (in_nodes (sets_attribute k x v)) n of_nodes refl (omega arith)
       (attribute_runs (inside c) d s n (reference at) (sited sites at) k x v (read at can.is.stands)
-      (methods.sets_attribute s r.sound.prototypes r.built_ins (sited sites at) can.is.proto can.lacks)
+      (methods.sets_attribute s r.place.sound.prototypes r.own.objects (sited sites at) can.is.proto can.lacks)
       (node_is at can.is) can.element can.plain can.named)
       (λ i. i)
 
@@ -133,7 +133,7 @@ module _ (c : Scene) (s : Store) (sites : List ℕ) (r : IsRunning c s.heap site
       let k = node_here s.heap sites at in
       hosted (Listen at x f capture) (listens (listener_of k x (sited sites f) capture)) n of_listeners can.callable (omega arith)
       (listen_runs (inside c) d s n (reference at) (reference f) (sited sites at) (sited sites f) k x capture (read at can.is.stands) (read f can.stands)
-      (methods.adds_listener s r.sound.prototypes r.built_ins (sited sites at) can.is.proto can.lacks)
+      (methods.adds_listener s r.place.sound.prototypes r.own.objects (sited sites at) can.is.proto can.lacks)
       (node_is at can.is) can.callable)
       (λ i. i)
 
@@ -143,7 +143,7 @@ module _ (c : Scene) (s : Store) (sites : List ℕ) (r : IsRunning c s.heap site
   value_seen at can =
       let k = site sites at.0 in
       let o = object_at s.heap.objects k in
-      found_on (see s.host.nodes (codes "value") HasValue) s.heap.objects k r.sound.prototypes
+      found_on (see s.host.nodes (codes "value") HasValue) s.heap.objects k r.place.sound.prototypes
       ∙ ap (λ a. first_found (if has_host_name s.host.nodes a HasValue then Some (seen.hosted a) else option_map seen.held (own_property o.props (codes "value"))) o.proto
       (λ q. found (see s.host.nodes (codes "value") HasValue) s.heap.objects q)) can.is.class
       ∙ ap (λ (b : Bool). first_found (if b then Some (seen.hosted (class.Node (node_here s.heap sites at))) else option_map seen.held (own_property o.props (codes "value"))) o.proto
@@ -174,7 +174,7 @@ module _ (c : Scene) (s : Store) (sites : List ℕ) (r : IsRunning c s.heap site
     left = n;
     steps = omega arith;
     ends = init_runs (inside c) d s n (reference at) (sited sites at) can.parts x bubbles cancelable (read at can.stands)
-        (methods.initialises s r.sound.prototypes r.built_ins (sited sites at) can.proto can.lacks) can.class;
+        (methods.initialises s r.place.sound.prototypes r.own.objects (sited sites at) can.proto can.lacks) can.class;
     has_run = takes.changed;
     running = takes.running;
     hosting = takes.hosting;
@@ -194,7 +194,7 @@ module _ (c : Scene) (s : Store) (sites : List ℕ) (r : IsRunning c s.heap site
         left = n;
         steps = omega arith;
         ends = dispatch_runs (inside c) d s n (reference at) (reference event) (sited sites at) (sited sites event) k can.parts (read at can.is.stands) (read event can.stands)
-            (methods.dispatches s r.sound.prototypes r.built_ins (sited sites at) can.is.proto can.lacks) (node_is at can.is) can.class can.may can.inside event_there can.silent
+            (methods.dispatches s r.place.sound.prototypes r.own.objects (sited sites at) can.is.proto can.lacks) (node_is at can.is) can.class can.may can.inside event_there can.silent
             (subst (λ o. is_node_class s.host.nodes (class_at s o) ≡ true) (sym same) fits)
             ∙ ap (λ (o : ObjId). Ended nothing (with_heap s (with_object s.heap (site sites event.0)
             (with_parts (object_here s.heap sites event) (λ p. after_event rests (after_event (begins o) p))))) n) same;
@@ -213,20 +213,20 @@ module _ (c : Scene) (s : Store) (sites : List ℕ) (r : IsRunning c s.heap site
     filled can =
         hosted Filler (starts 0 None (function_at built_in.Object)) n of_timers can.callable (omega arith)
         (timeout_runs (inside c) d s n (name (codes "Object")) (function_at built_in.Object) 0 timeout
-        (methods.is_set_timeout s r.sound.prototypes r.built_ins) object can.callable can.room)
+        (methods.is_set_timeout s r.place.sound.prototypes r.own.objects) object can.callable can.room)
         (λ i. i)
 
     pub cleared : (id : ℕ) → RunsSo (Clear id)
     cleared id =
         hosted (Clear id) (clears id) n of_clears refl (omega arith)
-        (clear_runs (inside c) d s n id clear (methods.is_clear_timeout s r.sound.prototypes r.built_ins))
+        (clear_runs (inside c) d s n id clear (methods.is_clear_timeout s r.place.sound.prototypes r.own.objects))
         (λ i. i)
 
     pub timeout_begun : (f : ObjId) (rest : ℕ) → Stand sites (f.0 ∷ []) → CanStart s.heap s.host (site sites f.0) rest None → RunsSo (Timeout f rest)
     timeout_begun f rest stands can =
         hosted (Timeout f rest) (starts rest None (sited sites f)) n of_timers can.callable (omega arith)
         (timeout_runs (inside c) d s n (reference f) (sited sites f) rest timeout
-        (methods.is_set_timeout s r.sound.prototypes r.built_ins) (read f stands) can.callable can.room)
+        (methods.is_set_timeout s r.place.sound.prototypes r.own.objects) (read f stands) can.callable can.room)
         (λ i. i)
 
     pub interval_begun : (f : ObjId) (rest period : ℕ) → 1 ≤ period → Stand sites (f.0 ∷ []) → CanStart s.heap s.host (site sites f.0) rest (Some period)
@@ -234,6 +234,6 @@ module _ (c : Scene) (s : Store) (sites : List ℕ) (r : IsRunning c s.heap site
     interval_begun f rest period positive stands can =
         hosted (Interval f rest period) (starts rest (Some period) (sited sites f)) n of_timers can.callable (omega arith)
         (interval_runs (inside c) d s n (reference f) (sited sites f) rest period interval
-        (methods.is_set_interval_from s r.sound.prototypes r.built_ins) (read f stands) can.callable can.room
+        (methods.is_set_interval_from s r.place.sound.prototypes r.own.objects) (read f stands) can.callable can.room
         ∙ ap (λ (m : ℕ). Ended nothing (after_step s (in_host (starts rest (Some m) (sited sites f)))) n) (greater 1 period positive))
         (λ i. i)

@@ -339,7 +339,7 @@ module _ (c : Scene) (s : Store) (things : List ℕ) (h : Contents) (g : Host) (
       by (inr j) later = let f = later j in record { node = f.node; linked = f.linked; there = has_tail f.node k cs f.there }
 
   document_there : (object_at h.objects document.0).class ≡ class.Node (nth_node 0)
-  document_there = is.running.document.class
+  document_there = is.running.own.document.class
 
   record PartnerOf (p : ℕ) : Type 0 where
     node : ℕ

@@ -116,7 +116,7 @@ module _ (c : Scene) (h : Contents) (sites : List ℕ) (r : IsRunning c h sites)
   -- an array has so many elements at most
   pub sites_few : length sites ≤ index_end
   sites_few =
-      let array : IsArray (list_of sites).props = subst (λ (o : Object). IsProper o) r.list (r.sound.arrays c.list) refl in
+      let array : IsArray (list_of sites).props = subst (λ (o : Object). IsProper o) r.place.list (r.place.sound.arrays c.list) refl in
       subst (λ (p : Prop). number_in p.value ≤ index_end)
       (sym (same_Some (list_length (length sites)) array.length array.there)) array.is_length.small
 
@@ -127,24 +127,24 @@ module _ (c : Scene) (h : Contents) (sites : List ℕ) (r : IsRunning c h sites)
       let name : List ℕ = decimal i in
       let own = cond-false (bytes_eq name length_name) _ _ (decimal_not_length i small)
       ∙ element_at 0 i i sites (omega arith) (omega (arith, sites_few)) inside in
-      property_on h.objects c.list name r.sound.prototypes
-      ∙ ap (λ (o : Object). first_found (own_property o.props name) o.proto (λ q. get_property h.objects q name)) r.list
+      property_on h.objects c.list name r.place.sound.prototypes
+      ∙ ap (λ (o : Object). first_found (own_property o.props name) o.proto (λ q. get_property h.objects q name)) r.place.list
       ∙ ap (λ (p : Option Prop). first_found p (Some array_prototype) (λ q. get_property h.objects q name)) own
 
   -- the prototypes have no element
   none_above_arrays : (n : ℕ) → n < index_end → get_property h.objects object_prototype.0 (decimal n) ≡ None
   none_above_arrays n small =
-      property_on h.objects object_prototype.0 (decimal n) r.sound.prototypes
+      property_on h.objects object_prototype.0 (decimal n) r.place.sound.prototypes
       ∙ ap (λ (o : Object). first_found (own_property o.props (decimal n)) o.proto (λ q. get_property h.objects q (decimal n)))
-      (r.built_ins object_prototype.0 (omega arith) object_prototype_built_in ∙ object_prototype_is)
+      (r.own.objects object_prototype.0 (omega arith) object_prototype_built_in ∙ object_prototype_is)
       ∙ ap (λ (p : Option Prop). first_found p None (λ q. get_property h.objects q (decimal n)))
       (no_index_among object_prototype_props n small object_prototype_named)
 
   none_inherited : (n : ℕ) → n < index_end → get_property h.objects array_prototype_place (decimal n) ≡ None
   none_inherited n small =
-      property_on h.objects array_prototype_place (decimal n) r.sound.prototypes
+      property_on h.objects array_prototype_place (decimal n) r.place.sound.prototypes
       ∙ ap (λ (o : Object). first_found (own_property o.props (decimal n)) o.proto (λ q. get_property h.objects q (decimal n)))
-      (r.built_ins array_prototype_place array_prototype_built_in.0 array_prototype_built_in.1 ∙ array_prototype_is)
+      (r.own.objects array_prototype_place array_prototype_built_in.0 array_prototype_built_in.1 ∙ array_prototype_is)
       ∙ ap (λ (p : Option Prop). first_found p (Some object_prototype) (λ q. get_property h.objects q (decimal n)))
       (no_index_among array_prototype_props n small array_prototype_named)
       ∙ none_above_arrays n small
@@ -152,14 +152,14 @@ module _ (c : Scene) (h : Contents) (sites : List ℕ) (r : IsRunning c h sites)
   list_can_put : (n : ℕ) → n ≡ length sites → n < index_end → can_put h.objects c.list (decimal n) ≡ true
   unfolding can_put
   list_can_put n is small =
-      ap (λ (o : Object). may_put o.extensible (own_property o.props (decimal n)) (inherited_by h.objects o.proto (decimal n))) r.list
+      ap (λ (o : Object). may_put o.extensible (own_property o.props (decimal n)) (inherited_by h.objects o.proto (decimal n))) r.place.list
       ∙ ap₂ (may_put true) (list_past sites n is small) (none_inherited n small)
 
   pub thing_put_in : (n k : ℕ) → n ≡ length sites → n < index_end → put h c.list (decimal n) (Reference (at_place k)) ≡ done (with_thing c h sites k)
   unfolding put
   thing_put_in n k is small =
       ap (λ b. at_object h c.list (put_own b (object_at h.objects c.list) (decimal n) (Reference (at_place k)))) (list_can_put n is small)
-      ∙ ap (λ (o : Object). at_object h c.list (put_own true o (decimal n) (Reference (at_place k)))) r.list
+      ∙ ap (λ (o : Object). at_object h c.list (put_own true o (decimal n) (Reference (at_place k)))) r.place.list
       ∙ ap (at_object h c.list) (list_put sites n k is small)
 
   -- ---- the scene goes on
@@ -174,7 +174,7 @@ module _ (c : Scene) (h : Contents) (sites : List ℕ) (r : IsRunning c h sites)
       by (inl early) =
           let one : slice_index (sites ++ k ∷ []) i ≡ slice_index sites i = get_or_append_left sites (k ∷ []) 0 i (omega (arith, early)) in
           let two : slice_index (sites ++ k ∷ []) (i + 1) ≡ slice_index sites (i + 1) = get_or_append_left sites (k ∷ []) 0 (i + 1) early in
-          omega (arith, one, two, r.rising i early)
+          omega (arith, one, two, r.place.rising i early)
       by (inr last) =
           let end : length sites ≡ i + 1 = omega (arith, last, there, long) in
           let one : slice_index (sites ++ k ∷ []) i ≡ slice_index sites i = get_or_append_left sites (k ∷ []) 0 i (omega (arith, end)) in
@@ -187,7 +187,7 @@ module _ (c : Scene) (h : Contents) (sites : List ℕ) (r : IsRunning c h sites)
   sites_on k site =
       let all : list_all (is_site c h) (sites ++ k ∷ []) ≡ true =
       list_all-append (is_site c h) sites (k ∷ [])
-      ∙ and_from (list_all (is_site c h) sites) (list_all (is_site c h) (k ∷ [])) r.stand (and_from (is_site c h k) true site refl)
+      ∙ and_from (list_all (is_site c h) sites) (list_all (is_site c h) (k ∷ [])) r.place.stand (and_from (is_site c h k) true site refl)
       in
       subst (λ n. list_all (λ j. nat_le frame_count j && (nat_lt j n && not (nat_eq j c.list))) (sites ++ k ∷ []) ≡ true)
       (sym (length-set h.objects c.list (list_of (sites ++ k ∷ [])))) all
@@ -198,18 +198,22 @@ module _ (c : Scene) (h : Contents) (sites : List ℕ) (r : IsRunning c h sites)
       let o : Object = list_of (sites ++ k ∷ []) in
       let long : length (slice_set h.objects c.list o) ≡ length h.objects = length-set h.objects c.list o in
       record {
-        sound = subst IsSound (ap (λ (a : Attempt Contents). a.after) (thing_put_in (length sites) k refl few))
-            (sound_put h r.sound c.list (decimal (length sites)) (Reference (at_place k)));
-        built_ins = λ j some low. object_set_other h.objects c.list j o (λ e. omega (arith, e, low, r.list_young)) ∙ r.built_ins j some low;
-        document = subst IsDocument (sym (object_set_other h.objects c.list document.0 o (λ e. omega (arith, e, r.list_young)))) r.document;
-        window = subst IsWindow
-            (sym (object_set_other h.objects c.list window.0 o (λ e. omega (arith, e, window_built_in, r.list_young)))) r.window;
-        list = object_set_same h.objects c.list o r.list_there;
-        list_young = r.list_young;
-        list_there = subst (λ n. c.list < n) (sym long) r.list_there;
-        scope = r.scope;
-        scope_there = r.scope_there;
-        stand = sites_on k site;
-        rising = rising_on k below;
-        few = omega (arith, few, length-append sites (k ∷ []));
+        place = record {
+          sound = subst IsSound (ap (λ (a : Attempt Contents). a.after) (thing_put_in (length sites) k refl few))
+              (sound_put h r.place.sound c.list (decimal (length sites)) (Reference (at_place k)));
+          list = object_set_same h.objects c.list o r.place.list_there;
+          list_young = r.place.list_young;
+          list_there = subst (λ n. c.list < n) (sym long) r.place.list_there;
+          scope = r.place.scope;
+          scope_there = r.place.scope_there;
+          stand = sites_on k site;
+          rising = rising_on k below;
+          few = omega (arith, few, length-append sites (k ∷ []));
+        };
+        own = record {
+          objects = λ j some low. object_set_other h.objects c.list j o (λ e. omega (arith, e, low, r.place.list_young)) ∙ r.own.objects j some low;
+          document = subst IsDocument (sym (object_set_other h.objects c.list document.0 o (λ e. omega (arith, e, r.place.list_young)))) r.own.document;
+          window = subst IsWindow
+              (sym (object_set_other h.objects c.list window.0 o (λ e. omega (arith, e, window_built_in, r.place.list_young)))) r.own.window;
+        };
       }

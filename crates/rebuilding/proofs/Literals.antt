@@ -171,7 +171,7 @@ module _ (c : Scene) (h : Contents) (sites : List ℕ) (r : IsRunning c h sites)
   literal_has : (x : List ℕ) → get_property (with_literal h props).objects (length h.objects) x
       ≡ first_found (own_property props x) (Some object_prototype) (λ q. get_property (with_literal h props).objects q x)
   literal_has x =
-      property_on (with_literal h props).objects (length h.objects) x (literal_running c h sites r props names).sound.prototypes
+      property_on (with_literal h props).objects (length h.objects) x (literal_running c h sites r props names).place.sound.prototypes
       ∙ ap (λ (o : Object). first_found (own_property o.props x) o.proto (λ q. get_property (with_literal h props).objects q x))
       (object_last h.objects (literal_object props))
 
@@ -182,8 +182,8 @@ module _ (c : Scene) (h : Contents) (sites : List ℕ) (r : IsRunning c h sites)
       let t = literal_running c h sites r props names in
       let up : ℕ → Option Prop = λ q. get_property (with_literal h props).objects q x in
       literal_has x ∙ ap (λ (o : Option Prop). first_found o (Some object_prototype) up) own
-      ∙ property_on (with_literal h props).objects object_prototype.0 x t.sound.prototypes
-      ∙ ap (λ (o : Object). first_found (own_property o.props x) o.proto up) (t.built_ins object_prototype.0 prototype_low.0 prototype_low.1)
+      ∙ property_on (with_literal h props).objects object_prototype.0 x t.place.sound.prototypes
+      ∙ ap (λ (o : Object). first_found (own_property o.props x) o.proto up) (t.own.objects object_prototype.0 prototype_low.0 prototype_low.1)
       ∙ ap (λ (o : Option Prop). first_found o None up) none
 
 module _ (c : Scene) (s : Store) (sites : List ℕ) (r : IsRunning c s.heap sites) where
@@ -194,7 +194,7 @@ module _ (c : Scene) (s : Store) (sites : List ℕ) (r : IsRunning c s.heap site
       let g : Contents = with_literal s.heap props in
       let look : Object → Option Seen = see s.host.nodes (codes "value") HasValue in
       let up : ℕ → Option Seen = λ q. found look g.objects q in
-      found_on look g.objects (length s.heap.objects) (literal_running c s.heap sites r props names).sound.prototypes
+      found_on look g.objects (length s.heap.objects) (literal_running c s.heap sites r props names).place.sound.prototypes
       ∙ ap (λ (o : Object). first_found (look o) o.proto up) (object_last s.heap.objects (literal_object props))
       ∙ ap (λ (o : Option Prop). first_found (option_map held o) (Some object_prototype) up) own
 

@@ -222,7 +222,7 @@ module _ (c : Scene) (s : Store) (things : List ℕ) (known : IsSaved s things) 
 
     site_same : (j : ℕ) → j < length sites → object_at i.objects (nth sites j) ≡ object_at h.objects (nth sites j)
     site_same j inside =
-        let rest = (and_parts _ _ (all_at (is_site c h) sites j front.running.stand inside)).1 in
+        let rest = (and_parts _ _ (all_at (is_site c h) sites j front.running.place.stand inside)).1 in
         stays.objects (nth sites j) (ltb-true (nth sites j) (length h.objects) (and_parts _ _ rest).0)
         (not_list (nth sites j) (not-true (nat_eq (nth sites j) c.list) (and_parts _ _ rest).1))
 
@@ -235,8 +235,8 @@ module _ (c : Scene) (s : Store) (things : List ℕ) (known : IsSaved s things) 
 
     window_same : object_at i.objects window.0 ≡ object_at h.objects window.0
     window_same =
-        stays.objects 0 (omega (arith, front.running.list_there))
-        (not_list 0 (far c.list (omega (arith, some_built_in, front.running.list_young))))
+        stays.objects 0 (omega (arith, front.running.place.list_there))
+        (not_list 0 (far c.list (omega (arith, some_built_in, front.running.place.list_young))))
 
     old : (j : ℕ) → j < length sites → Stands (nth after j) j
     old j inside =
@@ -262,8 +262,8 @@ module _ (c : Scene) (s : Store) (things : List ℕ) (known : IsSaved s things) 
 
     document_same : object_at i.objects document.0 ≡ object_at h.objects document.0
     document_same =
-        stays.objects document.0 (omega (arith, front.running.list_there, front.running.list_young))
-        (not_list document.0 (ne_eqb document.0 c.list (λ e. omega (arith, e, front.running.list_young))))
+        stays.objects document.0 (omega (arith, front.running.place.list_there, front.running.place.list_young))
+        (not_list document.0 (ne_eqb document.0 c.list (λ e. omega (arith, e, front.running.place.list_young))))
 
     abbrev maker : Maker
     maker = maker_at s things (nth things (length sites))

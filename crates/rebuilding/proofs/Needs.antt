@@ -105,12 +105,12 @@ module _ (c : Scene) (s : Store) (sites : List ℕ) (r : IsRunning c s.heap site
     running = function_running c s.heap sites r round env
 
     inside_running : IsRunning c j sites
-    inside_running = names_running c g sites running c.env running.scope_there names
+    inside_running = names_running c g sites running c.env running.place.scope_there names
 
     closed : Closes c (with_heap s j) sites k names n ((close_over k (Some (env_at e))).run (with_heap s j) n)
     closed =
         closed_over c (with_heap s j) sites inside_running n e names
-        (needed e (names_there c g sites running c.env running.scope_there names) (names_are c g sites running c.env running.scope_there names)) k
+        (needed e (names_there c g sites running c.env running.place.scope_there names) (names_are c g sites running c.env running.place.scope_there names)) k
 
     made : (eval (calls_at (suc d)) (inside c) (func round)).run s (suc n) ≡ Ended (Val (Reference (at_place place))) (with_heap s g) (suc n)
     made = ap (λ (o : Outcome ObjId). then_on o object_of) (function_run c s.heap sites r round env s (suc n))
@@ -120,7 +120,7 @@ module _ (c : Scene) (s : Store) (sites : List ℕ) (r : IsRunning c s.heap site
         ≡ Ended (Val (Reference (at_place closed.place))) (with_heap s closed.after) n
     entered vs same =
         ap (λ b. then_on (Ended (env_at e) (with_heap s (opened g env b)) n) (go vs)) same
-        ∙ ap (λ (y : Contents). then_on (Ended (env_at e) (with_heap s y) n) (go vs)) (opened_same c g sites running c.env running.scope_there names)
+        ∙ ap (λ (y : Contents). then_on (Ended (env_at e) (with_heap s y) n) (go vs)) (opened_same c g sites running c.env running.place.scope_there names)
         ∙ ap returned closed.ends
       where
         go : List Value → EnvId → Act
@@ -149,7 +149,7 @@ module _ (c : Scene) (s : Store) (sites : List ℕ) (r : IsRunning c s.heap site
           host = s.host;
           has_host = refl;
           hosting = hosting_stays s.heap closed.after s.host (stays_on s.heap g closed.after [] (function_stays c s.heap sites r round env)
-              (stays_on g j closed.after [] (names_stay c g sites running c.env running.scope_there names) closed.stays));
+              (stays_on g j closed.after [] (names_stay c g sites running c.env running.place.scope_there names) closed.stays));
           place = closed.place;
           left = n;
           steps = omega arith;
@@ -161,6 +161,6 @@ module _ (c : Scene) (s : Store) (sites : List ℕ) (r : IsRunning c s.heap site
           there = closed.there;
           object = closed.object;
           stays = stays_on s.heap g closed.after [] (function_stays c s.heap sites r round env)
-              (stays_on g j closed.after [] (names_stay c g sites running c.env running.scope_there names) closed.stays);
+              (stays_on g j closed.after [] (names_stay c g sites running c.env running.place.scope_there names) closed.stays);
           running = closed.running;
         }

@@ -152,7 +152,7 @@ module _ (c : Scene) (s : Store) (sites : List ℕ) (r : IsRunning c s.heap site
     first = is.sound.nodes.document 0
 
     here : IsNodeAt s document (nth_node 0)
-    here = record { class = r.document.class; there = lt-ltb 0 (length s.host.nodes) (first_there s.host.nodes first) }
+    here = record { class = r.own.document.class; there = lt-ltb 0 (length s.host.nodes) (first_there s.host.nodes first) }
 
     abbrev Made : Maker → Type 0
     Made m = Makes c s sites m (suc n) ((eval (calls_at (suc d)) (inside c) (maker_expr m)).run s (suc n))
@@ -161,22 +161,22 @@ module _ (c : Scene) (s : Store) (sites : List ℕ) (r : IsRunning c s.heap site
     element_made x (named, same, lacks) =
         node_makes (Element x) (kind.Element (folded x)) _ (and_from (is_folded_name (folded x)) true (ap is_folded_name same ∙ named) refl)
         (element_runs (inside c) d s n document_expr document (nth_node 0) read here first x
-        (methods.creates_element s r.sound.prototypes r.built_ins document r.document.proto lacks) (and_parts (is_name x) _ named).0)
+        (methods.creates_element s r.place.sound.prototypes r.own.objects document r.own.document.proto lacks) (and_parts (is_name x) _ named).0)
         refl (ap (λ y. with_new_node s.host (kind.Element y) (at_place (length s.heap.objects))) same)
 
     pub text_made : (x : List ℕ) → CanMake s.heap sites (Text x) → Made (Text x)
     text_made x lacks =
         node_makes (Text x) (kind.Text x) _ refl
         (text_runs (inside c) d s n document_expr document (nth_node 0) read here first x
-        (methods.creates_text s r.sound.prototypes r.built_ins document r.document.proto lacks)) refl refl
+        (methods.creates_text s r.place.sound.prototypes r.own.objects document r.own.document.proto lacks)) refl refl
 
     pub comment_made : (x : List ℕ) → CanMake s.heap sites (Comment x) → Made (Comment x)
     comment_made x lacks =
         node_makes (Comment x) (kind.Comment x) _ refl
         (comment_runs (inside c) d s n document_expr document (nth_node 0) read here first x
-        (methods.creates_comment s r.sound.prototypes r.built_ins document r.document.proto lacks)) refl refl
+        (methods.creates_comment s r.place.sound.prototypes r.own.objects document r.own.document.proto lacks)) refl refl
 
     pub event_made : CanMake s.heap sites Event → Made Event
     event_made lacks =
         event_makes _ (event_runs (inside c) d s n document_expr document (nth_node 0) read here first
-        (methods.creates_event s r.sound.prototypes r.built_ins document r.document.proto lacks))
+        (methods.creates_event s r.place.sound.prototypes r.own.objects document r.own.document.proto lacks))

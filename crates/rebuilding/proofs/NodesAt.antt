@@ -88,5 +88,5 @@ module _ (c : Scene) (h : Contents) (g : Host) (sites : List ℕ) (running : IsR
 
   pub document_node : (node_here h sites document ≡ nth_node 0) × IsNodeHere h g sites document
   document_node =
-      here document (object_at h.objects document.0) 0 (document_stands sites) (document_here h sites) running.document.proto running.document.class
+      here document (object_at h.objects document.0) 0 (document_stands sites) (document_here h sites) running.own.document.proto running.own.document.class
       (own.document.0, own.document.1 ∙ sym (ap at_place (site_low sites document.0 (omega arith))))

@@ -21,7 +21,7 @@ module _ (c : Scene) (s : Store) (things : List ℕ) (h : Contents) (g : Host) (
   pub site_parts : (n : ℕ) → n < length things → (frame_count ≤ nth sites n) × (nth sites n < length h.objects)
   site_parts n below =
       let k : ℕ = nth sites n in
-      let all : is_site c h k ≡ true = all_at (is_site c h) sites n is.running.stand (site_below n below) in
+      let all : is_site c h k ≡ true = all_at (is_site c h) sites n is.running.place.stand (site_below n below) in
       let one = and_parts (nat_le frame_count k) (nat_lt k (length h.objects) && not (nat_eq k c.list)) all in
       let two = and_parts (nat_lt k (length h.objects)) (not (nat_eq k c.list)) one.1 in
       (leb-true frame_count k one.0, ltb-true k (length h.objects) two.0)
@@ -39,6 +39,6 @@ module _ (c : Scene) (s : Store) (things : List ℕ) (h : Contents) (g : Host) (
       rising_places things p.place q.place walk.rising p.below q.below
       in
       let right : nat_eq (nth sites p.place) (nth sites q.place) ≡ nat_eq p.place q.place =
-      rising_places sites p.place q.place is.running.rising (site_below p.place p.below) (site_below q.place q.below)
+      rising_places sites p.place q.place is.running.place.rising (site_below p.place p.below) (site_below q.place q.below)
       in
       rw (p.one, p.two, q.one, q.two) (left ∙ sym right)

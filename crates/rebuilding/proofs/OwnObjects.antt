@@ -47,7 +47,7 @@ node_same e = ap node_number e
 pub nodes_apart : (c : Scene) (h : Contents) (g : Host) (sites : List ℕ) (m n a b : ℕ) → IsRunning c h sites → OwnObjects h g sites → m < length sites
     → n < length sites → (m ≡ n → ⊥) → IsNodeOn h (nth sites m) a → IsNodeOn h (nth sites n) b → a ≡ b → ⊥
 nodes_apart c h g sites m n a b running own left right other first second same =
-    sites_differ sites m n running.rising left right other
+    sites_differ sites m n running.place.rising left right other
     (ap (λ o. o.0) (sym (own.things m a left first).1 ∙ ap (λ k. object_of_node g.objects (nth_node k)) same ∙ (own.things n b right second).1))
 
 -- and none is the document
@@ -63,5 +63,5 @@ no_document c h g sites n a running own inside is same =
 pub fresh_owns : (c : Scene) (h : Contents) (g : Host) → IsFresh c h g → OwnObjects h g []
 fresh_owns c h g fresh = record {
   things = λ n k inside on. absurd (omega (arith, inside));
-  document = subst (IsOwned g document.0) fresh.running.document.class fresh.own;
+  document = subst (IsOwned g document.0) fresh.running.own.document.class fresh.own;
 }

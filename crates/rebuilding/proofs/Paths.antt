@@ -97,14 +97,14 @@ module _ (c : Scene) (s : Store) (sites : List ℕ) (r : IsRunning c s.heap site
   -- the name of the list is bound in the environment of the scene
   list_bound : lookup s.heap.environments c.env (codes "$$") ≡ Some (env_at c.env, Reference (at_place c.list))
   list_bound =
-      lookup_on s.heap.environments c.env (codes "$$") r.sound.environments
-      ∙ ap (λ (e : Environment). first_bound c.env (value_of e.names (codes "$$")) e.outer (λ q. lookup s.heap.environments q (codes "$$"))) r.scope
+      lookup_on s.heap.environments c.env (codes "$$") r.place.sound.environments
+      ∙ ap (λ (e : Environment). first_bound c.env (value_of e.names (codes "$$")) e.outer (λ q. lookup s.heap.environments q (codes "$$"))) r.place.scope
 
   -- and no other one
   other_unbound : (x : List ℕ) → bytes_eq x (codes "$$") ≡ false → lookup s.heap.environments c.env x ≡ None
   other_unbound x far =
-      lookup_on s.heap.environments c.env x r.sound.environments
-      ∙ ap (λ (e : Environment). first_bound c.env (value_of e.names x) e.outer (λ q. lookup s.heap.environments q x)) r.scope
+      lookup_on s.heap.environments c.env x r.place.sound.environments
+      ∙ ap (λ (e : Environment). first_bound c.env (value_of e.names x) e.outer (λ q. lookup s.heap.environments q x)) r.place.scope
       ∙ ap (λ b. first_bound c.env (cond b (Some (Reference (at_place c.list))) None) None (λ q. lookup s.heap.environments q x)) far
 
   pub list_read : (n : ℕ) → (read_name (inside c) (codes "$$")).run s n ≡ Ended (Val (Reference (at_place c.list))) s n
@@ -123,18 +123,18 @@ module _ (c : Scene) (s : Store) (sites : List ℕ) (r : IsRunning c s.heap site
   pub built_in_own : (k : ℕ) (x : List ℕ) (p : Prop) → own_property (built_in_at k).props x ≡ Some p
       → own_property (object_at s.heap.objects k).props x ≡ Some p
   built_in_own zero x p h =
-      ap (λ ps. own_property ps x) r.window.props ∙ found_before (bytes_eq x) (built_in_at window.0).props r.window.others p h
+      ap (λ ps. own_property ps x) r.own.window.props ∙ found_before (bytes_eq x) (built_in_at window.0).props r.own.window.others p h
   built_in_own (suc k) x p h = by (cases_lt (suc k) built_in_count)
     where
       by : (suc k < built_in_count) ⊎ (built_in_count ≤ suc k) → own_property (object_at s.heap.objects (suc k)).props x ≡ Some p
-      by (inl low) = ap (λ (o : Object). own_property o.props x) (r.built_ins (suc k) (omega arith) low) ∙ h
+      by (inl low) = ap (λ (o : Object). own_property o.props x) (r.own.objects (suc k) (omega arith) low) ∙ h
       by (inr high) =
           let none = object_absent built_ins (suc k) (omega (arith, high, built_ins_count)) in
           absurd (none-some p (sym (ap (λ (o : Object). own_property o.props x) none) ∙ h))
 
   pub built_in_found : (k : ℕ) (x : List ℕ) (p : Prop) → own_property (built_in_at k).props x ≡ Some p → get_property s.heap.objects k x ≡ Some p
   built_in_found k x p h =
-      property_on s.heap.objects k x r.sound.prototypes
+      property_on s.heap.objects k x r.place.sound.prototypes
       ∙ ap (λ (o : Option Prop). first_found o (object_at s.heap.objects k).proto (λ q. get_property s.heap.objects q x)) (built_in_own k x p h)
 
   module _ (calls : Calls) (n : ℕ) where

@@ -29,7 +29,7 @@ pub record Phase (c : Scene) (g h : Contents) (w : Host) (sites : List ℕ) (own
 
 -- the list is younger than the document
 document_there : (c : Scene) (h : Contents) (sites : List ℕ) → IsRunning c h sites → document.0 < length h.objects
-document_there c h sites running = omega (arith, running.list_young, running.list_there)
+document_there c h sites running = omega (arith, running.place.list_young, running.place.list_there)
 
 -- once the globals are defined
 pub phase_begins : (c : Scene) (g h : Contents) (w : Host) (sites : List ℕ) (o : Object) → IsRunning c g sites → Going c g h w sites window.0 o
@@ -73,7 +73,7 @@ phase_next c g h i w sites own root state next n o phase inside going is kept = 
     by m within (inl same) = ap (λ q. object_at i.objects (nth sites q)) same ∙ going.object ∙ sym is ∙ ap next (sym same)
     by m within (inr other) =
         going.stays.objects (nth sites m) (site_there c h sites m phase.running within).1
-        (not_in (nth sites m) (nth sites n) (sites_differ sites m n phase.running.rising within inside other))
+        (not_in (nth sites m) (nth sites n) (sites_differ sites m n phase.running.place.rising within inside other))
         ∙ phase.things m within ∙ sym (kept m other)
 
 -- the same states in other words

@@ -94,7 +94,7 @@ filler_is = refl
 
 filler_callable : (c : Scene) (h : Contents) (sites : List ℕ) → IsRunning c h sites → is_callable_class (object_at h.objects (function_at ObjectConstructor).0).class ≡ true
 filler_callable c h sites running =
-    ap (λ (o : Object). is_callable_class o.class) (running.built_ins (function_at ObjectConstructor).0 filler_low.0 filler_low.1) ∙ filler_is
+    ap (λ (o : Object). is_callable_class o.class) (running.own.objects (function_at ObjectConstructor).0 filler_low.0 filler_low.1) ∙ filler_is
 
 -- ---- from the things that are made to the page
 
@@ -179,7 +179,7 @@ module _ (c : Scene) (s : Store) (things sites : List ℕ) (h : Contents) (g : H
     root_is = document_stays c s things sites h i g g1 made events
 
     root_class : root.class ≡ class.Node (nth_node 0)
-    root_class = events.running.document.class
+    root_class = events.running.own.document.class
 
     root_closed : root.closed ≡ false
     root_closed = ap (λ (o : Object). o.closed) root_is ∙ made.document_open
@@ -237,7 +237,7 @@ module _ (c : Scene) (s : Store) (things sites : List ℕ) (h : Contents) (g : H
             hosted_again c End s things sites h i g g1 g3 still made stand fam alone W events grown_last n (object_at j.objects (nth sites n)) inside (same n inside);
         parents = parents_again c End s things sites h i g g1 g3 still made stand fam alone W events grown_last j state.hosting same;
         document = record {
-          host = document_again c End s things sites h i g g1 g3 still made stand fam alone W events grown_last (object_at j.objects document.0) state.running.document.class;
+          host = document_again c End s things sites h i g g1 g3 still made stand fam alone W events grown_last (object_at j.objects document.0) state.running.own.document.class;
           extensible = ap (λ (o : Object). o.extensible) state.document;
           closed = ap (λ (o : Object). o.closed) state.document ∙ root_closed;
           props = ap (λ (o : Object). o.props) state.document;

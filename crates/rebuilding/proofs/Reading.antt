@@ -89,7 +89,7 @@ module _ (c : Scene) (s : Store) (sites : List ℕ) (r : IsRunning c s.heap site
   thing_read calls n i there =
       ap (λ (o : Outcome Signal). then_on o (on_value (λ base. also (eval calls (inside c) (number_expr i)) (get_index calls base))))
       (list_read c s sites r n)
-      ∙ plain_read c s sites r calls n (at_place c.list) (decimal i) (index_unhosted i (omega (arith, there, r.few)))
+      ∙ plain_read c s sites r calls n (at_place c.list) (decimal i) (index_unhosted i (omega (arith, there, r.place.few)))
       ∙ ap (λ (o : Option Prop). Ended (Val (unwrap_or (option_map (λ p. p.value) o) Undefined)) s n) (element_found c s.heap sites r i there)
 
   -- an assignment to a number of the list first evaluates its value
@@ -107,7 +107,7 @@ module _ (c : Scene) (s : Store) (sites : List ℕ) (r : IsRunning c s.heap site
   thing_put calls m n k is small =
       let at = at_place c.list in
       let v = Reference (at_place k) in
-      let free : is_ordinary (class_at s at) ≡ true = ap (λ (o : Object). is_ordinary o.class) r.list in
+      let free : is_ordinary (class_at s at) ≡ true = ap (λ (o : Object). is_ordinary o.class) r.place.list in
       ap (λ (o : Option HostName). (put_named calls at (decimal n) v o).run s m) (index_unhosted n small)
       ∙ ap (λ b. (choose b (also (settle (number_of v)) (stored at (decimal n))) (stored at (decimal n) v)).run s m)
       (and_right (is_list (class_at s at)) (bytes_eq (decimal n) length_name) (decimal_not_length n small))

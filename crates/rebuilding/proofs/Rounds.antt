@@ -86,7 +86,7 @@ module _ (c : Scene) (s : Store) (h : Contents) (things sites others : List ℕ)
       ∙ ap (λ o. first_bound d.0 o (environment_at s.heap.environments d.0).outer (λ q. lookup s.heap.environments q y)) own
       in
       let right : lookup h.environments e y ≡ Some (env_at e, Reference (at_place j)) =
-      own_found h.environments running.sound.environments e (Some (env_at b)) y (Reference (at_place j)) at
+      own_found h.environments running.place.sound.environments e (Some (env_at b)) y (Reference (at_place j)) at
       in
       subst (λ z. SealedRel (named W) Sealed (lookup s.heap.environments d.0 z) (lookup h.environments e z)) same
       (rw (left, right) (sealed (object pair)))
@@ -98,7 +98,7 @@ module _ (c : Scene) (s : Store) (h : Contents) (things sites others : List ℕ)
       let was : IsFound (bound_value s env x) (look_in s.heap.environments env x) =
       some_found (look_in s.heap.environments env x) (all_names (has_name s env) (needed_variables source) x rest.bound among)
       in
-      let found = needed_found c s t things sites running.sound.environments j source env round is x among in
+      let found = needed_found c s t things sites running.place.sound.environments j source env round is x among in
       rw (was.is, found.is) (sealed (values x among))
 
   other_absent : (x : List ℕ) → is_own (name_of source) x ≡ false → is_among x (needed_variables source) ≡ false
@@ -110,7 +110,7 @@ module _ (c : Scene) (s : Store) (h : Contents) (things sites others : List ℕ)
       (not-true (has_name s env x) (all_names (λ y. not (has_name s env y)) (other_names source) x rest.alone among))
       in
       let right : look_in h.environments round x ≡ None =
-      round_unbound h.environments running.sound.environments c running.scope (sited_needs sites (moved_needs things (needs_of s env source))) j
+      round_unbound h.environments running.place.sound.environments c running.place.scope (sited_needs sites (moved_needs things (needs_of s env source))) j
       (name_of source) round is x own (other_free source x among) (not_held s things sites env (needed_variables source) x none)
       in
       rw (left, right) unbound

@@ -125,18 +125,22 @@ document_is = refl
 
 pub begun_running : IsSound (pristine frame_nodes).heap → IsRunning scene begun []
 begun_running sound = record {
-  sound = begun_sound sound;
-  built_ins = λ k some low. built_in_kept k low;
-  document = record { class = ap (λ (o : Object). o.class) document_is; proto = ap (λ (o : Object). o.proto) document_is };
-  window = subst (λ o. IsWindow o) (sym (built_in_kept 0 some_built_in)) window_first;
-  list = object_last start (list_of []);
-  list_young = subst (λ n. frame_count ≤ n) (sym all_there) (omega arith);
-  list_there = omega (arith, one_more start (list_of []));
-  scope = refl;
-  scope_there = omega arith;
-  stand = refl;
-  rising = λ k inside. absurd (omega (arith, inside));
-  few = omega arith;
+  place = record {
+    sound = begun_sound sound;
+    list = object_last start (list_of []);
+    list_young = subst (λ n. frame_count ≤ n) (sym all_there) (omega arith);
+    list_there = omega (arith, one_more start (list_of []));
+    scope = refl;
+    scope_there = omega arith;
+    stand = refl;
+    rising = λ k inside. absurd (omega (arith, inside));
+    few = omega arith;
+  };
+  own = record {
+    objects = λ k some low. built_in_kept k low;
+    document = record { class = ap (λ (o : Object). o.class) document_is; proto = ap (λ (o : Object). o.proto) document_is };
+    window = subst (λ o. IsWindow o) (sym (built_in_kept 0 some_built_in)) window_first;
+  };
 }
 
 pub begun_window : (object_at begun.objects window.0).props ≡ (built_in_at window.0).props
@@ -204,7 +208,7 @@ module _ (sound : IsSound (pristine frame_nodes).heap) (d n : ℕ) where
 
   html_seen : seen_at first document (codes "documentElement") DocumentElement ≡ Some (seen.hosted (class.Node (nth_node 0)))
   html_seen =
-      found_on (see frame_nodes (codes "documentElement") DocumentElement) begun.objects document.0 running.sound.prototypes
+      found_on (see frame_nodes (codes "documentElement") DocumentElement) begun.objects document.0 running.place.sound.prototypes
       ∙ ap (λ (o : Object). first_found (see frame_nodes (codes "documentElement") DocumentElement o) o.proto
       (λ q. found (see frame_nodes (codes "documentElement") DocumentElement) begun.objects q)) document_is
 
@@ -220,7 +224,7 @@ module _ (sound : IsSound (pristine frame_nodes).heap) (d n : ℕ) where
   clearing_run =
       remove_runs (inside scene) d first n document_expr (tree.member document_expr (codes "documentElement")) document html (nth_node 0) (nth_node 1)
       document_read html_read
-      (methods.removes first running.sound.prototypes running.built_ins document (ap (λ (o : Object). o.proto) document_is)
+      (methods.removes first running.place.sound.prototypes running.own.objects document (ap (λ (o : Object). o.proto) document_is)
       (ap (λ (o : Object). own_property o.props (codes "removeChild")) document_is))
       (record { class = ap (λ (o : Object). o.class) document_is; there = refl })
       (record { class = ap (λ (o : Object). o.class) html_is; there = refl })

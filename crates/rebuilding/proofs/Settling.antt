@@ -109,20 +109,24 @@ module _ (c : Scene) (h i : Contents) (sites : List ℕ) (q : Quiet h i) where
 
   still_running : IsRunning c h sites → IsSound i → IsRunning c i sites
   still_running r sound =
-      let first : object_at i.objects window.0 ≡ object_at h.objects window.0 = q.same window.0 (same_object _ (ap is_event r.window.class)) in
+      let first : object_at i.objects window.0 ≡ object_at h.objects window.0 = q.same window.0 (same_object _ (ap is_event r.own.window.class)) in
       record {
-        sound = sound;
-        built_ins = λ k some low. kept k (built_in_at k) (r.built_ins k some low) (built_in_quiet k);
-        document = subst IsDocument (sym (q.same document.0 (same_object _ (ap is_event r.document.class)))) r.document;
-        window = subst IsWindow (sym first) r.window;
-        list = kept c.list _ r.list refl;
-        list_young = r.list_young;
-        list_there = subst (λ n. c.list < n) (sym q.long) r.list_there;
-        scope = ap (λ (es : List Environment). environment_at es c.env) q.environments ∙ r.scope;
-        scope_there = subst (λ (es : List Environment). c.env < length es) (sym q.environments) r.scope_there;
-        stand = subst (λ n. list_all (λ k. nat_le frame_count k && (nat_lt k n && not (nat_eq k c.list))) sites ≡ true) (sym q.long) r.stand;
-        rising = r.rising;
-        few = r.few;
+        place = record {
+          sound = sound;
+          list = kept c.list _ r.place.list refl;
+          list_young = r.place.list_young;
+          list_there = subst (λ n. c.list < n) (sym q.long) r.place.list_there;
+          scope = ap (λ (es : List Environment). environment_at es c.env) q.environments ∙ r.place.scope;
+          scope_there = subst (λ (es : List Environment). c.env < length es) (sym q.environments) r.place.scope_there;
+          stand = subst (λ n. list_all (λ k. nat_le frame_count k && (nat_lt k n && not (nat_eq k c.list))) sites ≡ true) (sym q.long) r.place.stand;
+          rising = r.place.rising;
+          few = r.place.few;
+        };
+        own = record {
+          objects = λ k some low. kept k (built_in_at k) (r.own.objects k some low) (built_in_quiet k);
+          document = subst IsDocument (sym (q.same document.0 (same_object _ (ap is_event r.own.document.class)))) r.own.document;
+          window = subst IsWindow (sym first) r.own.window;
+        };
       }
 
   still_hosting : (g : Host) → IsHosting h g → IsHosting i g
@@ -140,7 +144,7 @@ still_rebuilt c s things h i g sites is q sound =
     λ n below. q.same (nth sites n) (rested_event (object_at h.objects (nth sites n)) (is.hosted n below).rested)
     in
     let first : object_at i.objects document.0 ≡ object_at h.objects document.0 =
-    q.same document.0 (same_object _ (ap is_event is.running.document.class))
+    q.same document.0 (same_object _ (ap is_event is.running.own.document.class))
     in
     record {
       running = still_running c h i sites q is.running sound;
@@ -155,6 +159,6 @@ still_rebuilt c s things h i g sites is q sound =
           subst (HostIsRebuilt s things g sites (nth sites n) (object_at s.heap.objects (nth things n))) (sym (same n below)) (is.hosted n below);
       parents = is.parents;
       document = subst (DocumentIsRebuilt s things g sites (object_at s.heap.objects document.0)) (sym first) is.document;
-      globals = ap (λ (o : Object). o.props) (q.same window.0 (same_object _ (ap is_event is.running.window.class))) ∙ is.globals;
+      globals = ap (λ (o : Object). o.props) (q.same window.0 (same_object _ (ap is_event is.running.own.window.class))) ∙ is.globals;
       timers = is.timers;
     }

@@ -12,7 +12,7 @@ pub site_there : (c : Scene) (h : Contents) (sites : List ℕ) (n : ℕ) → IsR
     → (frame_count ≤ nth sites n) × (nth sites n < length h.objects)
 site_there c h sites n running inside =
     let k : ℕ = nth sites n in
-    let is : is_site c h k ≡ true = all_at (is_site c h) sites n running.stand inside in
+    let is : is_site c h k ≡ true = all_at (is_site c h) sites n running.place.stand inside in
     let others : (nat_lt k (length h.objects) && not (nat_eq k c.list))
     ≡ true = (and_parts (nat_le frame_count k) (nat_lt k (length h.objects) && not (nat_eq k c.list)) is).1 in (
       leb-true frame_count k (and_parts (nat_le frame_count k) (nat_lt k (length h.objects) && not (nat_eq k c.list)) is).0,

@@ -134,10 +134,10 @@ module _ (c : Scene) (s : Store) (sites : List ℕ) (r : IsRunning c s.heap site
       let k = makes.place in
       let i = with_thing c makes.after sites k in
       let t = with_both s makes.after makes.host in
-      let other : k ≡ c.list → ⊥ = λ e. omega (arith, e, makes.young, r.list_there) in
-      let young : frame_count ≤ k = omega (arith, makes.young, r.list_there, r.list_young) in
+      let other : k ≡ c.list → ⊥ = λ e. omega (arith, e, makes.young, r.place.list_there) in
+      let young : frame_count ≤ k = omega (arith, makes.young, r.place.list_there, r.place.list_young) in
       let below : all_below k sites ≡ true = all_through (is_site c s.heap) (λ j. nat_lt j k) sites
-      (λ j e. lt-ltb j k (lt_of_lt_of_le (site_stands c s.heap j e).there makes.young)) r.stand
+      (λ j e. lt-ltb j k (lt_of_lt_of_le (site_stands c s.heap j e).there makes.young)) r.place.stand
       in
       record {
         after = i;
@@ -160,8 +160,8 @@ module _ (c : Scene) (s : Store) (sites : List ℕ) (r : IsRunning c s.heap site
           stays = stays_on s.heap makes.after i (c.list ∷ []) makes.stays (stays_changed makes.after c.list (list_of (sites ++ k ∷ [])));
         };
         hosting = hosting_changed makes.after i makes.host c.list (stays_changed makes.after c.list (list_of (sites ++ k ∷ [])))
-            (inl (ap (λ (o : Object). o.class) (object_set_same makes.after.objects c.list (list_of (sites ++ k ∷ [])) makes.running.list_there)
-            ∙ sym (ap (λ (o : Object). o.class) makes.running.list)))
+            (inl (ap (λ (o : Object). o.class) (object_set_same makes.after.objects c.list (list_of (sites ++ k ∷ [])) makes.running.place.list_there)
+            ∙ sym (ap (λ (o : Object). o.class) makes.running.place.list)))
             (makes.hosting hosting);
         running = list_grown c makes.after sites makes.running k (subst (λ l. l < 4294967295) can.next can.index)
             (stands_site c makes.after k (record { young = young; there = makes.there; other = other })) below;

@@ -69,7 +69,7 @@ module _ (c : Scene) (h : Contents) (sites : List ℕ) (r : IsRunning c h sites)
   site_thing k below e =
       let there : k - first_thing < length sites = omega
       (arith, ltb-false k first_thing e, ltb-true k (first_thing + length sites) below) in
-      let passes : is_site c h (slice_index_or sites (k - first_thing) 0) ≡ true = AllPass-from_list_all (is_site c h) sites r.stand
+      let passes : is_site c h (slice_index_or sites (k - first_thing) 0) ≡ true = AllPass-from_list_all (is_site c h) sites r.place.stand
       (k - first_thing) 0 there in
       rw e (site_stands c h (slice_index_or sites (k - first_thing) 0) passes)
 
@@ -82,7 +82,7 @@ module _ (c : Scene) (h : Contents) (sites : List ℕ) (r : IsRunning c h sites)
       by false e = inr (site_thing k below e)
 
   pub begun_there : (k : ℕ) → k < first_thing → k < length h.objects
-  begun_there k low = omega (arith, low, r.list_young, r.list_there)
+  begun_there k low = omega (arith, low, r.place.list_young, r.place.list_there)
 
   pub low_there : (k : ℕ) → k < built_in_count → k < length h.objects
   low_there k low = begun_there k (omega (arith, low))
@@ -92,14 +92,14 @@ module _ (c : Scene) (h : Contents) (sites : List ℕ) (r : IsRunning c h sites)
   place_there k (inr s) = s.there
 
   pub place_other : (k : ℕ) → (k < first_thing) ⊎ Stands c h k → k ≡ c.list → ⊥
-  place_other k (inl low) e = absurd (omega (arith, low, e, r.list_young))
+  place_other k (inl low) e = absurd (omega (arith, low, e, r.place.list_young))
   place_other k (inr s) e = s.other e
 
   pub site_there : (k : ℕ) → nat_lt k (first_thing + length sites) ≡ true → site sites k < length h.objects
   site_there k below = place_there (site sites k) (site_place k below)
 
   pub window_there : window.0 < length h.objects
-  window_there = omega (arith, r.list_there)
+  window_there = omega (arith, r.place.list_there)
 
 -- ---- what stays
 
@@ -143,25 +143,29 @@ pub running_on : (c : Scene) (h i : Contents) (sites but : List ℕ) → IsRunni
     → IsWindow (object_at i.objects window.0) → IsDocument (object_at i.objects document.0)
     → ((k : ℕ) → 0 < k → k < built_in_count → is_in k but ≡ false) → is_in c.list but ≡ false → IsRunning c i sites
 running_on c h i sites but r sound stays rest first low other = record {
-  sound = sound;
-  built_ins = λ k some below. stays.objects k (low_there c h sites r k below) (low k some below) ∙ r.built_ins k some below;
-  document = first;
-  window = rest;
-  list = stays.objects c.list r.list_there other ∙ r.list;
-  list_young = r.list_young;
-  list_there = lt_of_lt_of_le r.list_there stays.more;
-  scope = stays.environments c.env r.scope_there ∙ r.scope;
-  scope_there = lt_of_lt_of_le r.scope_there stays.more_environments;
-  stand = all_through (is_site c h) (is_site c i) sites (site_stays c h i stays.more) r.stand;
-  rising = r.rising;
-  few = r.few;
+  place = record {
+    sound = sound;
+    list = stays.objects c.list r.place.list_there other ∙ r.place.list;
+    list_young = r.place.list_young;
+    list_there = lt_of_lt_of_le r.place.list_there stays.more;
+    scope = stays.environments c.env r.place.scope_there ∙ r.place.scope;
+    scope_there = lt_of_lt_of_le r.place.scope_there stays.more_environments;
+    stand = all_through (is_site c h) (is_site c i) sites (site_stays c h i stays.more) r.place.stand;
+    rising = r.place.rising;
+    few = r.place.few;
+  };
+  own = record {
+    objects = λ k some below. stays.objects k (low_there c h sites r k below) (low k some below) ∙ r.own.objects k some below;
+    document = first;
+    window = rest;
+  };
 }
 
 -- where no old object changes
 pub running_after : (c : Scene) (h i : Contents) (sites : List ℕ) → IsRunning c h sites → IsSound i → Stays h i [] → IsRunning c i sites
 running_after c h i sites r sound stays =
-    running_on c h i sites [] r sound stays (subst IsWindow (sym (stays.objects window.0 (window_there c h sites r) refl)) r.window)
-    (subst IsDocument (sym (stays.objects document.0 (document_there c h sites r) refl)) r.document)
+    running_on c h i sites [] r sound stays (subst IsWindow (sym (stays.objects window.0 (window_there c h sites r) refl)) r.own.window)
+    (subst IsDocument (sym (stays.objects document.0 (document_there c h sites r) refl)) r.own.document)
     (λ k positive below. refl) refl
 
 -- ---- the host
@@ -207,7 +211,7 @@ pub running_made : (c : Scene) (h : Contents) (sites : List ℕ) (o : Object) �
     → ForSome o.proto (λ p. p.0 < length h.objects)
     → ForSome (target_of o.class) (λ t. t.0 < length h.objects) → IsRunning c (with_new_object h o) sites
 running_made c h sites o r fit proto target =
-    running_after c h (with_new_object h o) sites r (sound_pushed h r.sound o fit proto target) (stays_made h o)
+    running_after c h (with_new_object h o) sites r (sound_pushed h r.place.sound o fit proto target) (stays_made h o)
 
 pub made_there : (h : Contents) (o : Object) → length h.objects < length (with_new_object h o).objects
 made_there h o = omega (arith, length-append h.objects (o ∷ []))
@@ -237,10 +241,10 @@ running_changed c h sites k o r sound there other who = by who
         (λ j above below. not_in j k (apart j above below)) (not_in c.list k (λ e. other (sym e)))
 
     window_kept : (window.0 ≡ k → ⊥) → IsWindow (object_at (slice_set h.objects k o) window.0)
-    window_kept apart = subst IsWindow (sym (object_set_other h.objects k window.0 o apart)) r.window
+    window_kept apart = subst IsWindow (sym (object_set_other h.objects k window.0 o apart)) r.own.window
 
     document_kept : (document.0 ≡ k → ⊥) → IsDocument (object_at (slice_set h.objects k o) document.0)
-    document_kept apart = subst IsDocument (sym (object_set_other h.objects k document.0 o apart)) r.document
+    document_kept apart = subst IsDocument (sym (object_set_other h.objects k document.0 o apart)) r.own.document
 
     by : MayChange k o → IsRunning c (with_object h k o) sites
     by (inl young) =

@@ -114,7 +114,7 @@ module _ (c : Scene) (s : Store) (things : List ℕ) (h : Contents) (g : Host) (
     (fresh : (n : ℕ) → n < length sites → IsFresh c h.environments s things sites (nth sites n) (object_at s.heap.objects (nth things n))
     (object_at h.objects (nth sites n))) where
   prototype_same : object_at h.objects function_prototype.0 ≡ built_in_at function_prototype.0
-  prototype_same = running.built_ins function_prototype.0 (omega arith) function_low
+  prototype_same = running.own.objects function_prototype.0 (omega arith) function_low
 
   not_window : (k : ℕ) → is_function (Some (object_at s.heap.objects k).class) ≡ true → 0 < k
   not_window zero is = cc (sym is ∙ ap (λ a. is_function (Some a)) still.shaped.window.class)
@@ -123,7 +123,7 @@ module _ (c : Scene) (s : Store) (things : List ℕ) (h : Contents) (g : Host) (
   built_in_kept : (target : ObjId) → is_function (Some (class_at s target)) ≡ true → target.0 < built_in_count → IsKept s things h g sites target
   built_in_kept target is low =
       let was : object_at s.heap.objects target.0 ≡ built_in_at target.0 = still.shaped.built_ins target.0 (not_window target.0 is) low in
-      let now : object_at h.objects target.0 ≡ built_in_at target.0 = running.built_ins target.0 (not_window target.0 is) low in
+      let now : object_at h.objects target.0 ≡ built_in_at target.0 = running.own.objects target.0 (not_window target.0 is) low in
       let at : site sites (place_of things target.0) ≡ target.0 =
       ap (site sites) (place_built_in s things target.0 walk low) ∙ site_built_in sites target.0 low
       in
@@ -133,9 +133,9 @@ module _ (c : Scene) (s : Store) (things : List ℕ) (h : Contents) (g : Host) (
       record {
         class = subst (λ (o : Object). is_function (Some o.class) ≡ true) (sym there) here;
         bind = subst (λ k. get h.objects k bind_name ≡ Some bind_value) (sym at)
-            (built_in_bind h.objects running.sound.prototypes prototype_same target.0 now here);
+            (built_in_bind h.objects running.place.sound.prototypes prototype_same target.0 now here);
         length = same_length (page_with h g) s
-            (sited sites (moved things target)) target own.0 running.sound.prototypes still.sound.prototypes (ap own_length there ∙ own.1)
+            (sited sites (moved things target)) target own.0 running.place.sound.prototypes still.sound.prototypes (ap own_length there ∙ own.1)
             (ap own_length was ∙ own.1);
       }
 
@@ -163,9 +163,9 @@ module _ (c : Scene) (s : Store) (things : List ℕ) (h : Contents) (g : Host) (
           record {
             class = subst (λ (m : Object). is_function (Some m.class) ≡ true) (sym there) (function_again f.class is);
             bind = subst (λ k. get h.objects k bind_name ≡ Some bind_value) (sym at)
-                (inherited h.objects running.sound.prototypes prototype_same (nth sites i) no_bind.0 proto);
+                (inherited h.objects running.place.sound.prototypes prototype_same (nth sites i) no_bind.0 proto);
             length = same_length (page_with h g) s
-                (sited sites (moved things target)) target own.0 running.sound.prototypes still.sound.prototypes (ap own_length there ∙ own.2) own.1;
+                (sited sites (moved things target)) target own.0 running.place.sound.prototypes still.sound.prototypes (ap own_length there ∙ own.2) own.1;
           }
 
   -- what is built in, or a thing that stands, is kept

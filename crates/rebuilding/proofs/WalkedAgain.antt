@@ -172,7 +172,7 @@ module _ (c : Scene) (s : Store) (things : List ℕ) (h : Contents) (g : Host) (
       let made_as : IsRebuiltAs c h.environments s things sites (nth sites n) o p = is.each n below in
       let above : proto_links p.proto ≡ map to (proto_links o.proto) = ap proto_links made_as.proto ∙ proto_carried things sites o.proto in
       let parts : class_links t p.class ≡ map to (class_links s o.class) =
-      class_carried c s t things sites is.running.sound.environments (nth sites n) o.class p.class made_as.class
+      class_carried c s t things sites is.running.place.sound.environments (nth sites n) o.class p.class made_as.class
       in
       let beside : host_links g p.class ≡ map to (host_links s.host o.class) =
       host_same (nth things n) (nth sites n) (record { named = thing_paired things sites is.count n below })
@@ -192,7 +192,7 @@ module _ (c : Scene) (s : Store) (things : List ℕ) (h : Contents) (g : Host) (
       let n : Named W document.0 document.0 = stores.built_ins document.0 (omega arith) in
       let above : proto_links p.proto ≡ map to (proto_links o.proto) = each_to (proto_links o.proto) (proto_links p.proto) (target_named (heap.proto_read stores.heap n)) in
       let left : class_links s o.class ≡ [] = node_class_links s o.class (document_class s things still walk) in
-      let right : class_links t p.class ≡ [] = node_class_links t p.class is.running.document.class in
+      let right : class_links t p.class ≡ [] = node_class_links t p.class is.running.own.document.class in
       let parts : class_links t p.class ≡ map to (class_links s o.class) = right ∙ sym (ap (map to) left) in
       let held : props_links p.props ≡ map to (props_links o.props) = ap props_links is.document.props ∙ props_carried things sites o.props in
       links_joined (proto_links o.proto) (class_links s o.class) (host_links s.host o.class) (props_links o.props)
@@ -267,4 +267,4 @@ module _ (c : Scene) (s : Store) (things : List ℕ) (h : Contents) (g : Host) (
       subst (λ j. Reach t j) (carried_at things sites n.0 walk.rising inside ∙ n.3) from
 
   pub walked_again : IsWalk (page_with h g) sites
-  walked_again = record { rising = is.running.rising; sound = site_reached; complete = only_sites }
+  walked_again = record { rising = is.running.place.rising; sound = site_reached; complete = only_sites }

@@ -43,7 +43,7 @@ window_rel c s things h g sites still walk is built_ins =
     let p : Object = object_at h.objects places.window.0 in
     let first : Props = (built_in_at places.window.0).props in
     let l = still.shaped.window in
-    let r = is.running.window in
+    let r = is.running.own.window in
     let others : Entries (PropRel (named W)) (globals_of s) (sited_props sites (moved_props things (globals_of s))) =
     props_rel s h things sites walk is.count (globals_of s) (λ j i. roots_in_walk s things still walk j (global_among s j i))
     in

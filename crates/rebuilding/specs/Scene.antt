@@ -81,12 +81,10 @@ pub record IsDocument (o : Object) : Type 0 where
   pub class : o.class ≡ class.Node (nth_node 0)
   pub proto : o.proto ≡ Some node_prototype
 
--- the objects, with the things at these sites
-pub record IsRunning (c : Scene) (h : Contents) (sites : List ℕ) : Type 0 where
+-- the list holds the things at these sites, in the environment of the catch clause. It is all that is asked of a page by statements that read
+-- its own elements alone
+pub record IsPlaced (c : Scene) (h : Contents) (sites : List ℕ) : Type 0 where
   pub sound : IsSound h
-  pub built_ins : (k : ℕ) → 0 < k → k < built_in_count → object_at h.objects k ≡ built_in_at k
-  pub document : IsDocument (object_at h.objects document.0)
-  pub window : IsWindow (object_at h.objects window.0)
   pub list : object_at h.objects c.list ≡ list_of sites
   pub list_young : frame_count ≤ c.list
   pub list_there : c.list < length h.objects
@@ -96,6 +94,16 @@ pub record IsRunning (c : Scene) (h : Contents) (sites : List ℕ) : Type 0 wher
   pub rising : IsStrictlyIncreasing sites
   -- no more than an array has elements
   pub few : length sites ≤ 4294967295
+
+-- what is built in is as it was
+pub record IsBuiltIn (h : Contents) : Type 0 where
+  pub objects : (k : ℕ) → 0 < k → k < built_in_count → object_at h.objects k ≡ built_in_at k
+  pub document : IsDocument (object_at h.objects document.0)
+  pub window : IsWindow (object_at h.objects window.0)
+
+pub record IsRunning (c : Scene) (h : Contents) (sites : List ℕ) : Type 0 where
+  pub place : IsPlaced c h sites
+  pub own : IsBuiltIn h
 
 -- what the host keeps beside: each node has its object
 pub record IsHosting (h : Contents) (g : Host) : Type 0 where
