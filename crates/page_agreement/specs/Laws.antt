@@ -6,6 +6,7 @@ use Rattle.heap_walker.specs.Things.{IsWalk}
 use Rattle.js_values.specs.declared.event.Event.{Event}
 use Rattle.page_meaning.specs.Pages.{load_of, run_all}
 use Rattle.page_meaning.specs.Store.{Store}
+use Rattle.page_writer.specs.FormScripts.{AreWritten}
 use Rattle.page_writer.specs.Script.{saved_in_frame}
 use Rattle.rebuild_plan.specs.Compact.{compact}
 use Rattle.rebuild_plan.specs.Plan.{plan}
@@ -23,9 +24,9 @@ abbrev pub EqualCompactsAgree : Type 0
 EqualCompactsAgree =
     (s t : Store) (ks js : List ℕ) → Still s → Still t → AreReached s ks → AreReached t js → compact s ks ≡ compact t js → Agree (pairs ks js) s t
 
--- a page that was saved and the one that its saved page loads as agree, where that is at rest
+-- the page that a saved page loads as, where the statements of its plan can be written, is at rest, and agrees with the one that was saved
 abbrev pub RebuiltPagesAgree : Type 0
 RebuiltPagesAgree =
-    (s : Store) (things again : List ℕ) → CanBeRebuilt s things
+    (s : Store) (things again : List ℕ) → CanBeRebuilt s things → AreWritten s things
     → let t = load_of (saved_in_frame (plan (compact s things))) in
-    Still t → IsWalk t again → Agree (pairs things again) s t
+    IsWalk t again → Still t × Agree (pairs things again) s t
