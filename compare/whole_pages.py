@@ -67,6 +67,25 @@ function send(n, t, b, c) {
     }
 }
 """
+# Takes all steps of an event: in a listener while an event is under dispatch, or in a timer.
+SPIN = r"""
+function spin() {
+    kept = document.createEvent("Event");
+    kept.initEvent("spin", true, true);
+    document.addEventListener("spin", function (e) {
+        while (true) {
+            e.turns = e.turns + 1;
+        }
+    }, true);
+    document.body.dispatchEvent(kept);
+}
+setTimeout(function () {
+    var n = 0;
+    while (true) {
+        n++;
+    }
+}, 30);
+"""
 
 
 class WholePage(Page):
@@ -77,6 +96,7 @@ class WholePage(Page):
         self.ids = []
         self.fields = []
         self.inner = 0
+        self.spins = self.r.random() < 0.01
 
     def names(self, kind):
         return [name for scope in self.scopes for name in scope.get(kind, [])]
@@ -327,13 +347,15 @@ class WholePage(Page):
         """The text of a page: a body with elements, and one script or more."""
         body = self.markup(2)
         begun = self.script()[len('"use strict";'):] + "".join("\n" + self.guarded() for _ in range(self.r.randrange(4, 16)))
-        scripts = [LOOK + SEND + 'var kept = null;function t() {console.log("t", this === window);}\n' + begun]
+        scripts = [LOOK + SEND + 'var kept = null;function t() {console.log("t", this === window);}\n' + (SPIN if self.spins else "") + begun]
         for _ in range(self.r.choice((0, 0, 1, 2))):
             scripts.append("\n".join(self.statement(2) for _ in range(self.r.randrange(1, 4))))
         return "<html><body>%s</body>%s</html>" % (body, "".join('<script>"use strict";%s</script>' % text for text in scripts))
 
     def event(self):
         pick = self.r.randrange(10)
+        if self.spins and pick > 7:
+            return {"call": "spin"}
         if pick < 3:
             event = {"fire": self.r.choice(TYPES), "at": self.id_text()}
             for mark in ("bubbles", "cancelable"):
