@@ -12,16 +12,15 @@ use Rattle.event_file.specs.Events.{events_of}
 use Rattle.command_line.specs.declared.status.Status.{Status}
 use Rattle.command_line.specs.declared.status.Status.TheVariants as status
 use Rattle.command_line.specs.declared.command.Work.TheVariants.{Replay, Save}
-use Rattle.command_line.specs.Command.{Command, check, instrument, session, park, fetch, parked, drop_row, stress}
+use Rattle.command_line.specs.Command.{Command, check, instrument, session, park, fetch, parked, drop_row, stress, HasParts, command_of}
 use Rattle.command_line.specs.Page.{page_limit, event_file_limit, Page, IsAccepted, IsPage}
 use Rattle.command_line.specs.Parking.{AreUsed, greatest, last_version, listed}
 use Rattle.command_line.specs.Replay.{IsEventFile}
 use Rattle.command_line.specs.Saving.{IsTooLarge, IsMovable}
-use Rattle.command_line.specs.Stages.{Seen, Of, Held, IsNoEventFile, Stage, words, page_file, acceptance, event_file, moving, next_row, one_row, all_rows, made_page, made_events, halfway, Stops, Passes, PassesAll, EndsAt, EndsBy, IsQuiet, CausesExclude, IsReadOrFailed, names_of, work_of, work_behind, stages_of, SomeCause}
-use Rattle.page_maker.specs.Events.{event_list}
-use Rattle.page_maker.specs.Page.{page as page_text}
-use Rattle.command_line.proofs.Faring.{one_weight_halfway, large_or_little_halfway, some_halfway}
+use Rattle.command_line.specs.Stages.{Seen, Of, Held, IsNoEventFile, Stage, words, page_file, acceptance, event_file, moving, next_row, one_row, all_rows, halfway, Stops, Passes, PassesAll, EndsAt, EndsBy, IsQuiet, CausesExclude, IsReadOrFailed, names_of, work_of, work_behind, stages_of, SomeCause}
+use Rattle.command_line.proofs.Faring.{IsMadeOnce, MadePages, one_weight_halfway, large_or_little_halfway, some_halfway}
 use Rattle.command_line.proofs.Moves.{OneAcceptance}
+use Rattle.command_line.proofs.PartCounts.{few_commanded}
 use Rattle.command_line.proofs.Numbers.{at_most_or_more}
 use Rattle.command_line.proofs.Outcomes.{one_weight, large_or_little, some_outcome}
 use Rattle.command_line.proofs.Stopping.{of_both, of_nested, StopsAs, stops_as, writes_well}
@@ -72,12 +71,6 @@ module _ (seen : Seen) (quiet : IsQuiet seen) (one_page : OneAcceptance) (one_ca
   one_stop (next_row name) s t h k = h.0 ∙ sym k.0
   one_stop (one_row name version) s t h k = h.0 ∙ sym k.0
   one_stop all_rows s t h k = absurd h
-  one_stop (made_page n) s t h k =
-      h.1 ∙ ap (λ (r : Refusal). status.PageRefused (Some r)) (one_cause (page_text n) h.0 k.0 h.2 k.2) ∙ sym k.1
-  one_stop (made_events n) s t h k =
-      let same : Err h.0 ≡ Err k.0 = sym h.2 ∙ k.2 in
-      let number : h.0 ≡ k.0 = cc same in
-      h.1 ∙ ap status.EventsRefused number ∙ sym k.1
   one_stop (halfway n) s t h k = h.1 ∙ ap status.TooLarge (one_weight_halfway n one_page h.0 k.0 h.2 k.2) ∙ sym k.1
 
   file_or_none : (file : List ℕ) (i : ℕ) → IsNoEventFile file i → ((events : List Event) × IsEventFile file events) → ⊥
@@ -110,8 +103,6 @@ module _ (seen : Seen) (quiet : IsQuiet seen) (one_page : OneAcceptance) (one_ca
       of_rows (λ t. get t (name, version) ≡ None) (λ t. (bytes : List ℕ) × (get t (name, version) ≡ Some bytes)) k.1 p
       (λ t x y. let same : None ≡ Some y.0 = sym x ∙ y.1 in cc)
   stop_or_pass all_rows s h k p = absurd k
-  stop_or_pass (made_page n) s h k p = not_both (page_text n) p.0 k.0 p.1 k.2
-  stop_or_pass (made_events n) s h k p = let same : Err k.0 ≡ Ok p.0 = sym k.2 ∙ p.1 in cc
   stop_or_pass (halfway n) s h k p = large_or_little_halfway n one_page k.0 k.2 p
 
   one_end : (gs : List Stage) (s t : Status) → ¬ (s ≡ status.OutOfMemory) → ¬ (t ≡ status.OutOfMemory) → EndsAt gs s seen → EndsAt gs t seen → s ≡ t
@@ -148,7 +139,7 @@ NoneNeither =
 of_held : (told : Told) (bytes : List ℕ) (P : List ℕ → Type 0) → told ≡ Some (Some bytes) → P bytes → Of told P
 of_held told bytes P e h = let Q : Told → Type 0 = λ (t : Told). Of t P in subst Q (sym e) h
 
-module _ (seen : Seen) (none_neither : NoneNeither) where
+module _ (seen : Seen) (none_neither : NoneNeither) (made : MadePages) where
   -- no status ends the command at these stages
   abbrev No : List Stage → Type 0
   No gs = (s : Status) → ¬ (s ≡ status.OutOfMemory) → ¬ EndsBy gs s seen
@@ -227,23 +218,8 @@ module _ (seen : Seen) (none_neither : NoneNeither) where
       by_case None e = never status.NoSession (λ e. cc) (inl (inl (of_table t (λ u. get u (name, version) ≡ None) is e)))
       by_case (Some bytes) e = k (next (one_row name version) gs never (of_table t (λ u. (bytes : List ℕ) × (get u (name, version) ≡ Some bytes)) is (bytes, e)))
 
-  behind_made_page : (n : ℕ) (gs : List Stage) → No (made_page n ∷ gs)
-      → ((page : Page) → IsAccepted (page_text n) page → No gs → ⊥) → ⊥
-  behind_made_page n gs never k = none_neither (page_text n)
-      (λ page a. k page a (next (made_page n) gs never (page, a)))
-      (λ cause h. never (status.PageRefused (Some cause)) (λ e. cc) (inl (inl h)))
-
-  behind_made_events : (n : ℕ) (gs : List Stage) → No (made_events n ∷ gs)
-      → ((events : List Event) → events_of (event_list n) ≡ Ok events → No gs → ⊥) → ⊥
-  behind_made_events n gs never k = by_events (events_of (event_list n)) refl
-    where
-      by_events : (found : Result (List Event) ℕ) → events_of (event_list n) ≡ found → ⊥
-      by_events (Ok es) e = k es e (next (made_events n) gs never (es, e))
-      by_events (Err i) e = never (status.EventsRefused i) (λ e. cc) (inl (inl e))
-
-  behind_halfway : (n : ℕ) (gs : List Stage) (page : Page) (events : List Event) → IsAccepted (page_text n) page → events_of (event_list n) ≡ Ok events
-      → No (halfway n ∷ gs) → (No gs → ⊥) → ⊥
-  behind_halfway n gs page events a e never k = some_halfway n page events (record { accepted = a; holds = e })
+  behind_halfway : (n : ℕ) (gs : List Stage) → IsMadeOnce n → No (halfway n ∷ gs) → (No gs → ⊥) → ⊥
+  behind_halfway n gs made never k = some_halfway n made.0 made.1 made.2
       (λ w large. never (status.TooLarge w) (λ e. cc) (inl (inl large)))
       (λ movable. k (next (halfway n) gs never movable))
 
@@ -260,37 +236,34 @@ module _ (seen : Seen) (none_neither : NoneNeither) where
       behind_event_file n gs (reads 1 [] (omega arith)) no2 λ file events holds of_file no3.
       k bytes file page events held holds (record { fits = fits; accepted = a }) of_file no3
 
-  some_end : (command : Option Command) (t : Table) → All (IsReadOrFailed seen) (names_of command) → IsTable t → No (words command ∷ work_behind command) → ⊥
-  some_end None t reads is never = never status.Usage (λ e. cc) (inl (inl tt))
-  some_end (Some (check p)) t reads is never =
+  some_end : (command : Option Command) (t : Table) → IfSome command HasParts → All (IsReadOrFailed seen) (names_of command) → IsTable t → No (words command ∷ work_behind command) → ⊥
+  some_end None t parts reads is never = never status.Usage (λ e. cc) (inl (inl tt))
+  some_end (Some (check p)) t parts reads is never =
       behind_page_file p (acceptance p ∷ []) (reads 0 [] (omega arith)) (behind_words (check p) never) λ bytes held fits no1.
       behind_acceptance p bytes [] held no1 λ page a no2.
       at_writing no2
-  some_end (Some (instrument p)) t reads is never =
+  some_end (Some (instrument p)) t parts reads is never =
       behind_page_file p (acceptance p ∷ []) (reads 0 [] (omega arith)) (behind_words (instrument p) never) λ bytes held fits no1.
       behind_acceptance p bytes [] held no1 λ page a no2.
       at_writing no2
-  some_end (Some (session Replay p n)) t reads is never =
+  some_end (Some (session Replay p n)) t parts reads is never =
       behind_reading p n [] reads (behind_words (session Replay p n) never) λ bytes file page events held holds of_page of_file no1.
       at_writing no1
-  some_end (Some (session Save p n)) t reads is never =
+  some_end (Some (session Save p n)) t parts reads is never =
       behind_reading p n (moving p n ∷ []) reads (behind_words (session Save p n) never) λ bytes file page events held holds of_page of_file no1.
       behind_moving p n bytes file [] page events held holds of_page of_file no1 at_writing
-  some_end (Some (park p n name)) t reads is never =
+  some_end (Some (park p n name)) t parts reads is never =
       behind_reading p n (moving p n ∷ next_row name ∷ []) reads (behind_words (park p n name) never) λ bytes file page events held holds of_page of_file no1.
       behind_moving p n bytes file (next_row name ∷ []) page events held holds of_page of_file no1 λ no2.
       behind_next_row name [] t is no2 at_writing
-  some_end (Some (fetch name version)) t reads is never = behind_one_row name version [] t is (behind_words (fetch name version) never) at_writing
-  some_end (Some parked) t reads is never = at_writing (next all_rows [] (behind_words parked never) tt)
-  some_end (Some (drop_row name version)) t reads is never = behind_one_row name version [] t is (behind_words (drop_row name version) never) at_writing
-  some_end (Some (stress n)) t reads is never =
-      behind_made_page n (made_events n ∷ halfway n ∷ []) (behind_words (stress n) never) λ page a no1.
-      behind_made_events n (halfway n ∷ []) no1 λ events e no2.
-      behind_halfway n [] page events a e no2 at_writing
+  some_end (Some (fetch name version)) t parts reads is never = behind_one_row name version [] t is (behind_words (fetch name version) never) at_writing
+  some_end (Some parked) t parts reads is never = at_writing (next all_rows [] (behind_words parked never) tt)
+  some_end (Some (drop_row name version)) t parts reads is never = behind_one_row name version [] t is (behind_words (drop_row name version) never) at_writing
+  some_end (Some (stress n)) t parts reads is never = behind_halfway n [] (made n parts) (behind_words (stress n) never) at_writing
 
-pub some_cause : NoneNeither → SomeCause
-some_cause none_neither command seen reads rows never = by_table seen.keeper_before.table refl
+pub some_cause : NoneNeither → MadePages → SomeCause
+some_cause none_neither made asked seen reads rows never = by_table seen.keeper_before.table refl
   where
     by_table : (o : Option Table) → seen.keeper_before.table ≡ o → ⊥
     by_table None e = rows e
-    by_table (Some t) e = some_end seen none_neither command t reads e never
+    by_table (Some t) e = some_end seen none_neither made (command_of asked) t (few_commanded asked) reads e never

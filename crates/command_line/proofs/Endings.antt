@@ -15,7 +15,7 @@ use Rattle.command_line.specs.Opening.{OpensTo}
 use Rattle.command_line.specs.Page.{page_limit, Page, IsAccepted, IsPage, opened}
 use Rattle.command_line.specs.Reading.{AreRead, StopsAtPage, StopsAtEvents}
 use Rattle.command_line.specs.Replay.{IsEventFile}
-use Rattle.command_line.specs.Stages.{Seen, Of, Held, ReadFailed, Stage, page_file, acceptance, event_file, moving, next_row, one_row, all_rows, made_page, made_events, halfway, PassesAll, EndsAt, EndsBy, Lasts, reading, work_of, words, Ends}
+use Rattle.command_line.specs.Stages.{Seen, Of, Held, ReadFailed, Stage, page_file, acceptance, event_file, moving, next_row, one_row, all_rows, halfway, PassesAll, EndsAt, EndsBy, Lasts, reading, work_of, words, Ends}
 use Rattle.command_line.specs.Texts.{Answers, Gives, KeepsRows, PutsNothing, PutsText, Puts, Rows, RowsAfter, TextOf}
 use Rattle.command_line.proofs.Moves.{SavingLaws}
 use Rattle.command_line.proofs.Works.{told_begins, told_large, told_movable, told_saves}
@@ -239,8 +239,6 @@ no_usage_in (moving p e ∷ gs) seen a (inr h) = no_usage_in gs seen a h.1
 no_usage_in (next_row name ∷ gs) seen a (inr h) = no_usage_in gs seen a h.1
 no_usage_in (one_row name version ∷ gs) seen a (inr h) = no_usage_in gs seen a h.1
 no_usage_in (all_rows ∷ gs) seen a (inr h) = no_usage_in gs seen a h.1
-no_usage_in (made_page n ∷ gs) seen a (inr h) = no_usage_in gs seen a h.1
-no_usage_in (made_events n ∷ gs) seen a (inr h) = no_usage_in gs seen a h.1
 no_usage_in (halfway n ∷ gs) seen a (inr h) = no_usage_in gs seen a h.1
 no_usage_in (g ∷ gs) seen a (inl h) = absurd h
 

@@ -1,6 +1,9 @@
 -- How generated pages fare: the causes of each end, and the line.
-use Rattle.std.proofs.Common.{◌≡◌, ℕ, List, [], drop, length, Some, None, Result, Ok as Good, Err, IfOk, IfErr, Vec, Global, refl, sym, ap, subst, ◌∙◌, inl, inr}
+use Rattle.std.proofs.Common.{◌≡◌, ℕ, ◌<◌, List, [], drop, length, Some, None, Result, Ok as Good, Err, IfOk, IfErr, Vec, Global, refl, sym, ap, subst, ◌∙◌, inl, arith}
 use Rattle.dom_tree.specs.Sound.{IsSound}
+use Rattle.event_file.specs.Events.{events_of}
+use Rattle.generated_pages.specs.Lists.{ListsAreRead, made_events}
+use Rattle.generated_pages.specs.Pages.{PagesAreAccepted, plain_page}
 use Rattle.heap_walker.specs.Things.{IsWalk}
 use Rattle.heap_walker.specs.Weight.{load_of, told}
 use Rattle.heap_walker.specs.declared.weight.Weight.{Weight}
@@ -10,17 +13,18 @@ use Rattle.js_values.specs.declared.line.Line.{Line}
 use Rattle.opened_pages.specs.Opened.{HaveNumbers}
 use Rattle.page_check.specs.Accept.{IsRefused}
 use Rattle.page_check.specs.declared.page.Refusal.{Refusal}
+use Rattle.page_maker.specs.Events.{event_list}
 use Rattle.page_maker.specs.Page.{page as page_text}
 use Rattle.page_meaning.specs.Pages.{lines_after, lines_of_run, run_of}
 use Rattle.page_meaning.specs.Store.{Store}
 use Rattle.page_writer.specs.Page.{saved_page}
-use Rattle.command_line.specs.Command.{stress}
+use Rattle.command_line.specs.Command.{IsPartCount, stress}
 use Rattle.command_line.specs.Faring.{IsMovedBy, IsUnmoved, IsWhole}
 use Rattle.command_line.specs.Moving.{IsOverweight, IsSaved}
 use Rattle.command_line.specs.Page.{Page, IsAccepted, opened, running}
 use Rattle.command_line.specs.Reading.{IsUntaken}
 use Rattle.command_line.specs.Saving.{GoesOn, IsTooMuch, MovesTo}
-use Rattle.command_line.specs.Stages.{Seen, seen_between, unasked, unread, unwritten, EndsAt, StopsAtMadeEvents, work_of}
+use Rattle.command_line.specs.Stages.{Seen, seen_between, unasked, unread, unwritten, StopsHalfway}
 use Rattle.command_line.specs.Stress.{earlier, last_line, later, stress_line, IsHalfway, IsMade, IsMoved, IsMovableHalfway, IsTooLargeHalfway}
 use Rattle.command_line.specs.Texts.{Gives}
 use Rattle.command_line.specs.declared.status.Status.{Status}
@@ -45,18 +49,46 @@ untaken_is_unmoved page before text OutOfMemory numbered saved h = tt
 untaken_is_unmoved page before text (PageRefused None) numbered saved h = absurd h
 untaken_is_unmoved page before text status numbered saved h = absurd h
 
+-- ---- the page and its events
+
+abbrev pub IsMadeOnce : ℕ → Type 0
+IsMadeOnce n = (page : Page) × (events : List Event) × IsMade n page events
+
+-- each number of parts has a generated page that is accepted, and a list of events that is read
+abbrev pub MadePages : Type 0
+MadePages = (n : ℕ) → IsPartCount n → IsMadeOnce n
+
+pub made_pages : PagesAreAccepted → ListsAreRead → MadePages
+made_pages pages lists n parts =
+    let page = pages n (omega (arith, parts.1)) in
+    let events = lists n parts.0 (omega (arith, parts.1)) in
+    (plain_page page.0, made_events n, record { accepted = page.1; holds = events.0 })
+
+abbrev pub NotBoth : Type 0
+NotBoth = (bytes : List ℕ) (page : Page) (cause : Refusal) → IsAccepted bytes page → IsRefused bytes cause → ⊥
+
+-- so such a page is not taken where memory ran out alone
+pub untaken_is_memory : NotBoth → (bytes : List ℕ) (page : Page) (status : Status) → IsAccepted bytes page → IsUntaken bytes status → status ≡ OutOfMemory
+untaken_is_memory not_both bytes page (PageRefused (Some r)) a h = absurd (not_both bytes page r a h)
+untaken_is_memory not_both bytes page OutOfMemory a h = refl
+untaken_is_memory not_both bytes page (PageRefused None) a h = absurd h
+untaken_is_memory not_both bytes page status a h = absurd h
+
+pub made_or_memory : {T : Type 0} → NotBoth → PagesAreAccepted → (n : ℕ) → n < 4294967296 → (r : Result T Status) → IfErr r (IsUntaken (page_text n))
+    → IfErr r (λ status. status ≡ OutOfMemory)
+made_or_memory not_both pages n few (Good made) h = tt
+made_or_memory not_both pages n few (Err status) h =
+    let page = pages n (omega (arith, few)) in
+    untaken_is_memory not_both (page_text n) (plain_page page.0) status page.1 h
+
+-- and its list is not refused
+pub list_not_refused : ListsAreRead → (n i : ℕ) → IsPartCount n → ¬ (events_of (event_list n) ≡ Err i)
+list_not_refused lists n i parts refused =
+    let events = lists n parts.0 (omega (arith, parts.1)) in
+    let same : Good (made_events n) ≡ Err i = sym events.0 ∙ refused in
+    cc same
+
 module _ (n : ℕ) where
-  -- ---- the page and its events
-
-  pub page_not_made : (status : Status) → IsUntaken (page_text n) status → EndsAt (work_of (stress n)) status alone
-  page_not_made (PageRefused (Some r)) h = inl h
-  page_not_made OutOfMemory h = inl tt
-  page_not_made (PageRefused None) h = absurd h
-  page_not_made status h = absurd h
-
-  pub events_not_made : (page : Page) (status : Status) → IsAccepted (page_text n) page → StopsAtMadeEvents n status → EndsAt (work_of (stress n)) status alone
-  events_not_made page status a h = inr ((page, a), inl h)
-
   -- ---- the move
 
   is_halfway : (page : Page) (events : List Event) (things : List ℕ) → IsMade n page events → IsWalk (run_of (opened page) (earlier events)) things
@@ -107,17 +139,15 @@ module _ (n : ℕ) where
           size = m.size;
         }
 
-    pub unmoved_ends : ((bytes : List ℕ) (page : Page) (cause : Refusal) → IsAccepted bytes page → IsRefused bytes cause → ⊥) → (status : Status)
-        → IsUnmoved page (earlier events) status → EndsAt (work_of (stress n)) status alone
-    unmoved_ends not_both (TooLarge w) h =
-        inr ((page, made.accepted), inr ((events, made.holds), inl (too_large page events w h.0 made h.1)))
-    unmoved_ends not_both (PageRefused (Some r)) h =
+    pub unmoved_stops : NotBoth → (status : Status) → IsUnmoved page (earlier events) status → StopsHalfway n status
+    unmoved_stops not_both (TooLarge w) h = too_large page events w h.0 made h.1
+    unmoved_stops not_both (PageRefused (Some r)) h =
         let moves : MovesTo (page_text n) (earlier events) (saved_page (run_of (opened page) (earlier events)) h.things) =
         saved_moves laws (page_text n) page (earlier events) h.things made.accepted sound h.numbered h.can in
         absurd (not_both (saved_page (run_of (opened page) (earlier events)) h.things) moves.moved r moves.page.accepted h.refused)
-    unmoved_ends not_both OutOfMemory h = inl tt
-    unmoved_ends not_both (PageRefused None) h = absurd h
-    unmoved_ends not_both status h = absurd h
+    unmoved_stops not_both OutOfMemory h = tt
+    unmoved_stops not_both (PageRefused None) h = absurd h
+    unmoved_stops not_both status h = absurd h
 
     -- the same of what the move answered
     pub moved_if : (before after : List Event) (r : Result (ℕ × ℕ) Status) → before ≡ earlier events → after ≡ later events
@@ -126,11 +156,10 @@ module _ (n : ℕ) where
         moved_gives m.0 m.1 (subst (λ es. IsMovedBy page (earlier events) es m.0 m.1) a (subst (λ es. IsMovedBy page es after m.0 m.1) b h))
     moved_if before after (Err status) b a h = tt
 
-    pub unmoved_if : ((bytes : List ℕ) (page : Page) (cause : Refusal) → IsAccepted bytes page → IsRefused bytes cause → ⊥)
-        → (before : List Event) (r : Result (ℕ × ℕ) Status) → before ≡ earlier events
-        → IfErr r (IsUnmoved page before) → IfErr r (λ status. EndsAt (work_of (stress n)) status alone)
+    pub unmoved_if : NotBoth → (before : List Event) (r : Result (ℕ × ℕ) Status) → before ≡ earlier events
+        → IfErr r (IsUnmoved page before) → IfErr r (StopsHalfway n)
     unmoved_if not_both before (Good m) b h = tt
-    unmoved_if not_both before (Err status) b h = unmoved_ends not_both status (subst (λ es. IsUnmoved page es status) b h)
+    unmoved_if not_both before (Err status) b h = unmoved_stops not_both status (subst (λ es. IsUnmoved page es status) b h)
 
   -- ---- one page and one list of events
 
@@ -149,7 +178,7 @@ module _ (n : ℕ) where
       let events = same_list w.page m.page w.events m.events w.made m.made in
       let lines : s.lines ≡ lines_of_run (running m.page) m.events =
       ap (λ (t : Store). t.lines) w.state ∙ ap (λ (p : Page). lines_of_run (running p) w.events) page ∙ ap (lines_of_run (running m.page)) events in (
-        ((m.page, m.made.accepted), ((m.events, m.made.holds), (is_movable m.page m.events m.things m.made m.walked m.little, tt))),
+        (is_movable m.page m.events m.things m.made m.walked m.little, tt),
         record {
           page = m.page;
           events = m.events;
@@ -164,8 +193,11 @@ module _ (n : ℕ) where
         refl,
       )
 
-  pub stress_stops : (status : Status) → EndsAt (work_of (stress n)) status alone → Gives (stress n) (Err status) alone
-  stress_stops status h = (h, refl)
+  pub stress_stops : (status : Status) → StopsHalfway n status → Gives (stress n) (Err status) alone
+  stress_stops status h = (inl h, refl)
+
+  pub stress_lacks_memory : (status : Status) → status ≡ OutOfMemory → Gives (stress n) (Err status) alone
+  stress_lacks_memory status is = stress_stops status (subst (StopsHalfway n) (sym is) tt)
 
   -- ---- the stage halfway is ended or passed, in one way
 

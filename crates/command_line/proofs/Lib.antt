@@ -8,6 +8,7 @@ pub mod Moves
 pub mod Numbers
 pub mod Outcomes
 pub mod Parks
+pub mod PartCounts
 pub mod Pieces
 pub mod Refusals
 pub mod Stopping

@@ -1,5 +1,5 @@
 -- With which status a command stops at a stage, where nothing outside failed and memory did not run out.
-use Rattle.std.proofs.Common.{◌≡◌, ℕ, ◌<◌, List, length, Option, Some, None, IfSome, Err, refl}
+use Rattle.std.proofs.Common.{◌≡◌, ℕ, ◌<◌, List, length, Option, Some, None, IfSome, refl}
 use Rattle.std.specs.FinMap.{get}
 use Rattle.page_io.specs.Content.{Told}
 use Rattle.heap_walker.specs.declared.weight.Weight.{Weight}
@@ -12,10 +12,7 @@ use Rattle.command_line.specs.Page.{page_limit}
 use Rattle.command_line.specs.Saving.{IsTooLarge}
 use Rattle.command_line.specs.Parking.{AreUsed}
 use Rattle.command_line.specs.Stress.{IsTooLargeHalfway}
-use Rattle.event_file.specs.Events.{events_of}
-use Rattle.page_maker.specs.Events.{event_list}
-use Rattle.page_maker.specs.Page.{page as page_text}
-use Rattle.command_line.specs.Stages.{Seen, Of, Held, IsNoEventFile, Stage, words, page_file, acceptance, event_file, moving, next_row, one_row, all_rows, made_page, made_events, halfway, Stops, StopsWriting, IsQuiet}
+use Rattle.command_line.specs.Stages.{Seen, Of, Held, IsNoEventFile, Stage, words, page_file, acceptance, event_file, moving, next_row, one_row, all_rows, halfway, Stops, StopsWriting, IsQuiet}
 
 -- ---- of told bytes
 
@@ -47,8 +44,6 @@ StopsAs (moving p e) seen s = (w : Weight) × (s ≡ status.TooLarge w) × Held 
 StopsAs (next_row name) seen s = (s ≡ status.VersionsUsed) × IfSome seen.keeper_before.table (AreUsed name)
 StopsAs (one_row name version) seen s = (s ≡ status.NoSession) × IfSome seen.keeper_before.table (λ t. get t (name, version) ≡ None)
 StopsAs all_rows seen s = ⊥
-StopsAs (made_page m) seen s = (r : Refusal) × (s ≡ status.PageRefused (Some r)) × IsRefused (page_text m) r
-StopsAs (made_events m) seen s = (i : ℕ) × (s ≡ status.EventsRefused i) × (events_of (event_list m) ≡ Err i)
 StopsAs (halfway m) seen s = (w : Weight) × (s ≡ status.TooLarge w) × IsTooLargeHalfway m w
 
 module _ (seen : Seen) (quiet : IsQuiet seen) where
@@ -96,16 +91,6 @@ module _ (seen : Seen) (quiet : IsQuiet seen) where
   stops_rows status.OutOfMemory n h = absurd (n refl)
   stops_rows s n h = absurd h
 
-  stops_made_page : (m : ℕ) (s : Status) → ¬ (s ≡ status.OutOfMemory) → Stops (made_page m) s seen → StopsAs (made_page m) seen s
-  stops_made_page m (status.PageRefused (Some r)) n h = (r, refl, h)
-  stops_made_page m status.OutOfMemory n h = absurd (n refl)
-  stops_made_page m s n h = absurd h
-
-  stops_made_events : (m : ℕ) (s : Status) → ¬ (s ≡ status.OutOfMemory) → Stops (made_events m) s seen → StopsAs (made_events m) seen s
-  stops_made_events m (status.EventsRefused i) n h = (i, refl, h)
-  stops_made_events m status.OutOfMemory n h = absurd (n refl)
-  stops_made_events m s n h = absurd h
-
   stops_halfway : (m : ℕ) (s : Status) → ¬ (s ≡ status.OutOfMemory) → Stops (halfway m) s seen → StopsAs (halfway m) seen s
   stops_halfway m (status.TooLarge w) n h = (w, refl, h)
   stops_halfway m status.OutOfMemory n h = absurd (n refl)
@@ -120,8 +105,6 @@ module _ (seen : Seen) (quiet : IsQuiet seen) where
   stops_as (next_row name) s n h = stops_next name s n h
   stops_as (one_row name version) s n h = stops_row name version s n h
   stops_as all_rows s n h = stops_rows s n h
-  stops_as (made_page m) s n h = stops_made_page m s n h
-  stops_as (made_events m) s n h = stops_made_events m s n h
   stops_as (halfway m) s n h = stops_halfway m s n h
 
   -- a quiet command that writes its text ends well

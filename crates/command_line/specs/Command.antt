@@ -1,5 +1,5 @@
 -- What the words of the command line ask for.
-use Rattle.std.specs.Prelude.{ℕ, ◌+◌, ◌-◌, ◌*◌, Bool, ◌&&◌, ◌||◌, nat_eq, nat_le, List, [], ◌∷◌, length, Option, Some, None, codes, if◌then◌else◌, bytes_eq}
+use Rattle.std.specs.Prelude.{ℕ, ◌+◌, ◌-◌, ◌*◌, ◌≤◌, Bool, ◌&&◌, ◌||◌, nat_eq, nat_le, List, [], ◌∷◌, length, Option, Some, None, codes, if◌then◌else◌, bytes_eq}
 use Rattle.std.specs.List.{list_all}
 use Rattle.command_line.specs.declared.command.Command.{Command as Asked}
 use Rattle.command_line.specs.declared.command.Command.TheVariants as asked
@@ -62,9 +62,13 @@ version_of (c ∷ cs) = if nat_eq c 48 then None else number_from 0 (c ∷ cs)
 abbrev pub most_parts : ℕ
 most_parts = 1000
 
+-- from 1 to that many
+abbrev pub IsPartCount : ℕ → Type 0
+IsPartCount n = (1 ≤ n) × (n ≤ most_parts)
+
 abbrev pub few_parts : Option ℕ → Option ℕ
 few_parts None = None
-few_parts (Some n) = if nat_le n most_parts then Some n else None
+few_parts (Some n) = if nat_le 1 n && nat_le n most_parts then Some n else None
 
 -- the number from 1 to the most parts that a word writes in decimal, without sign or leading zero
 abbrev pub parts_of : List ℕ → Option ℕ
@@ -128,6 +132,11 @@ command_by verb words =
 abbrev pub command_of : List (List ℕ) → Option Command
 command_of [] = None
 command_of (verb ∷ words) = command_by verb words
+
+-- the generated page of a command has such a number of parts
+abbrev pub HasParts : Command → Type 0
+HasParts (stress parts) = IsPartCount parts
+HasParts command = Unit {0}
 
 -- the files that a command reads
 abbrev pub files_of : Command → List (List ℕ)

@@ -1,5 +1,5 @@
 -- The stages of a command, in the order of the work, and what ends it at each.
-use Rattle.std.specs.Prelude.{◌≡◌, ℕ, ◌<◌, ◌≤◌, ◌⊎◌, Bool, true, false, List, [], ◌∷◌, ◌++◌, length, Option, Some, None, IsSome, IfSome, Ok as Good, Err, All}
+use Rattle.std.specs.Prelude.{◌≡◌, ℕ, ◌<◌, ◌≤◌, ◌⊎◌, Bool, true, false, List, [], ◌∷◌, ◌++◌, length, Option, Some, None, IsSome, IfSome, Err, All}
 use Rattle.std.specs.List.{list_any}
 use Rattle.std.specs.FinMap.{get}
 use Rattle.page_io.specs.Content.{Told}
@@ -12,13 +12,11 @@ use Rattle.command_line.specs.declared.status.Status.{Status}
 use Rattle.command_line.specs.declared.status.Status.TheVariants.{Ok, PageRefused, Usage, EventsRefused, ReadFault, WriteFault, TooLarge, OutOfMemory, KeeperFault, NoSession, VersionsUsed}
 use Rattle.command_line.specs.Page.{page_limit, event_file_limit, Page, IsAccepted}
 use Rattle.command_line.specs.declared.command.Work.TheVariants.{Replay, Save}
-use Rattle.command_line.specs.Command.{Command, check, instrument, session, park, fetch, parked, drop_row, stress, files_of}
+use Rattle.command_line.specs.Command.{Command, check, instrument, session, park, fetch, parked, drop_row, stress, command_of, files_of}
 use Rattle.command_line.specs.Parking.{AreUsed}
 use Rattle.command_line.specs.Replay.{IsEventFile}
 use Rattle.command_line.specs.Saving.{IsMovable, IsTooLarge}
 use Rattle.command_line.specs.Stress.{IsMovableHalfway, IsTooLargeHalfway}
-use Rattle.page_maker.specs.Events.{event_list}
-use Rattle.page_maker.specs.Page.{page as page_text}
 
 -- What is seen of the outside: files, keeper and output, before a command and now.
 pub record Seen : Type 0 where
@@ -86,11 +84,7 @@ pub data Stage : Type 0 where
   one_row : List ℕ → ℕ → Stage
   -- it takes the names of all rows
   all_rows : Stage
-  -- it accepts the generated page with so many parts
-  made_page : ℕ → Stage
-  -- it reads the list of events that is generated for that
-  made_events : ℕ → Stage
-  -- it takes what that page is after the first half of them, if that is little enough
+  -- it takes what the generated page with so many parts is after the first half of its events, if that is little enough
   halfway : ℕ → Stage
 
 -- ---- what ends a command at a stage, and how; no status has another cause. Want of memory is free.
@@ -138,16 +132,6 @@ StopsAtAllRows KeeperFault before now = Rose before.faults now.faults
 StopsAtAllRows OutOfMemory before now = Unit {0}
 StopsAtAllRows status before now = ⊥
 
-abbrev pub StopsAtMadePage : ℕ → Status → Type 0
-StopsAtMadePage n (PageRefused (Some r)) = IsRefused (page_text n) r
-StopsAtMadePage n OutOfMemory = Unit {0}
-StopsAtMadePage n status = ⊥
-
-abbrev pub StopsAtMadeEvents : ℕ → Status → Type 0
-StopsAtMadeEvents n (EventsRefused i) = events_of (event_list n) ≡ Err i
-StopsAtMadeEvents n OutOfMemory = Unit {0}
-StopsAtMadeEvents n status = ⊥
-
 abbrev pub StopsHalfway : ℕ → Status → Type 0
 StopsHalfway n (TooLarge w) = IsTooLargeHalfway n w
 StopsHalfway n OutOfMemory = Unit {0}
@@ -162,8 +146,6 @@ Stops (moving p e) status seen = StopsAtMoving status (seen.files_before.content
 Stops (next_row name) status seen = StopsAtNextRow name status seen.keeper_before seen.keeper_now
 Stops (one_row name version) status seen = StopsAtOneRow name version status seen.keeper_before seen.keeper_now
 Stops all_rows status seen = StopsAtAllRows status seen.keeper_before seen.keeper_now
-Stops (made_page n) status seen = StopsAtMadePage n status
-Stops (made_events n) status seen = StopsAtMadeEvents n status
 Stops (halfway n) status seen = StopsHalfway n status
 
 -- what lets a command go on after a stage
@@ -176,8 +158,6 @@ Passes (moving p e) seen = Held seen p (λ bytes. Held seen e (λ file. IsMovabl
 Passes (next_row name) seen = IfSome seen.keeper_before.table (λ t. ¬ AreUsed name t)
 Passes (one_row name version) seen = IfSome seen.keeper_before.table (λ t. (bytes : List ℕ) × (get t (name, version) ≡ Some bytes))
 Passes all_rows seen = Unit {0}
-Passes (made_page n) seen = (page : Page) × IsAccepted (page_text n) page
-Passes (made_events n) seen = (events : List Event) × (events_of (event_list n) ≡ Good events)
 Passes (halfway n) seen = IsMovableHalfway n
 
 -- it is ended at one of the stages, and passes all before that
@@ -215,7 +195,7 @@ work_of (park p e name) = reading p e ++ moving p e ∷ next_row name ∷ []
 work_of (fetch name version) = one_row name version ∷ []
 work_of parked = all_rows ∷ []
 work_of (drop_row name version) = one_row name version ∷ []
-work_of (stress n) = made_page n ∷ made_events n ∷ halfway n ∷ []
+work_of (stress n) = halfway n ∷ []
 
 abbrev pub work_behind : Option Command → List Stage
 work_behind None = []
@@ -268,7 +248,8 @@ abbrev pub names_of : Option Command → List (List ℕ)
 names_of None = []
 names_of (Some command) = files_of command
 
--- where that is so of each file of the command, and the rows are told, some status that is not want of memory has its cause
+-- where that is so of each file of the command that the words are, and the rows are told, some status that is not want of memory has its cause
 abbrev pub SomeCause : Type 0
-SomeCause = (command : Option Command) (seen : Seen) → All (IsReadOrFailed seen) (names_of command) → ¬ (seen.keeper_before.table ≡ None)
-    → ((status : Status) → ¬ (status ≡ OutOfMemory) → ¬ Ends command status seen) → ⊥
+SomeCause =
+    (words : List (List ℕ)) (seen : Seen) → All (IsReadOrFailed seen) (names_of (command_of words)) → ¬ (seen.keeper_before.table ≡ None)
+    → ((status : Status) → ¬ (status ≡ OutOfMemory) → ¬ Ends (command_of words) status seen) → ⊥

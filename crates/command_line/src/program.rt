@@ -1,7 +1,7 @@
 //! The top call of the program.
 
 ghost use Rattle.std.specs.Prelude.{◌≡◌, ◌≤◌, ◌↔◌, None, map, string_bytes};
-ghost use Rattle.command_line.specs.Command.{command_of, view};
+ghost use Rattle.command_line.specs.Command.{command_of, view, HasParts};
 ghost use Rattle.command_line.specs.Notes.{note_of, Noted};
 ghost use Rattle.command_line.specs.Stages.{seen_between, stages_of, work_of, Ends, Keeps, Lasts};
 ghost use Rattle.command_line.specs.Texts.{Answers, IsPut, Puts, Rows};
@@ -41,6 +41,7 @@ fn perform<F: Files, O: Sink, K: Keeper>(
     out: &mut O,
     keeper: &mut K,
 ) -> Status
+    requires { HasParts (view command) }
     ensures answers { Answers (view command.entry) result
         (seen_between (F.seen files.old) (F.seen files.new) (K.seen keeper.old) (K.seen keeper.new)
         (O.seen out.old) (O.seen out.new)) }

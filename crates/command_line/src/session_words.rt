@@ -80,7 +80,7 @@ pub fn parts_of(word: &str) -> Option<u32>
     ensures { result ≡ spec.parts_of word.now }
 {
     match version_of(word) {
-        Some(parts) if parts <= MOST_PARTS => Some(parts as u32),
+        Some(parts) if 1 <= parts && parts <= MOST_PARTS => Some(parts as u32),
         _ => None,
     }
 }

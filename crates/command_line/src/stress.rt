@@ -8,10 +8,11 @@ ghost use Rattle.page_check.specs.Accept.{IsAccepted};
 ghost use Rattle.page_maker.specs.Events.{event_list as events_text};
 ghost use Rattle.page_maker.specs.Page.{page as page_text};
 ghost use Rattle.command_line.specs.Command as command;
+ghost use Rattle.command_line.specs.Command.{IsPartCount};
 ghost use Rattle.command_line.specs.Faring.{CountsLines, IsMovedBy, IsUnmoved, IsWhole};
 ghost use Rattle.command_line.specs.Parking.{number_words};
 ghost use Rattle.command_line.specs.Reading.{IsUntaken};
-ghost use Rattle.command_line.specs.Stages.{seen_between, unasked, unread, unwritten, work_of, EndsAt, Lasts, StopsAtMadeEvents};
+ghost use Rattle.command_line.specs.Stages.{seen_between, unasked, unread, unwritten, StopsHalfway};
 ghost use Rattle.command_line.specs.Stress.{last_line, stress_line, IsMade, IsMoved};
 ghost use Rattle.command_line.specs.Texts.{Gives};
 
@@ -21,6 +22,7 @@ use crate::row_lines::push_number;
 use crate::saved_text::saved_text;
 use crate::status::Status;
 use event_file::{EventFault, NotEvents, events};
+use generated_pages::{law_generated_lists_are_read, law_generated_pages_are_accepted};
 use js_core::OutOfMemory;
 use js_values::{Event, Line};
 use moved_pages::{
@@ -32,23 +34,27 @@ use page_maker::{event_list, page};
 use session::Session;
 use std::alloc::Global;
 
-// The generated page.
+// The generated page, which is accepted.
 fn made_page(alloc: Global, parts: u32) -> Result<CheckedPage, Status>
     ensures ok { IfOk result (IsAccepted (page_text parts)) }
     ensures sound { IfOk result (λ page. IsSound page.nodes) }
-    ensures stops { IfErr result (IsUntaken (page_text parts)) }
+    ensures stops { IfErr result (λ status. status ≡ Status.OutOfMemory) }
 {
+    law_one_answer();
+    law_generated_pages_are_accepted();
     match page(alloc, parts) {
         Ok(text) => accept_page(alloc, &text),
         Err(OutOfMemory) => Err(Status::OutOfMemory),
     }
 }
 
-// Its events.
+// Its events, which are read.
 fn made_events(alloc: Global, parts: u32) -> Result<Vec<Event>, Status>
+    requires { IsPartCount parts }
     ensures ok { IfOk result (λ list. events_of (events_text parts) ≡ Good list.items) }
-    ensures stops { IfErr result (StopsAtMadeEvents parts) }
+    ensures stops { IfErr result (λ status. status ≡ Status.OutOfMemory) }
 {
+    law_generated_lists_are_read();
     let text = match event_list(alloc, parts) {
         Ok(text) => text,
         Err(OutOfMemory) => return Err(Status::OutOfMemory),
@@ -62,10 +68,10 @@ fn made_events(alloc: Global, parts: u32) -> Result<Vec<Event>, Status>
 
 // Both.
 fn made(alloc: Global, parts: u32) -> Result<(CheckedPage, Vec<Event>), Status>
+    requires { IsPartCount parts }
     ensures ok { IfOk result (λ both. IsMade parts both.0 both.1.items) }
     ensures sound { IfOk result (λ both. IsSound both.0.nodes) }
-    ensures stops { IfErr result (λ status. EndsAt (work_of (command.stress parts)) status
-        (seen_between unread unread unasked unasked unwritten unwritten)) }
+    ensures stops { IfErr result (λ status. status ≡ Status.OutOfMemory) }
 {
     let page = match made_page(alloc, parts) {
         Ok(page) => page,
@@ -79,9 +85,9 @@ fn made(alloc: Global, parts: u32) -> Result<(CheckedPage, Vec<Event>), Status>
 
 // The session of the page after all of its events.
 fn whole(alloc: Global, parts: u32) -> Result<Session, Status>
+    requires { IsPartCount parts }
     ensures ok { IfOk result (λ s. IsWhole parts s.page) }
-    ensures stops { IfErr result (λ status. EndsAt (work_of (command.stress parts)) status
-        (seen_between unread unread unasked unasked unwritten unwritten)) }
+    ensures stops { IfErr result (λ status. status ≡ Status.OutOfMemory) }
 {
     let (page, list) = match made(alloc, parts) {
         Ok(made) => made,
@@ -132,9 +138,9 @@ fn move_page(
 
 // Moves the generated page after the first half of its events.
 fn moved(alloc: Global, parts: u32) -> Result<(u64, u64), Status>
+    requires { IsPartCount parts }
     ensures ok { IfOk result (λ found. IsMoved parts found.0 found.1) }
-    ensures stops { IfErr result (λ status. EndsAt (work_of (command.stress parts)) status
-        (seen_between unread unread unasked unasked unwritten unwritten)) }
+    ensures stops { IfErr result (StopsHalfway parts) }
 {
     law_one_answer();
     law_accepted_pages_are_plain();
@@ -194,9 +200,9 @@ fn line_of(
 
 /// How the generated page with so many parts fares: how many lines it puts out under its events, how many of them come after the
 /// first half of the events, how many bytes it has when it is saved between, and its last line. The events after that are those
-/// of the saved page. The order is: making and accepting the page, making and reading the events, running, saving, running what was
-/// saved. The first cause to end is the answer.
+/// of the saved page. It may be too large to be saved, and memory may run out.
 pub fn stress(alloc: Global, parts: u32) -> Result<Vec<u8>, Status>
+    requires { IsPartCount parts }
     ensures gives { Gives (command.stress parts) result
         (seen_between unread unread unasked unasked unwritten unwritten) }
 {
