@@ -38,7 +38,7 @@ use Rattle.rebuilding.proofs.ListenPhase.{bare_lacks}
 use Rattle.rebuilding.proofs.NodesAt.{NodesStand, document_here, document_node, thing_here, thing_node}
 use Rattle.rebuilding.proofs.OwnObjects.{IsNodeOn, OwnObjects, node_same, own_kept}
 use Rattle.rebuilding.proofs.Placed.{number_at, place_in, place_low, site_low, site_thing}
-use Rattle.rebuilding.proofs.SavedNodes.{IsRest, first_has, in_pair, more_has, node_found, node_listed, nodes_world, pair_in, rest_here, rest_next}
+use Rattle.rebuilding.proofs.SavedNodes.{IsRest, first_has, in_pair, more_has, node_found, node_listed, nodes_world, pair_in, rest_here, rest_next, whole_rest}
 use Rattle.rebuilding.proofs.SitesApart.{site_there, sites_differ}
 
 -- ---- what is known of the two pages
@@ -140,18 +140,12 @@ module _ (c : Scene) (End : Contents → Host → List ℕ → Type 0) (h : Cont
         (ap (λ (o : Object). o.props) (document_here h sites) ∙ nodes.document_props);
   }
 
-  all_rest : IsRest things 0 things
-  all_rest = record { total = omega arith; at = λ j inside. ap (nth things) (sym (plain j)) }
-    where
-      plain : (m : ℕ) → 0 + m ≡ m
-      plain m = omega arith
-
   pub placed : (k : NodeId) → has k.0 (nth_node 0 ∷ all_nodes s things) ≡ true → HasPlace k
   placed k h = by (or_cases (nat_eq k.0 0) (has k.0 (all_nodes s things)) h)
     where
       by : (nat_eq k.0 0 ≡ true) ⊎ (has k.0 (all_nodes s things) ≡ true) → HasPlace k
       by (inl e) = subst (λ m. HasPlace (nth_node m)) (sym (eqb-true k.0 0 e)) place_of_root
-      by (inr i) = let l = node_found s things things 0 k.0 all_rest i in place_of_thing l.number k l.inside l.class
+      by (inr i) = let l = node_found s things things 0 k.0 (whole_rest things) i in place_of_thing l.number k l.inside l.class
 
   -- ---- two nodes have two counterparts
 
@@ -181,7 +175,7 @@ module _ (c : Scene) (End : Contents → Host → List ℕ → Type 0) (h : Cont
           let zero_is : k.0 ≡ 0 = eqb-true k.0 0 e in
           of_root zero_is (ap (λ m. spot (nth_node m)) zero_is ∙ ap (λ (o : ObjId). site sites o.0) root_place_is ∙ site_low sites document.0 (omega arith))
       by (inr i) =
-          let l = node_found s things things 0 k.0 all_rest i in
+          let l = node_found s things things 0 k.0 (whole_rest things) i in
           of_thing l.number l.inside l.class (ap (λ (o : ObjId). site sites o.0) (thing_place_is l.number k l.inside l.class) ∙ site_thing sites l.number)
 
   one_to_one : (k l : NodeId) → has k.0 known ≡ true → has l.0 known ≡ true → (f k).0 ≡ (f l).0 → k.0 ≡ l.0
@@ -234,10 +228,10 @@ module _ (c : Scene) (End : Contents → Host → List ℕ → Type 0) (h : Cont
 
   known_distinct : is_distinct known ≡ true
   known_distinct =
-      and_from (not (has 0 (all_nodes s things))) (is_distinct (all_nodes s things)) (not_if (has 0 (all_nodes s things)) root_once) (all_distinct things 0 all_rest)
+      and_from (not (has 0 (all_nodes s things))) (is_distinct (all_nodes s things)) (not_if (has 0 (all_nodes s things)) root_once) (all_distinct things 0 (whole_rest things))
     where
       root_once : has 0 (all_nodes s things) ≡ true → ⊥
-      root_once h = let l = node_found s things things 0 0 all_rest h in family.no_thing l.number l.inside l.class
+      root_once h = let l = node_found s things things 0 0 (whole_rest things) h in family.no_thing l.number l.inside l.class
 
   -- ---- what is linked
 
@@ -321,6 +315,6 @@ module _ (c : Scene) (End : Contents → Host → List ℕ → Type 0) (h : Cont
         children_go c End h s things sites first known (λ g kept k i. (placed k i).here g kept)
         (λ k i. bare_lacks (object_here h sites (node_place s things k)) (codes "appendChild") (placed k i).props)
         (bared t) (λ k. (bared_at t k).children) (λ k d i e. family.children k d i (ap (has d.0) (sym (bared_at t k.0).children) ∙ e))
-        (λ n k inside is. (thing_place_is n k inside is, more_has k.0 (nth_node 0) (all_nodes s things) (node_listed s things things 0 n k all_rest (omega arith) inside is)))
+        (λ n k inside is. (thing_place_is n k inside is, more_has k.0 (nth_node 0) (all_nodes s things) (node_listed s things things 0 n k (whole_rest things) (omega arith) inside is)))
         (nth_node 0) rs family.root root_place_is (first_has (nth_node 0) (all_nodes s things)) carried.0 hosting
         (λ j now kept is. later j now kept (subst (NodesRel N (bared t)) (sym is) carried.1))

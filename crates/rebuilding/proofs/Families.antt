@@ -1,5 +1,5 @@
 -- A reached node has its parent and its children among the reached ones.
-use Rattle.std.proofs.Common.{◌≡◌, ◌⊎◌, inl, inr, refl, sym, ap, subst, ◌∙◌, ℕ, ◌+◌, ◌<◌, ◌≤◌, true, nat_eq, List, [], ◌∷◌, ◌++◌, Some, length, arith}
+use Rattle.std.proofs.Common.{◌≡◌, ◌⊎◌, inl, inr, refl, sym, ap, subst, ◌∙◌, ℕ, ◌<◌, ◌≤◌, true, nat_eq, List, [], ◌∷◌, ◌++◌, Some, length, arith}
 use Rattle.std.proofs.lemmas.Bool.{and_parts, cases_lt, eq-eqb, eqb-true, ltb-true, or_cases, or_left, or_right}
 use Rattle.std.proofs.lemmas.List.Folds.{list_any-append}
 use Rattle.dom_tree.proofs.Callers.{child_in, parent_in}
@@ -23,7 +23,7 @@ use Rattle.rebuilding.proofs.ChildModel.{IsFamily}
 use Rattle.rebuilding.proofs.Hearable.{AreKnown, all_known}
 use Rattle.rebuilding.proofs.OwnObjects.{node_same}
 use Rattle.rebuilding.proofs.Placed.{is_thing_at, number_at, place_in}
-use Rattle.rebuilding.proofs.SavedNodes.{IsRest, first_has, more_has, node_found, node_listed}
+use Rattle.rebuilding.proofs.SavedNodes.{first_has, more_has, node_found, node_listed, whole_rest}
 
 in_left : (j : ℕ) (xs ys : List ℕ) → is_in j xs ≡ true → is_in j (xs ++ ys) ≡ true
 in_left j xs ys h = list_any-append (nat_eq j) xs ys ∙ or_left (is_in j xs) (is_in j ys) h
@@ -41,12 +41,6 @@ module _ (s : Store) (things : List ℕ) (still : Still s) (walk : IsWalk s thin
   abbrev object : NodeId → ℕ
   object d = (object_of_node s.host.objects d).0
 
-  all_rest : IsRest things 0 things
-  all_rest = record { total = omega arith; at = λ j inside. ap (nth things) (sym (plain j)) }
-    where
-      plain : (m : ℕ) → 0 + m ≡ m
-      plain m = omega arith
-
   root_class : (object_at s.heap.objects document.0).class ≡ class.Node (nth_node 0)
   root_class = document_class s things still walk
 
@@ -57,7 +51,7 @@ module _ (s : Store) (things : List ℕ) (still : Still s) (walk : IsWalk s thin
   found d low (inr thing) =
       let i = number_at things (object d) thing in
       more_has d.0 (nth_node 0) (all_nodes s things)
-      (node_listed s things things 0 i.0 d all_rest (omega arith) i.2 (ap (λ m. (object_at s.heap.objects m).class) i.3 ∙ class_of d low))
+      (node_listed s things things 0 i.0 d (whole_rest things) (omega arith) i.2 (ap (λ m. (object_at s.heap.objects m).class) i.3 ∙ class_of d low))
   found d low (inl small) = by (cases_lt (object d) built_in_count)
     where
       by : (object d < built_in_count) ⊎ (built_in_count ≤ object d) → has d.0 known ≡ true
@@ -76,7 +70,7 @@ module _ (s : Store) (things : List ℕ) (still : Still s) (walk : IsWalk s thin
           let mine : (object_at s.heap.objects document.0).class ≡ class.Node k = root_class ∙ ap (λ m. class.Node (nth_node m)) (sym (eqb-true k.0 0 e)) in
           roots_in_walk s things still walk x (document_among s x (host_among s document.0 x (ap (λ C. is_in x (host_links s.host C)) mine ∙ i)))
       by (inr more) =
-          let l = node_found s things things 0 k.0 all_rest more in
+          let l = node_found s things things 0 k.0 (whole_rest things) more in
           links_in_walk s things still walk (nth things l.number) (place_in things l.number l.inside) x
           (host_among s (nth things l.number) x (ap (λ C. is_in x (host_links s.host C)) l.class ∙ i))
 

@@ -1,5 +1,5 @@
 -- The listeners of each thing that is a node, and of the document, can be added again.
-use Rattle.std.proofs.Common.{◌≡◌, refl, sym, ap, subst, ℕ, ◌+◌, ◌<◌, List, [], length, arith}
+use Rattle.std.proofs.Common.{◌≡◌, refl, sym, subst, ℕ, ◌<◌, List, [], length, arith}
 use Rattle.heap_walker.specs.Still.{Still}
 use Rattle.heap_walker.specs.Things.{IsWalk, heard_at}
 use Rattle.host_relations.proofs.Callers.{AreNew}
@@ -19,25 +19,19 @@ use Rattle.rebuilding.specs.Scene.{IsRunning, Scene}
 use Rattle.rebuilding.proofs.Families.{family, heard_known}
 use Rattle.rebuilding.proofs.Hearable.{AreKnown, node_can_hear, node_hears_new}
 use Rattle.rebuilding.proofs.ListenPhase.{CanHear, heard_as}
-use Rattle.rebuilding.proofs.SavedNodes.{IsRest, first_has, more_has, node_listed}
+use Rattle.rebuilding.proofs.SavedNodes.{first_has, more_has, node_listed, whole_rest}
 
 module _ (c : Scene) (i : Contents) (s : Store) (things sites : List ℕ) (running : IsRunning c i sites) (count : length sites ≡ length things)
     (still : Still s) (walk : IsWalk s things)
     (classes : (n : ℕ) → n < length things
     → ClassIsRebuilt c i.environments s things sites (nth sites n) (object_at s.heap.objects (nth things n)).class (object_at i.objects (nth sites n)).class) where
-  all_rest : IsRest things 0 things
-  all_rest = record { total = omega arith; at = λ j inside. ap (nth things) (sym (plain j)) }
-    where
-      plain : (m : ℕ) → 0 + m ≡ m
-      plain m = omega arith
-
   root_class : (object_at s.heap.objects document.0).class ≡ class.Node (nth_node 0)
   root_class = (family s things still walk).root
 
   known_at : (n : ℕ) (a : NodeId) → n < length things → (object_at s.heap.objects (nth things n)).class ≡ class.Node a → AreKnown things (heard_at a.0 s.host.listeners)
   known_at n a inside is =
       heard_known s things still walk a
-      (more_has a.0 (nth_node 0) (all_nodes s things) (node_listed s things things 0 n a all_rest (omega arith) inside is))
+      (more_has a.0 (nth_node 0) (all_nodes s things) (node_listed s things things 0 n a (whole_rest things) (omega arith) inside is))
 
   known_first : AreKnown things (heard_at 0 s.host.listeners)
   known_first = heard_known s things still walk (nth_node 0) (first_has (nth_node 0) (all_nodes s things))

@@ -1,5 +1,5 @@
 -- The phases of children and of contents in a row: the nodes mean what the saved ones mean.
-use Rattle.std.proofs.Common.{◌≡◌, ◌⊎◌, inl, inr, refl, sym, ap, subst, ◌∙◌, ℕ, ◌+◌, ◌<◌, true, nat_eq, List, ◌∷◌, ◌++◌, length, arith}
+use Rattle.std.proofs.Common.{◌≡◌, ◌⊎◌, inl, inr, refl, sym, ap, subst, ◌∙◌, ℕ, ◌<◌, true, nat_eq, List, ◌∷◌, ◌++◌, length, arith}
 use Rattle.std.proofs.lemmas.Bool.{eqb-true, or_cases}
 use Rattle.dom_tree.specs.Content.{new_content}
 use Rattle.dom_tree.specs.Node.{Nodes, children_at, has, node_at, parent_at}
@@ -32,7 +32,7 @@ use Rattle.rebuilding.proofs.ChildPhase.{Keeps, counterpart}
 use Rattle.rebuilding.proofs.ContentPhase.{CanHave, ContentsDone, content_as, contents_succeed}
 use Rattle.rebuilding.proofs.NodesAt.{NodesStand, document_node, thing_node}
 use Rattle.rebuilding.proofs.OwnObjects.{IsNodeOn, OwnObjects, own_kept}
-use Rattle.rebuilding.proofs.SavedNodes.{IsLinked, IsRest, in_pair, more_has, node_found, node_listed, nodes_world, pair_in}
+use Rattle.rebuilding.proofs.SavedNodes.{IsLinked, in_pair, more_has, node_found, node_listed, nodes_world, pair_in, whole_rest}
 
 -- what is a node after it was rebuilt was one before
 pub record WasNode (C : Class) : Type 0 where
@@ -78,12 +78,6 @@ module _ (c : Scene) (End : Contents → Host → List ℕ → Type 0) (h : Cont
   abbrev N : ℕ → ℕ → Type 0
   N = Linked (nodes_world W f known)
 
-  all_rest : IsRest things 0 things
-  all_rest = record { total = omega arith; at = λ j inside. ap (nth things) (sym (plain_sum j)) }
-    where
-      plain_sum : (m : ℕ) → 0 + m ≡ m
-      plain_sum m = omega arith
-
   -- the counterpart of a thing's node is that at its site
   f_is : (n b : ℕ) (a : NodeId) → n < length things → (object_at s.heap.objects (nth things n)).class ≡ class.Node a → IsNodeOn h (nth sites n) b → f a ≡ nth_node b
   f_is n b a inside is on =
@@ -98,7 +92,7 @@ module _ (c : Scene) (End : Contents → Host → List ℕ → Type 0) (h : Cont
       → Linked (nodes_world W (counterpart h s things sites) (nth_node 0 ∷ all_nodes s things)) a.0 b
   linked n b a inside is on =
       subst (λ j. N a.0 j) (ap (λ (m : NodeId). m.0) (f_is n b a inside is on))
-      (record { named = in_pair f known a (more_has a.0 (nth_node 0) (all_nodes s things) (node_listed s things things 0 n a all_rest (omega arith) inside is)) })
+      (record { named = in_pair f known a (more_has a.0 (nth_node 0) (all_nodes s things) (node_listed s things things 0 n a (whole_rest things) (omega arith) inside is)) })
 
   content_class : (n : ℕ) (a : NodeId) → (object_at s.heap.objects (nth things n)).class ≡ class.Node a
       → content_as s (object_at s.heap.objects (nth things n)).class ≡ (node_at t a.0).content
@@ -129,7 +123,7 @@ module _ (c : Scene) (End : Contents → Host → List ℕ → Type 0) (h : Cont
               ap (λ m. (node_at t m).content) (sym p.left ∙ zero_is) ∙ sym (done.first_node ∙ ap (content_as s) family.root)
               ∙ ap (λ m. (node_at i.nodes m).content) right
           by (inr more) =
-              let q = node_found s things things 0 p.node.0 all_rest more in
+              let q = node_found s things things 0 p.node.0 (whole_rest things) more in
               let found = lonely.node q.number p.node q.inside q.class in
               let right : found.0 ≡ b = sym (ap (λ (m : NodeId). m.0) (f_is q.number found.0 p.node q.inside q.class found.1)) ∙ p.right in
               ap (λ m. (node_at t m).content) (sym p.left)

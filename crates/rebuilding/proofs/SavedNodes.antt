@@ -79,6 +79,13 @@ pub record IsRest (things : List ℕ) (n : ℕ) (ks : List ℕ) : Type 0 where
   pub total : n + length ks ≡ length things
   pub at : (j : ℕ) → j < length ks → nth ks j ≡ nth things (n + j)
 
+-- all of them
+pub whole_rest : (things : List ℕ) → IsRest things 0 things
+whole_rest things = record { total = omega arith; at = λ j inside. ap (nth things) (sym (plain j)) }
+  where
+    plain : (m : ℕ) → 0 + m ≡ m
+    plain m = omega arith
+
 pub rest_next : (things : List ℕ) (n k : ℕ) (ks : List ℕ) → IsRest things n (k ∷ ks) → IsRest things (suc n) ks
 rest_next things n k ks r = record { total = omega (arith, r.total); at = λ j inside. r.at (suc j) (omega (arith, inside)) ∙ ap (nth things) (one_on n j) }
   where
