@@ -1,30 +1,10 @@
 -- Listeners stay distinct where one is added or removed.
-use Rattle.std.proofs.Common.{◌≡◌, Bool, true, false, List, [], ◌∷◌, ◌++◌, filter, bytes_eq, if◌then◌else◌, refl, sym, ◌∙◌}
+use Rattle.std.proofs.Common.{◌≡◌, Bool, true, false, List, [], ◌∷◌, ◌++◌, filter, if◌then◌else◌, refl, ◌∙◌}
 use Rattle.std.proofs.lemmas.Bool.{or_parts}
-use Rattle.std.proofs.lemmas.Slice.Eq.{bytes_eq-Decides}
-use Rattle.dom_tree.proofs.Callers.{eq_sym}
-use Rattle.js_core.specs.Text.{Text}
 use Rattle.page_host.specs.declared.listener.Listener.{Listener}
-use Rattle.page_host.specs.Listeners.{is_registered, is_same_listener, same_mark, with_listener}
+use Rattle.page_host.specs.Listeners.{is_registered, is_same_listener, with_listener}
+use Rattle.page_host.specs.Same.{same_equivalence}
 use Rattle.page_host.specs.Sound.{AreDistinct}
-
-mark_sym : (a b : Bool) → same_mark a b ≡ same_mark b a
-mark_sym true true = refl
-mark_sym true false = refl
-mark_sym false true = refl
-mark_sym false false = refl
-
-text_sym : (x y : Text) → bytes_eq x y ≡ bytes_eq y x
-text_sym x y = by_case (bytes_eq x y) refl (bytes_eq y x) refl
-  where
-    by_case : (a : Bool) → bytes_eq x y ≡ a → (b : Bool) → bytes_eq y x ≡ b → a ≡ b
-    by_case true e true f = refl
-    by_case false e false f = refl
-    by_case true e false f = sym ((bytes_eq-Decides y x).1 (sym ((bytes_eq-Decides x y).0 e))) ∙ f
-    by_case false e true f = sym e ∙ (bytes_eq-Decides x y).1 (sym ((bytes_eq-Decides y x).0 f))
-
-same_sym : (l m : Listener) → is_same_listener l m ≡ is_same_listener m l
-same_sym l m = rw (eq_sym l.node.0 m.node.0, eq_sym l.call.0 m.call.0, mark_sym l.capture m.capture, text_sym l.kind m.kind)
 
 registered_end : (ls : List Listener) (l m : Listener) → is_registered ls m ≡ false → is_same_listener m l ≡ false → is_registered (ls ++ l ∷ []) m ≡ false
 registered_end [] l m h e = rw e
@@ -34,7 +14,7 @@ distinct_end : (ls : List Listener) (l : Listener) → is_registered ls l ≡ fa
 distinct_end [] l h d = (refl, tt)
 distinct_end (m ∷ ls) l h d =
     let p = or_parts (is_same_listener l m) (is_registered ls l) h in
-    (registered_end ls l m d.0 (same_sym m l ∙ p.0), distinct_end ls l p.1 d.1)
+    (registered_end ls l m d.0 (same_equivalence.symm m l ∙ p.0), distinct_end ls l p.1 d.1)
 
 registered_left : (p : Listener → Bool) (ls : List Listener) (m : Listener) → is_registered ls m ≡ false → is_registered (filter p ls) m ≡ false
 registered_left p [] m h = refl

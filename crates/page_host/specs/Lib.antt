@@ -4,5 +4,6 @@ pub mod HostNames
 pub mod Kept
 pub mod Listeners
 pub mod Paths
+pub mod Same
 pub mod Sound
 pub mod Steps

@@ -5,6 +5,7 @@ ghost use Rattle.page_host.specs.Host.{new_host, object_of_node};
 
 use crate::listener::Listener;
 use dom_tree::Dom;
+use indexmap::IndexSet;
 use js_values::{NodeId, ObjId};
 use std::alloc::Global;
 use std::marker::Model;
@@ -16,7 +17,8 @@ pub struct PageHost {
     pub(crate) dom: Dom,
     /// The object of each node, at the place of its id.
     pub(crate) objects: Vec<ObjId>,
-    pub(crate) listeners: Vec<Listener>,
+    /// A set, so that one is added with no look at the others.
+    pub(crate) listeners: IndexSet<Listener>,
     pub(crate) queue: Queue,
     /// Milliseconds since the page was read.
     pub(crate) clock: u64,
@@ -42,7 +44,7 @@ impl Model for PageHost {
 
     ghost Value = { Host };
 
-    ghost view = { λ h. host_of h.dom h.objects.items h.listeners.items h.queue h.clock };
+    ghost view = { λ h. host_of h.dom h.objects.items h.listeners.keys h.queue h.clock };
 
     ghost invariant = { λ h. IsKept h.dom h.objects.items h.clock };
 }
@@ -56,7 +58,7 @@ impl PageHost {
         PageHost {
             dom,
             objects,
-            listeners: Vec::new(alloc),
+            listeners: IndexSet::new(alloc),
             queue: Queue::new(alloc),
             clock: 0,
         }

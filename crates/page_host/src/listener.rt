@@ -1,14 +1,17 @@
 //! Listeners.
 
 ghost use Rattle.std.specs.Prelude.{◌≡◌, IfOk};
+ghost use Rattle.std.specs.Cmp.{partial_equiv_from_equiv};
 ghost use Rattle.page_host.specs.Listeners.{is_same_listener, is_taken_in, same_mark, takes};
+ghost use Rattle.page_host.specs.Same.{same_equivalence};
 
 use crate::path::{Phase, Place};
 use js_core::{OutOfMemory, Units};
 use js_values::{NodeId, ObjId};
 
-/// A function that is called for events of a type at a node (DOM Level 2 Events, interface EventTarget).
-#[derive(Drop)]
+/// A function that is called for events of a type at a node (DOM Level 2 Events, interface EventTarget). Two are equal where they are
+/// the same registration.
+#[derive(Hash, Drop)]
 pub struct Listener {
     pub node: NodeId,
     pub kind: Units,
@@ -17,17 +20,24 @@ pub struct Listener {
     pub capture: bool,
 }
 
-impl Listener {
-    /// Whether both are the same registration.
-    pub(crate) fn is_same(&self, other: &Listener) -> bool
-        ensures { result ≡ is_same_listener self.now other.now }
-    {
+impl PartialEq for Listener {
+    ghost eq = { is_same_listener };
+
+    ghost laws = { partial_equiv_from_equiv same_equivalence };
+
+    fn eq(&self, other: &Listener) -> bool {
         self.node.0 == other.node.0
             && self.call.0 == other.call.0
             && same_mark(self.capture, other.capture)
             && self.kind == other.kind
     }
+}
 
+impl Eq for Listener {
+    ghost laws = { same_equivalence };
+}
+
+impl Listener {
     /// Whether it is called at the place for an event of the type.
     pub(crate) fn is_taken(&self, kind: &Units, place: Place) -> bool
         ensures { result ≡ takes kind.now place self.now }

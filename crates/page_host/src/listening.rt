@@ -9,6 +9,7 @@ ghost use Rattle.page_host.specs.declared.path.Phase.TheVariants as phase;
 use crate::host::PageHost;
 use crate::listener::Listener;
 use crate::path::{Phase, Place};
+use indexmap::IndexSet;
 use js_core::{OutOfMemory, Units};
 use js_values::NodeId;
 use std::alloc::Global;
@@ -18,7 +19,7 @@ impl PageHost {
     pub fn is_registered(&self, listener: &Listener) -> bool
         ensures { result ≡ spec.is_registered self.now.listeners listener.now }
     {
-        is_among(self.listeners.as_slice(), listener)
+        self.listeners.contains(listener)
     }
 
     /// Adds a listener, after all others; one that is registered stays as it is. After an error nothing has changed.
@@ -74,30 +75,20 @@ impl PageHost {
     }
 }
 
-// Whether one of the listeners is the same.
-fn is_among(listeners: &[Listener], listener: &Listener) -> bool
-    ensures { result ≡ spec.is_registered listeners.now listener.now }
-{
-    listeners.iter().any(|other| listener.is_same(other))
-}
-
 // Adds the listener, where none is the same.
-fn add(listeners: &mut Vec<Listener>, listener: Listener) -> Result<(), OutOfMemory>
-    ensures ok { OnOk result (listeners.new.items ≡ spec.with_listener listeners.old.items
-        listener) }
-    ensures err { OnErr result (listeners.new.items ≡ listeners.old.items) }
+fn add(listeners: &mut IndexSet<Listener>, listener: Listener) -> Result<(), OutOfMemory>
+    ensures ok { OnOk result (listeners.new.keys ≡ spec.with_listener listeners.old.keys listener) }
+    ensures err { OnErr result (listeners.new.keys ≡ listeners.old.keys) }
 {
-    if !is_among(listeners.as_slice(), &listener) {
-        listeners.push(listener)?;
-    }
+    listeners.insert(listener)?;
     Ok(())
 }
 
-// Removes those that are the same.
-fn remove(listeners: &mut Vec<Listener>, listener: &Listener)
-    ensures { listeners.new.items ≡ spec.without_listener listeners.old.items listener.now }
+// Removes the one that is the same.
+fn remove(listeners: &mut IndexSet<Listener>, listener: &Listener)
+    ensures { listeners.new.keys ≡ spec.without_listener listeners.old.keys listener.now }
 {
-    listeners.retain(|other| !listener.is_same(other));
+    listeners.retain(|other| *listener != *other);
 }
 
 // Those that the place takes.
