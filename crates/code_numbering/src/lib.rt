@@ -3,6 +3,7 @@
 
 mod expressions;
 mod functions;
+mod notes;
 mod rows;
 mod shallow;
 mod statements;

@@ -9,6 +9,7 @@ use Rattle.code_table.specs.declared.entry.Entry.{Entry}
 use Rattle.code_table.specs.Declarations.{held, functions_of, variables_of}
 use Rattle.code_table.specs.Kind.{kind_of}
 use Rattle.code_table.specs.Node.{node_at, and_child, part_count, body_of, stmts_parts}
+use Rattle.code_table.specs.Notes.{AreNoted}
 use Rattle.code_table.specs.Rows.{Row, no_number, rows_of, with_parts}
 
 abbrev pub row_of : Entry → Row
@@ -27,6 +28,7 @@ pub record IsTable (t : Table) : Type 0 where
   pub body : t.body ≡ length (with_parts [] (stmts_parts (body_of (code_of t))))
   pub variables : t.variables.items ≡ variables_of (body_of (code_of t))
   pub functions : map declared_as t.functions.items ≡ functions_of (body_of (code_of t))
+  pub notes : AreNoted (code_of t) t.notes
   pub nothing : t.nothing ≡ Nothing
 
 abbrev pub number_in : Option ℕ → ℕ

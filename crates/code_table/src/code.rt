@@ -5,10 +5,12 @@ ghost use Rattle.code_table.specs.Declarations.{name_of, formals_of, functions_o
 ghost use Rattle.code_table.specs.Kind.{kind_of};
 ghost use Rattle.code_table.specs.Table.{Tells, declared_as, row_of};
 ghost use Rattle.code_table.specs.Node.{node_at, and_child, part_count, block_node, body_of, nodes_of, stmts_parts};
+ghost use Rattle.code_table.specs.Notes.{AreNoted};
 ghost use Rattle.code_table.specs.Rows.{no_number, rows_of, with_parts};
 
 use crate::entry::{Entry, entry_at, number_at};
 use crate::kind::Kind;
+use crate::notes::Notes;
 use js_core::{Code, OutOfMemory, Units};
 use std::alloc::Global;
 use std::marker::Model;
@@ -32,6 +34,7 @@ pub struct Table {
     pub body: u32,
     pub variables: Vec<Units>,
     pub functions: Vec<Declared>,
+    pub notes: Option<Notes>,
     // The kind where there is no node.
     pub nothing: Kind,
 }
@@ -75,8 +78,8 @@ impl Drop for FunctionCode {
 }
 
 impl FunctionCode {
-    /// The function, held with its name or without, of which these are the entries of its nodes, the number of its body, and the names and
-    /// functions that it declares.
+    /// The function, held with its name or without, of which these are the entries of its nodes, the number of its body, the names and
+    /// functions that it declares, and what is noted of it, if anything is.
     pub fn new(
         alloc: Global,
         code: &Rc<Code>,
@@ -85,6 +88,7 @@ impl FunctionCode {
         body: u32,
         variables: Vec<Units>,
         functions: Vec<Declared>,
+        notes: Option<Notes>,
     ) -> Result<FunctionCode, OutOfMemory>
         requires rows { map row_of entries.items ≡ rows_of code.now.value }
         requires few { length entries.items ≤ no_number }
@@ -92,6 +96,7 @@ impl FunctionCode {
         requires variables { variables.items ≡ variables_of (body_of code.now.value) }
         requires functions { map declared_as functions.items
             ≡ functions_of (body_of code.now.value) }
+        requires notes { AreNoted (held named code.now.value) notes }
         ensures { IfOk result (λ f. f ≡ held named code.now.value) }
     {
         let table = Table {
@@ -101,6 +106,7 @@ impl FunctionCode {
             body,
             variables,
             functions,
+            notes,
             nothing: Kind::Nothing,
         };
         Ok(FunctionCode {
@@ -210,6 +216,14 @@ impl FunctionCode {
         ensures { map declared_as result.now ≡ functions_of (body_of self.now) }
     {
         self.table.functions.as_slice()
+    }
+
+    /// What is noted of it. Which functions have notes is up to whoever numbers them: those of pages in form that are nested at most so
+    /// deep. What another needs, and how long it is, is told by going through its code.
+    pub fn notes(&self) -> Option<&Notes>
+        ensures { AreNoted self.now (option_copied result) }
+    {
+        self.table.notes.as_ref()
     }
 
     /// The tree. Where the function is held without its name, the tree may have it.

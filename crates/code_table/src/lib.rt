@@ -5,7 +5,9 @@
 mod code;
 mod entry;
 mod kind;
+mod notes;
 
 pub use code::{Declared, FunctionCode};
 pub use entry::Entry;
 pub use kind::{Kind, Names};
+pub use notes::Notes;

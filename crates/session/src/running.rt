@@ -11,7 +11,7 @@ ghost use Rattle.session.specs.Elements.{IsElement};
 use code_numbering::script_code;
 use js_core::{OutOfMemory, Script, Units, ascii_text};
 use js_values::{Event, Line, LineKind, NodeId};
-use page_check::CheckedPage;
+use page_check::{CheckedPage, Kind};
 use page_machine::{Task, run_task};
 use page_start::pristine;
 use page_state::State;
@@ -53,21 +53,45 @@ pub fn load(alloc: Global, page: CheckedPage) -> Result<Session, OutOfMemory>
     })) }
     ensures fresh { IfOk result (λ s. s.is_spent ≡ false) }
 {
+    let noted = is_in_form(&page);
     let (dom, scripts) = page.into_parts();
-    let mut state = pristine(alloc, dom)?;
-    run_scripts(alloc, &mut state, scripts)?;
+    let state = run_page(alloc, dom, scripts, noted)?;
     Ok(Session {
         state,
         is_spent: false,
     })
 }
 
+// Whether the page is one that can be saved: the functions of others need no notes.
+fn is_in_form(page: &CheckedPage) -> bool {
+    page.kind() == Kind::Form
+}
+
+// A page with these nodes, once these scripts have run.
+fn run_page(
+    alloc: Global,
+    dom: dom_tree::Dom,
+    scripts: Vec<Script>,
+    noted: bool,
+) -> Result<State, OutOfMemory>
+    ensures { IfOk result (λ s. s ≡ load_of (record { nodes = dom; scripts = scripts.items })) }
+{
+    let mut state = pristine(alloc, dom)?;
+    run_scripts(alloc, &mut state, scripts, noted)?;
+    Ok(state)
+}
+
 // Runs the scripts in order, each a task of its own.
-fn run_scripts(alloc: Global, state: &mut State, scripts: Vec<Script>) -> Result<(), OutOfMemory>
+fn run_scripts(
+    alloc: Global,
+    state: &mut State,
+    scripts: Vec<Script>,
+    noted: bool,
+) -> Result<(), OutOfMemory>
     ensures { OnOk result (state.new ≡ after_scripts scripts.items state.old) }
 {
     for script in scripts {
-        let code = script_code(alloc, script)?;
+        let code = script_code(alloc, script, noted)?;
         run_task(state, Task::Script(code))?;
     }
     Ok(())
