@@ -1,5 +1,6 @@
 pub mod Bindings
 pub mod Callers
+pub mod Globals
 pub mod Groups
 pub mod Hosted
 pub mod Joining

@@ -1,8 +1,8 @@
 -- The children of a node, gone over from the first of them to the next.
-use Rattle.std.proofs.Common.{◌≡◌, refl, sym, ap, ◌∙◌, ℕ, ◌-◌, ◌<◌, Bool, true, false, not, List, [], ◌∷◌, ◌++◌, append_assoc, Option, Some, None, length, nat_eq, arith}
+use Rattle.std.proofs.Common.{◌≡◌, refl, sym, ap, ◌∙◌, ℕ, ◌<◌, Bool, true, false, not, List, [], ◌∷◌, ◌++◌, append_assoc, Option, Some, None, length, nat_eq}
 use Rattle.std.proofs.Math.Bool.{or-true}
 use Rattle.std.proofs.lemmas.Bool.{and_parts, eq-eqb, eqb-true}
-use Rattle.std.proofs.lemmas.List.{append-nil, length-append}
+use Rattle.std.proofs.lemmas.List.{append-nil}
 use Rattle.dom_tree.proofs.Callers.{child_in, parent_of_child}
 use Rattle.dom_tree.specs.Node.{Nodes, children_at, first_of, has, is_distinct, next_of, next_under, rest_after}
 use Rattle.dom_tree.specs.Sound.{AreTrees}
@@ -77,12 +77,3 @@ module _ (t : Nodes) (trees : AreTrees t) (p : ℕ) (done : List NodeId) (c : No
         is ∙ ap (next_under t c.0) (parent_of_child t trees p c.0 among)
         ∙ ap first_of (ap (rest_after c.0) (sym after.1) ∙ after_middle c done after.0 (ap is_distinct after.1 ∙ trees.distinct p));
   }
-
-  pub split_smaller : length (children_at t p) - length (done ++ c ∷ []) < length (children_at t p) - length done
-  split_smaller =
-      omega (
-        arith,
-        length-append done (c ∷ []),
-        length-append done (c ∷ after.0),
-        ap length after.1,
-      )

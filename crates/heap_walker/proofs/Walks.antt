@@ -1,9 +1,9 @@
 -- How a walk goes on, and that there is one.
-use Rattle.std.proofs.Common.{◌≡◌, ◌⊎◌, inl, inr, refl, sym, ap, subst, ◌∙◌, ℕ, suc, ◌+◌, ◌≤◌, ◌<◌, true, ◌||◌, List, [], ◌∷◌, length, take, drop, get_or, nat_eq, nat_cmp, arith}
+use Rattle.std.proofs.Common.{◌≡◌, ◌⊎◌, inl, inr, refl, sym, ap, subst, ◌∙◌, ℕ, suc, ◌+◌, ◌≤◌, ◌<◌, true, ◌||◌, List, [], ◌∷◌, length, take, get_or, nat_eq, nat_cmp, arith}
 use Rattle.std.proofs.Math.Bool.{or-true}
 use Rattle.std.proofs.lemmas.Bool.{and_parts, eq-eqb, eqb-true, ltb-true, or_cases}
-use Rattle.std.proofs.lemmas.List.{take-append-drop, take_all}
-use Rattle.std.proofs.lemmas.List.Folds.{list_any-append, list_any_at, list_any_more}
+use Rattle.std.proofs.lemmas.List.{take_all}
+use Rattle.std.proofs.lemmas.List.Folds.{list_any_at, list_any_more}
 use Rattle.std.proofs.lemmas.List.Sorted.{IsNonDecreasingBy-from_sort}
 use Rattle.std.proofs.lemmas.Map.Keys.{IsStrictlyIncreasing-from_distinct}
 use Rattle.std.proofs.lemmas.Map.Steps.{length-le_from_distinct_below}
@@ -41,10 +41,6 @@ part_begins s = record {
     from : (k : ℕ) → (is_in k [] ≡ true) ⊎ ((is_thing s k ≡ true) × (is_in k (roots s) ≡ true)) → Reach s k
     from k (inl none) = cc none
     from k (inr new) = root new.0 new.1
-
-within : (q n : ℕ) (ks : List ℕ) → is_in q (take n ks) ≡ true → is_in q ks ≡ true
-within q n ks h =
-    ap (is_in q) (sym (take-append-drop n ks)) ∙ list_any-append (nat_eq q) (take n ks) (drop n ks) ∙ (rw h refl)
 
 pub part_goes_on : (s : Store) (first k : ℕ) (seen new : List ℕ) → first < length seen → k ≡ get_or seen first k → new ≡ joined s seen (links s k) → IsPart s first seen → IsPart s (first + 1) new
 part_goes_on s first k seen new inside is made part = record {

@@ -1,9 +1,8 @@
 -- Weights that are joined.
-use Rattle.std.proofs.Common.{◌≡◌, refl, sym, ap, subst, ◌∙◌, ℕ, ◌+◌, ◌<◌, false, List, [], ◌∷◌, drop, get_or, length, arith}
+use Rattle.std.proofs.Common.{◌≡◌, sym, ap, subst, ◌∙◌, ℕ, ◌+◌, ◌<◌, List, drop, get_or, length, arith}
 use Rattle.object_heap.specs.Chain.{object_at}
-use Rattle.object_heap.specs.Property.{Props}
 use Rattle.page_meaning.specs.Store.{Store}
-use Rattle.heap_walker.specs.Weight.{Adds, Load, load, thing_load, things_load, together, told, written}
+use Rattle.heap_walker.specs.Weight.{Adds, Load, load, thing_load, things_load, together, told}
 use Rattle.heap_walker.specs.declared.weight.Weight.{Weight}
 use Rattle.heap_walker.proofs.Places.{place_of_equal}
 
@@ -31,12 +30,7 @@ none_together a =
     let text : 0 + a.text ≡ a.text = omega arith in
     (λ j. load (things j) (text j))
 
--- all properties of an object that is not made with a `length` are written
-pub all_written : (ps : Props) → written false ps ≡ ps
-all_written [] = refl
-all_written (e ∷ es) = ap (λ l. e ∷ l) (all_written es)
-
--- one of the things, and then those behind it
+-- one of the things, and then those after it
 pub adds_next : (s : Store) (ks xs : List ℕ) (i d : ℕ) (u v w : Weight) → xs ≡ ks → i < length ks → Adds u v (thing_load s (object_at s.heap.objects (get_or xs i d))) → Adds v w (things_load s (drop (i + 1) ks)) → Adds u w (things_load s (drop i ks))
 adds_next s ks xs i d u v w same inside one others =
     subst (λ r. Adds u w (things_load s r)) (sym (place_of_equal ks xs i d same inside)) (adds_both u v w (thing_load s (object_at s.heap.objects (get_or xs i d))) (things_load s (drop (i + 1) ks)) one others)

@@ -1,9 +1,10 @@
 -- What a moved page has to bring along: what each thing refers to, and what can still be reached.
-use Rattle.std.specs.Prelude.{ℕ, Bool, List, [], ◌∷◌, ◌++◌, Option, Some, None, filter, nat_eq, drop, unwrap_or, IsTrue}
+use Rattle.std.specs.Prelude.{ℕ, Bool, List, [], ◌∷◌, ◌++◌, Option, Some, None, filter, nat_eq, unwrap_or, IsTrue, if◌then◌else◌}
 use Rattle.std.specs.List.{list_any}
 use Rattle.std.specs.List.Sorted.{IsStrictlyIncreasing}
 use Rattle.std.specs.Option.{option_map}
 use Rattle.dom_tree.specs.Node.{children_at, parent_at}
+use Rattle.global_names.specs.Names.{names_global}
 use Rattle.js_core.specs.Tree as tree
 use Rattle.js_values.specs.declared.ids.EnvId.{EnvId}
 use Rattle.js_values.specs.declared.ids.NodeId.{NodeId}
@@ -20,7 +21,6 @@ use Rattle.page_host.specs.Host.{Host, object_of_node}
 use Rattle.page_host.specs.declared.listener.Listener.{Listener}
 use Rattle.timer_queue.specs.declared.timer.Live.{Live}
 use Rattle.object_shapes.specs.Links.{is_thing, props_links, proto_links, value_links, values_links}
-use Rattle.page_meaning.specs.Pristine.{built_in_globals}
 use Rattle.page_meaning.specs.Places.{document, window}
 use Rattle.page_meaning.specs.Store.{Store}
 use Rattle.scope_analysis.specs.Needs.{needed_variables}
@@ -89,9 +89,14 @@ links_of s o = proto_links o.proto ++ (class_links s o.class ++ (host_links s.ho
 abbrev pub links : Store → ℕ → List ℕ
 links s k = links_of s (object_at s.heap.objects k)
 
--- the own properties of the global object behind those that it begins with
+-- those of these properties that have no built-in global name
+abbrev pub made_globals : Props → Props
+made_globals [] = []
+made_globals (e ∷ es) = if names_global e.0 then made_globals es else (e ∷ made_globals es)
+
+-- the own properties of the global object that scripts made, by name: a built-in name is none of them, whenever it came
 abbrev pub globals_of : Store → Props
-globals_of s = drop built_in_globals (object_at s.heap.objects window.0).props
+globals_of s = made_globals (object_at s.heap.objects window.0).props
 
 -- the functions of timers
 abbrev pub timers_links : List Live → List ℕ

@@ -21,6 +21,3 @@ pub const BUILT_IN_COUNT: u64 = 122;
 
 /// The place of the first thing in a saved page, after those of the built-in objects and the document's.
 pub const FIRST_THING: u64 = 123;
-
-/// How many properties the global object begins with. Those that scripts make stand after them.
-pub const BUILT_IN_GLOBALS: u64 = 27;

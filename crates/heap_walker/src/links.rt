@@ -1,7 +1,8 @@
 //! What an object refers to, as far as it is a thing.
 
-ghost use Rattle.std.specs.Prelude.{◌≡◌, ◌++◌, OnOk, [], ◌∷◌, drop};
+ghost use Rattle.std.specs.Prelude.{◌≡◌, ◌++◌, OnOk, [], ◌∷◌};
 ghost use Rattle.object_heap.specs.Chain.{object_at};
+ghost use Rattle.object_heap.specs.Property.{Props};
 ghost use Rattle.dom_tree.specs.Node.{parent_at};
 ghost use Rattle.heap_walker.specs.Heard.{AreHeard};
 ghost use Rattle.heap_walker.specs.Things as spec;
@@ -10,15 +11,16 @@ ghost use Rattle.object_shapes.specs.Links as shape;
 ghost use Rattle.page_meaning.specs.Places.{document};
 ghost use Rattle.page_meaning.specs.Properties.{class_at};
 
+use crate::BUILT_IN_COUNT;
 use crate::heard::Heard;
 use crate::needs::needs_of;
 use crate::nodes::{children, parent};
-use crate::{BUILT_IN_COUNT, BUILT_IN_GLOBALS};
 use code_table::FunctionCode;
+use global_names::is_global_name;
 use indexmap::IndexSet;
 use js_core::{OutOfMemory, Units};
 use js_values::{EnvId, NodeId, ObjId, Value};
-use object_heap::Class;
+use object_heap::{Class, Prop};
 use page_host::Listener;
 use page_state::{DOCUMENT, State, WINDOW, further};
 use timer_queue::Live;
@@ -66,17 +68,12 @@ fn see_proto(state: &State, at: ObjId, seen: &mut IndexSet<u64>) -> Result<(), O
     }
 }
 
-// What the own properties of an object from this place on refer to.
-fn see_properties(
-    state: &State,
-    at: ObjId,
-    first: u64,
-    seen: &mut IndexSet<u64>,
-) -> Result<(), OutOfMemory>
+// What the own properties of an object refer to.
+fn see_properties(state: &State, at: ObjId, seen: &mut IndexSet<u64>) -> Result<(), OutOfMemory>
     ensures { OnOk result (seen.new.keys ≡ joined state.now seen.old.keys
-        (shape.props_links (drop first (object_at state.now.heap.objects at.0).props))) }
+        (shape.props_links (object_at state.now.heap.objects at.0).props)) }
 {
-    let mut place = first;
+    let mut place = 0;
     while let Some((_, property)) = state.own_at(at, place) {
         see_value(state, &property.value, seen)?;
         place = further(place, 1)?;
@@ -272,7 +269,7 @@ pub fn see_links(
     see_proto(state, at, seen)?;
     see_class(state, at, seen)?;
     see_host(state, heard, at, seen)?;
-    see_properties(state, at, 0, seen)
+    see_properties(state, at, seen)
 }
 
 // The functions of timers.
@@ -295,13 +292,36 @@ fn see_timers(state: &State, seen: &mut IndexSet<u64>) -> Result<(), OutOfMemory
     see_live(state, state.host().timers(), seen)
 }
 
+// What a property of the global object refers to, if scripts made it; others can follow.
+fn see_global(
+    state: &State,
+    name: &Units,
+    property: &Prop,
+    seen: &mut IndexSet<u64>,
+) -> Result<(), OutOfMemory>
+    ensures { OnOk result ((others : Props) →
+        joined state.now seen.new.keys (shape.props_links (spec.made_globals others))
+        ≡ joined state.now seen.old.keys
+        (shape.props_links (spec.made_globals ((name.now, property.now) ∷ others)))) }
+{
+    if is_global_name(name) {
+        return Ok(());
+    }
+    see_value(state, &property.value, seen)?;
+    Ok(())
+}
+
 // What globals refer to.
-#[tactic(auto, unfolding(page_meaning::specs::Pristine::built_in_globals))]
 fn see_globals(state: &State, seen: &mut IndexSet<u64>) -> Result<(), OutOfMemory>
     ensures { OnOk result (seen.new.keys ≡ joined state.now seen.old.keys
         (shape.props_links (spec.globals_of state.now))) }
 {
-    see_properties(state, WINDOW, BUILT_IN_GLOBALS, seen)
+    let mut place = 0;
+    while let Some((name, property)) = state.own_at(WINDOW, place) {
+        see_global(state, name, property, seen)?;
+        place = further(place, 1)?;
+    }
+    Ok(())
 }
 
 #[tactic(auto, unfolding(page_meaning::specs::Places::built_in_count))]

@@ -55,12 +55,23 @@ impl Needs {
     }
 }
 
-/// The variables that a function with this code and environment needs from the scopes round it, with their values.
+/// The variables that a function with this code and environment needs from the scopes round it, with their values. Where they are
+/// noted of the code, the work is in proportion to them, else to the code.
 pub fn needs_of(
     state: &State,
     code: &FunctionCode,
     env: Option<EnvId>,
 ) -> Result<Needs, OutOfMemory>
+    ensures { IfOk result (λ needs. needs ≡ spec.needs_of state.now env code.now) }
+{
+    match code.notes() {
+        Some(notes) => bound_values(state, env, notes.needed.as_slice()),
+        None => found_needs(state, code, env),
+    }
+}
+
+// The same, where nothing is noted.
+fn found_needs(state: &State, code: &FunctionCode, env: Option<EnvId>) -> Result<Needs, OutOfMemory>
     ensures { IfOk result (λ needs. needs ≡ spec.needs_of state.now env code.now) }
 {
     let names = needed_names(state.alloc(), code)?;

@@ -1,6 +1,6 @@
 //! What a page weighs that is saved.
 
-ghost use Rattle.std.specs.Prelude.{◌≡◌, ◌∷◌, ◌&&◌, ℕ, List, IfOk, OnOk, bytes_eq, drop, length, max};
+ghost use Rattle.std.specs.Prelude.{◌≡◌, ◌∷◌, ◌&&◌, ℕ, List, IfOk, OnOk, bytes_eq, length, max};
 ghost use Rattle.dom_tree.specs.Node.{node_at};
 ghost use Rattle.js_print.specs.Printing.{code_text};
 ghost use Rattle.object_heap.specs.Chain.{object_at};
@@ -12,12 +12,12 @@ ghost use Rattle.heap_walker.specs.Weight as spec;
 ghost use Rattle.heap_walker.specs.declared.weight.Weight.{Weight as Pure};
 ghost use Rattle.page_meaning.specs.Properties.{class_at};
 
-use crate::BUILT_IN_GLOBALS;
 use crate::heard::Heard;
 use crate::needs::needs_of;
 use crate::reached::{Walked, walk};
 use code_table::FunctionCode;
 use dom_tree::{Content, Dom, Kind};
+use global_names::is_global_name;
 use js_core::{OutOfMemory, Units};
 use js_print::{code_length, unnamed_length};
 use js_values::{EnvId, NodeId, ObjId, Value};
@@ -62,6 +62,19 @@ impl Weight {
             (spec.props_load (spec.written made ((name.now, property.now) ∷ others))) }
     {
         if is_made_length(made, name) {
+            return;
+        }
+        self.add_named(name, &property.value);
+    }
+
+    // A property of the global object, if scripts made it; others can follow.
+    fn add_global(&mut self, name: &Units, property: &Prop)
+        ensures { (others : Props) (w : Pure) →
+            spec.Adds self.new w (spec.props_load (things.made_globals others)) →
+            spec.Adds self.old w
+            (spec.props_load (things.made_globals ((name.now, property.now) ∷ others))) }
+    {
+        if is_global_name(name) {
             return;
         }
         self.add_named(name, &property.value);
@@ -285,12 +298,16 @@ pub fn weight_of(state: &State, walked: &Walked) -> Result<Weight, OutOfMemory>
     Ok(weight)
 }
 
-#[tactic(auto, unfolding(page_meaning::specs::Pristine::built_in_globals), using(crate::proofs::Weights::all_written))]
 fn add_globals(state: &State, weight: &mut Weight) -> Result<(), OutOfMemory>
     ensures { OnOk result (spec.Adds weight.old weight.new
         (spec.props_load (things.globals_of state.now))) }
 {
-    add_properties(state, WINDOW, BUILT_IN_GLOBALS, false, weight)
+    let mut place = 0;
+    while let Some((name, property)) = state.own_at(WINDOW, place) {
+        weight.add_global(name, property);
+        place = further(place, 1)?;
+    }
+    Ok(())
 }
 
 // The document is no thing, but what it has is saved.
@@ -335,7 +352,7 @@ fn add_object(
         (spec.object_load state.now (object_at state.now.heap.objects at.0))) }
 {
     add_class(state, heard, at, weight)?;
-    add_properties(state, at, 0, has_made_length(state.class(at)), weight)?;
+    add_properties(state, at, has_made_length(state.class(at)), weight)?;
     Ok(())
 }
 
@@ -355,19 +372,18 @@ fn has_made_length(class: &Class) -> bool
     }
 }
 
-// The own properties of an object from this place on, as far as they are written.
+// The own properties of an object, as far as they are written.
 fn add_properties(
     state: &State,
     at: ObjId,
-    first: u64,
     made: bool,
     weight: &mut Weight,
 ) -> Result<(), OutOfMemory>
     ensures { OnOk result (spec.Adds weight.old weight.new
         (spec.props_load
-        (spec.written made (drop first (object_at state.now.heap.objects at.0).props)))) }
+        (spec.written made (object_at state.now.heap.objects at.0).props))) }
 {
-    let mut place = first;
+    let mut place = 0;
     while let Some((name, property)) = state.own_at(at, place) {
         weight.add_written(made, name, property);
         place = further(place, 1)?;
@@ -428,6 +444,16 @@ fn add_function(
 
 // How many bytes a function has as an expression, with its name where it is held with it (section 13).
 fn printed_length(alloc: Global, code: &FunctionCode) -> Result<u64, OutOfMemory>
+    ensures { IfOk result (λ bytes. bytes ≡ length (code_text code.now)) }
+{
+    match code.notes() {
+        Some(notes) => Ok(notes.printed),
+        None => found_length(alloc, code),
+    }
+}
+
+// The same, where nothing is noted.
+fn found_length(alloc: Global, code: &FunctionCode) -> Result<u64, OutOfMemory>
     ensures { IfOk result (λ bytes. bytes ≡ length (code_text code.now)) }
 {
     if code.name().is_some() {

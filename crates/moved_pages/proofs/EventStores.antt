@@ -40,7 +40,7 @@ module _ {S : Type 0} (m : Events S) where
       let a = adds s es in
       a.1 ∙ ap (λ ls. m.lines s ++ ls) (sym (ap (λ ls. drop (length (m.lines s)) ls) a.1 ∙ drop-append_seam (m.lines s) a.0))
 
-  -- events after others add behind what those add
+  -- events after others add after what those add
   added_append : (s : S) (es fs : List Event) → added s (es ++ fs) ≡ added s es ++ added (m.run s es) fs
   added_append s es fs =
       ap (λ t. drop (length (m.lines s)) (m.lines t)) (run_append s es fs)

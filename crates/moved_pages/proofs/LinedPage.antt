@@ -97,7 +97,7 @@ plain_text (x ∷ xs) ys b ls =
     ∙ ap (λ (t : List ℕ). space ++ t) (sym (append_assoc (lexeme_text x) after rest))
     ∙ sym (append_assoc space (lexeme_text x ++ after) rest)
 
--- lexemes that end with a semicolon, behind a line end
+-- lexemes that end with a semicolon, after a line end
 line_text : (xs ys : List Lexeme) (w : Bool) (ls : List Bool) →
     lined_after w (line_of (xs ++ mark ∷ []) ++ ls) ((xs ++ mark ∷ []) ++ ys) ≡ 10 ∷ (text_of (xs ++ mark ∷ []) ++ lined_after false ls ys)
 line_text [] ys w ls = refl

@@ -22,7 +22,7 @@ use Rattle.page_check.specs.Rules.{Page}
 use Rattle.page_host.specs.HostNames.{is_handler}
 use Rattle.page_host.specs.Sound.{ArePlain, is_plain}
 use Rattle.page_reader.specs.Elements as read
-use Rattle.page_reader.specs.Elements.{is_allowed, is_attribute, is_own_script, is_script, refused_names}
+use Rattle.page_reader.specs.Elements.{is_allowed, is_attribute, is_script, refused_names}
 use Rattle.page_reader.specs.Forest.{Forest, appended, element_content, grown, joined, next_id, with_all, with_first}
 use Rattle.page_reader.specs.Forest.Forest.{no_trees, element, text, comment}
 use Rattle.page_reader.specs.Pages.{Content as Inside, PageOf, Part, behind_prolog, is_html, misplaced, opens, page, part_of, text_alone, whole}

@@ -10,6 +10,7 @@ use Rattle.object_shapes.proofs.Bound as bound
 use Rattle.object_shapes.proofs.Lists as lists
 use Rattle.object_shapes.proofs.Made as made
 use Rattle.object_shapes.proofs.Stays as stays
+pub use Rattle.object_shapes.proofs.Steps.{built_in_closed}
 
 pub pristine_shaped : PagesBeginShaped
 pristine_shaped = begin.pristine_shaped

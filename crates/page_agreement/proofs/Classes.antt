@@ -25,9 +25,7 @@ use Rattle.rebuild_plan.specs.Events.{event_as, event_of}
 use Rattle.rebuild_plan.specs.Nodes.{node_maker}
 use Rattle.rebuild_plan.specs.declared.statement.Maker.{Maker}
 use Rattle.rebuild_plan.specs.declared.statement.Maker.TheVariants as made
-use Rattle.rebuilding.proofs.Callers.{array_low, error_low, event_low, function_low, head_in, node_low}
-use Rattle.page_agreement.proofs.Known.{AreKnown, IsKnown, left_known, right_known}
-use Rattle.page_agreement.proofs.Moved.{IsResting, event_rel, proto_rel, value_rel, values_rel}
+use Rattle.rebuilding.proofs.Callers.{AreKnown, IsKnown, IsResting, array_low, error_low, event_low, event_rel, function_low, head_in, left_known, node_low, proto_rel, right_known, value_rel, values_rel}
 use Rattle.page_agreement.specs.Agree.{Corresponds, NodesCorrespond, built_in, links_by, pairs}
 
 -- ---- what a maker tells
@@ -140,7 +138,7 @@ module _ (s t : Store) (ks js : List ℕ)
       → ((k l : NodeId) → c ≡ class.Node k → d ≡ class.Node l → NodesCorrespond (pairs ks js) s t k.0 l.0)
       → ((e : EventParts) → c ≡ class.Event e → IsResting e) → ((e : EventParts) → d ≡ class.Event e → IsResting e) → AreAlike c d o.proto p.proto
   alike o p class.Plain class.Plain shape form tags maker told above over one two host tenant nodes rests rest =
-      record { class = plain; proto = proto_rel s t ks js same_place o.proto p.proto (ap proto_told maker) above over }
+      record { class = plain; proto = proto_rel L ks js same_place o.proto p.proto (ap proto_told maker) above over }
   alike o p class.List class.List shape form tags maker told above over one two host tenant nodes rests rest =
       record { class = array; proto = built_proto o.proto p.proto array_prototype shape.0 form.0 array_low }
   alike o p class.Fault class.Fault shape form tags maker told above over one two host tenant nodes rests rest =
@@ -161,9 +159,9 @@ module _ (s t : Store) (ks js : List ℕ)
       let right : AreKnown js ys = right_known js (b.0 ∷ []) ys two in
       record {
         class = bound (same_place a.0 b.0 (one a.0 (head_in a.0 xs)) (two b.0 (head_in b.0 ys)) (ap (λ m. (target_told (moved ks a) m).0) maker))
-            (value_rel s t ks js same_place this that (ap (this_told (moved_value ks this)) maker) (left_known ks (value_links this) (values_links args) left)
+            (value_rel L ks js same_place this that (ap (this_told (moved_value ks this)) maker) (left_known ks (value_links this) (values_links args) left)
             (left_known js (value_links that) (values_links rests_of) right))
-            (values_rel s t ks js same_place args rests_of (ap args_told maker) (right_known ks (value_links this) (values_links args) left)
+            (values_rel L ks js same_place args rests_of (ap args_told maker) (right_known ks (value_links this) (values_links args) left)
             (right_known js (value_links that) (values_links rests_of) right));
         proto = built_proto o.proto p.proto function_prototype shape.0 form.0 function_low;
       }
@@ -171,7 +169,7 @@ module _ (s t : Store) (ks js : List ℕ)
       record { class = node (nodes k l refl refl); proto = built_proto o.proto p.proto node_prototype shape.0 form.0 node_low }
   alike o p (class.Event e) (class.Event f) shape form tags maker told above over one two host tenant nodes rests rest =
       record {
-        class = event (event_rel s t ks js same_place e f (rests e refl) (rest f refl) (ap (λ x. unwrap_or x (event_of ks e)) told) host tenant);
+        class = event (event_rel L ks js same_place e f (rests e refl) (rest f refl) (ap (λ x. unwrap_or x (event_of ks e)) told) host tenant);
         proto = built_proto o.proto p.proto event_prototype shape.0 form.0 event_low;
       }
   alike o p class.Math d shape form tags maker told above over one two host tenant nodes rests rest = absurd shape

@@ -1,14 +1,13 @@
 -- Two pages at rest whose compact pages are equal agree.
-use Rattle.std.proofs.Common.{◌≡◌, ◌⊎◌, inl, inr, refl, sym, ap, subst, ◌∙◌, ℕ, zero, suc, ◌<◌, ◌≤◌, true, false, List, [], ◌∷◌, ◌++◌, Option, Some, None, length, arith}
+use Rattle.std.proofs.Common.{◌≡◌, ◌⊎◌, inl, inr, refl, sym, ap, subst, ◌∙◌, ℕ, zero, suc, ◌<◌, ◌≤◌, true, false, List, [], ◌∷◌, ◌++◌, Option, Some, length, arith}
 use Rattle.std.proofs.lemmas.Bool.{cases_lt, eq-eqb, ne_eqb}
 use Rattle.agreement.proofs.Callers.{built_in_itself}
 use Rattle.agreement.specs.Acts.{HasBuiltIns}
 use Rattle.dom_tree.proofs.Callers.{child_in, parent_in}
 use Rattle.dom_tree.specs.Node.{children_at, is_document, kind_at, node_at, parent_at}
-use Rattle.heap_relations.proofs.Callers.{entries_append}
 use Rattle.heap_relations.specs.Naming.{In, Named, Pair, World, here, named, pair, there}
-use Rattle.heap_relations.specs.Related.{ClassRel, Each, Entries, Links, Maybe, ObjectIds, ObjectRel, PropRel, ValueRel, array, bound, event, fault, math, native, node, none, page, plain, window}
-use Rattle.heap_walker.proofs.Callers.{host_among, made_among, props_among, thing_of as thing_reached}
+use Rattle.heap_relations.specs.Related.{ClassRel, Each, Entries, Links, ObjectRel, PropRel, ValueRel, array, bound, event, fault, math, native, node, page, plain, window}
+use Rattle.heap_walker.proofs.Callers.{among_left, among_right, host_among, made_among, props_among, thing_of as thing_reached}
 use Rattle.heap_walker.specs.Still.{Still}
 use Rattle.heap_walker.specs.Things.{calls_links, class_links, globals_of, heard_at, host_links, is_in, links, needs_of, node_links, nodes_links, parent_links}
 use Rattle.host_relations.specs.Nodes.{NodeIds, NodeRel}
@@ -17,26 +16,25 @@ use Rattle.js_values.specs.declared.ids.EnvId.{EnvId}
 use Rattle.js_values.specs.declared.ids.NodeId.{NodeId}
 use Rattle.object_heap.specs.Chain.{object_at}
 use Rattle.object_heap.specs.Object.{Object}
-use Rattle.object_heap.specs.Property.{Props}
 use Rattle.object_heap.specs.declared.object.Class.{Class}
 use Rattle.object_heap.specs.declared.object.Class.TheVariants as class
 use Rattle.object_heap.specs.declared.object.EventParts.{EventParts}
 use Rattle.object_shapes.specs.Links.{is_thing, proto_links}
 use Rattle.object_shapes.specs.Shapes.{built_in_at}
 use Rattle.page_host.specs.Host.{object_of_node}
-use Rattle.page_meaning.specs.Places as places
 use Rattle.page_meaning.specs.Places.{built_in_count, document, node_prototype}
 use Rattle.page_meaning.specs.Store.{Store}
+use Rattle.rebuild_plan.proofs.Callers.{document_class}
 use Rattle.rebuild_plan.specs.Compact.{compact, maker_as, place_of, thing_of, things_at}
 use Rattle.rebuild_plan.specs.Moved.{first_thing}
 use Rattle.rebuild_plan.specs.Nodes.{node_as, node_of}
-use Rattle.rebuilding.proofs.Callers.{head_in, heads_same, in_left, in_right, node_low, shape_proto, shaped_sent, tails_same, window_props}
-use Rattle.page_agreement.proofs.Built.{begun_is_no_function, document_class, node_is_past}
+use Rattle.rebuilding.proofs.Callers.{AreKnown, IsKnown, IsNodeToo, IsResting, as_made, built_in_alike, head_in, heads_same, needs_rel, node_low, props_rel, shape_proto, shaped_sent, tails_same, windows_alike}
+use Rattle.page_agreement.proofs.Built.{begun_is_no_function, node_is_past}
 use Rattle.page_agreement.proofs.Classes.{AreAlike, alike, built_proto, class_tag, kinds_same, maker_tag, needs_told, tag_told}
 use Rattle.page_agreement.proofs.Hosts.{name_back, name_up, node_back, nodes_apart}
-use Rattle.page_agreement.proofs.Known.{AreKnown, IsKnown, all_young, document_links, global_links, same_place, thing_links, timer_links}
+use Rattle.page_agreement.proofs.Known.{all_young, document_links, global_links, same_place, thing_links, timer_links}
 use Rattle.page_agreement.proofs.Mapped.{entries_map, event_up, ids_up, maybe_map, prop_up, value_up, values_up}
-use Rattle.page_agreement.proofs.Moved.{IsResting, listeners_rel, needs_rel, nodes_rel, props_rel, timers_rel}
+use Rattle.page_agreement.proofs.Moved.{listeners_rel, nodes_rel, timers_rel}
 use Rattle.page_agreement.proofs.Pairs.{first_in, first_of, firsts_are, second_in, second_of, seconds_are, young}
 use Rattle.page_agreement.proofs.Parents.{HasLeft, HasRight, parents_rel}
 use Rattle.page_agreement.proofs.World.{pair_world}
@@ -63,10 +61,6 @@ module _ (s t : Store) (ks js : List ℕ) where
   thing_same (x ∷ xs) (y ∷ ys) a b (there i) e = thing_same xs ys a b i (tails_same e)
 
 -- ---- classes that are related
-
-pub record IsNodeToo (d : Class) : Type 0 where
-  pub node : NodeId
-  pub is : d ≡ class.Node node
 
 node_on_right : (L : Links) (c d : Class) → ClassRel L c d → (p : NodeId) → c ≡ class.Node p → IsNodeToo d
 node_on_right L _ _ (node {n = q} h) p e = record { node = q; is = refl }
@@ -207,16 +201,16 @@ module _ (s t : Store) (ks js : List ℕ) (one : Still s) (two : Still t) (left 
       in
       alike s t ks js by_place o p o.class p.class (one.shaped.made a made_left) (two.shaped.made b made_right)
       (eq-eqb (class_tag o.class) (class_tag p.class) tags) maker (ap (λ x. x.event) w.told)
-      (λ j h. w.from j (made_among s a j (in_left j (proto_links o.proto) (class_links s o.class) h)))
-      (λ j h. w.to j (made_among t b j (in_left j (proto_links p.proto) (class_links t p.class) h)))
-      (λ j h. w.from j (made_among s a j (in_right j (proto_links o.proto) (class_links s o.class) h)))
-      (λ j h. w.to j (made_among t b j (in_right j (proto_links p.proto) (class_links t p.class) h)))
+      (λ j h. w.from j (made_among s a j (among_left j (proto_links o.proto) (class_links s o.class) h)))
+      (λ j h. w.to j (made_among t b j (among_left j (proto_links p.proto) (class_links t p.class) h)))
+      (λ j h. w.from j (made_among s a j (among_right j (proto_links o.proto) (class_links s o.class) h)))
+      (λ j h. w.to j (made_among t b j (among_right j (proto_links p.proto) (class_links t p.class) h)))
       (λ j h. w.from j (host_among s a j h)) (λ j h. w.to j (host_among t b j h)) (λ k l e f. node_pair a b (thing i) k l e f)
       (λ e is. resting s one a made_left e is) (λ e is. resting t two b made_right e is)
 
   told_props : (a b : ℕ) → AreTold a b → Entries (PropRel L) (object_at s.heap.objects a).props (object_at t.heap.objects b).props
   told_props a b w =
-      props_rel s t ks js by_place (object_at s.heap.objects a).props (object_at t.heap.objects b).props (ap (λ x. x.props) w.told)
+      props_rel L ks js by_place (object_at s.heap.objects a).props (object_at t.heap.objects b).props (ap (λ x. x.props) w.told)
       (λ j h. w.from j (props_among s a j h)) (λ j h. w.to j (props_among t b j h))
 
   thing_rel : (a b : ℕ) → In (pair a b) m → ObjectRel L (object_at s.heap.objects a) (object_at t.heap.objects b)
@@ -280,35 +274,21 @@ module _ (s t : Store) (ks js : List ℕ) (one : Still s) (two : Still t) (left 
     props = entries_map (prop_up down) h.props;
   }
 
-  window_rel : ObjectRel L (object_at s.heap.objects places.window.0) (object_at t.heap.objects places.window.0)
-  window_rel =
-      let o : Object = object_at s.heap.objects places.window.0 in
-      let p : Object = object_at t.heap.objects places.window.0 in
-      let first : Props = (built_in_at places.window.0).props in
-      let l = one.shaped.window in
-      let r = two.shaped.window in
-      let built : Entries (PropRel L) first first = entries_map (prop_up down) (built_in_itself built_ins_named places.window.0).props in
-      let others : Entries (PropRel L) (globals_of s) (globals_of t) =
-      props_rel s t ks js by_place (globals_of s) (globals_of t) (ap (λ c. c.globals) same) (global_links s ks one left) (global_links t js two right)
-      in
-      let whole : Entries (PropRel L) o.props p.props =
-      subst (λ ps. Entries (PropRel L) ps p.props) (sym (window_props s l))
-      (subst (λ qs. Entries (PropRel L) (first ++ globals_of s) qs) (sym (window_props t r)) (entries_append built others))
-      in
-      let kind : ClassRel L o.class p.class =
-      subst (λ d. ClassRel L d p.class) (sym l.class) (subst (λ d. ClassRel L class.Window d) (sym r.class) window)
-      in
-      let above : Maybe (ObjectIds L) o.proto p.proto =
-      subst (λ q. Maybe (ObjectIds L) q p.proto) (sym l.proto) (subst (λ q. Maybe (ObjectIds L) None q) (sym r.proto) none)
-      in
-      record { class = kind; proto = above; extensible = l.extensible ∙ sym r.extensible; closed = l.closed ∙ sym r.closed; props = whole }
+  built_in_self : (k : ℕ) → ObjectRel L (built_in_at k) (built_in_at k)
+  built_in_self k = object_down (built_in_at k) (built_in_at k) (built_in_itself built_ins_named k)
+
+  globals_rel : Entries (PropRel L) (globals_of s) (globals_of t)
+  globals_rel =
+      props_rel L ks js by_place (globals_of s) (globals_of t) (ap (λ c. c.globals) same) (global_links s ks one left) (global_links t js two right)
 
   built_in_rel : (k : ℕ) → k < built_in_count → ObjectRel L (object_at s.heap.objects k) (object_at t.heap.objects k)
-  built_in_rel zero low = window_rel
+  built_in_rel zero low = windows_alike L s t one.shaped.window two.shaped.window (built_in_self 0).props globals_rel
   built_in_rel (suc k) low =
-      subst (λ o. ObjectRel L o (object_at t.heap.objects (suc k))) (sym (one.shaped.built_ins (suc k) (omega arith) low))
-      (subst (λ p. ObjectRel L (built_in_at (suc k)) p) (sym (two.shaped.built_ins (suc k) (omega arith) low))
-      (object_down (built_in_at (suc k)) (built_in_at (suc k)) (built_in_itself built_ins_named (suc k))))
+      let past : 0 < suc k = omega arith in
+      built_in_alike L ks js by_place s t (suc k) past low (built_in_self (suc k))
+      (as_made ks (suc k) (object_at s.heap.objects (suc k)) past (one.shaped.built_ins (suc k) past low))
+      (as_made js (suc k) (object_at t.heap.objects (suc k)) past (two.shaped.built_ins (suc k) past low))
+      (ap (λ c. c.changes (suc k)) same)
 
   begun_rel : (k : ℕ) → k < first_thing → ObjectRel L (object_at s.heap.objects k) (object_at t.heap.objects k)
   begun_rel k low = by (cases_lt k built_in_count)
@@ -335,9 +315,9 @@ module _ (s t : Store) (ks js : List ℕ) (one : Still s) (two : Still t) (left 
       let maker : maker_as s ks o.proto (class.Page c e) ≡ maker_as t js p.proto (class.Page d f) =
       sym (ap (maker_as s ks o.proto) first) ∙ ap (λ x. x.maker) w.told ∙ ap (maker_as t js p.proto) second
       in
-      needs_rel s t ks js by_place (needs_of s e c) (needs_of t f d) (ap needs_told maker)
-      (λ j h. w.from j (made_among s a j (in_right j (proto_links o.proto) (class_links s o.class) (subst (λ x. is_in j (class_links s x) ≡ true) (sym first) h))))
-      (λ j h. w.to j (made_among t b j (in_right j (proto_links p.proto) (class_links t p.class) (subst (λ x. is_in j (class_links t x) ≡ true) (sym second) h))))
+      needs_rel L ks js by_place (needs_of s e c) (needs_of t f d) (ap needs_told maker)
+      (λ j h. w.from j (made_among s a j (among_right j (proto_links o.proto) (class_links s o.class) (subst (λ x. is_in j (class_links s x) ≡ true) (sym first) h))))
+      (λ j h. w.to j (made_among t b j (among_right j (proto_links p.proto) (class_links t p.class) (subst (λ x. is_in j (class_links t x) ≡ true) (sym second) h))))
 
   -- ---- nodes
 
@@ -388,8 +368,8 @@ module _ (s t : Store) (ks js : List ℕ) (one : Still s) (two : Still t) (left 
         let down_links = nodes_links s.host.objects cs in
         let low_links = nodes_links t.host.objects ds in
         nodes_rel s t ks js by_place cs ds (child_in s.host.nodes one.shaped.host.sound.nodes.trees a) (child_in t.host.nodes two.shaped.host.sound.nodes.trees b)
-        (ap (λ n. n.children) node_told) (λ n h. from_node n (in_right n up (down_links ++ calls) (in_left n down_links calls h)))
-        (λ n h. to_node n (in_right n above (low_links ++ called) (in_left n low_links called h)))
+        (ap (λ n. n.children) node_told) (λ n h. from_node n (among_right n up (down_links ++ calls) (among_left n down_links calls h)))
+        (λ n h. to_node n (among_right n above (low_links ++ called) (among_left n low_links called h)))
 
     heard_rel : Each (ListenersCorrespond (pairs ks js)) (heard_at a s.host.listeners) (heard_at b t.host.listeners)
     heard_rel =
@@ -400,11 +380,11 @@ module _ (s t : Store) (ks js : List ℕ) (one : Still s) (two : Still t) (left 
         let down_links = nodes_links s.host.objects (children_at s.host.nodes a) in
         let low_links = nodes_links t.host.objects (children_at t.host.nodes b) in
         listeners_rel s t ks js by_place (heard_at a s.host.listeners) (heard_at b t.host.listeners) (ap (λ n. n.listeners) node_told)
-        (λ n h. from_node n (in_right n up (down_links ++ calls) (in_right n down_links calls h)))
-        (λ n h. to_node n (in_right n above (low_links ++ called) (in_right n low_links called h)))
+        (λ n h. from_node n (among_right n up (down_links ++ calls) (among_right n down_links calls h)))
+        (λ n h. to_node n (among_right n above (low_links ++ called) (among_right n low_links called h)))
 
     right_parent : (p : NodeId) → parent_at s.host.nodes a ≡ Some p → HasRight N p.0
-    right_parent p up = by (from_node n (in_left n (parent_links s.host.objects (parent_at s.host.nodes a)) rest among))
+    right_parent p up = by (from_node n (among_left n (parent_links s.host.objects (parent_at s.host.nodes a)) rest among))
       where
         n : ℕ
         n = (object_of_node s.host.objects p).0
@@ -435,7 +415,7 @@ module _ (s t : Store) (ks js : List ℕ) (one : Still s) (two : Still t) (left 
             record { other = too.node.0; linked = node_pair n q.other (thing q.among) p too.node is_node too.is }
 
     left_parent : (q : NodeId) → parent_at t.host.nodes b ≡ Some q → HasLeft N q.0
-    left_parent q up = by (to_node n (in_left n (parent_links t.host.objects (parent_at t.host.nodes b)) rest among))
+    left_parent q up = by (to_node n (among_left n (parent_links t.host.objects (parent_at t.host.nodes b)) rest among))
       where
         n : ℕ
         n = (object_of_node t.host.objects q).0

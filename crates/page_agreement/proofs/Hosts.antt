@@ -15,29 +15,21 @@ use Rattle.host_relations.specs.Nodes.{NodeIds, NodeRel, NodesRel}
 use Rattle.host_relations.specs.Timers.{TimersRel}
 use Rattle.js_values.specs.declared.ids.NodeId.{NodeId}
 use Rattle.object_heap.specs.Chain.{object_at}
-use Rattle.object_heap.specs.declared.object.Class.{Class}
-use Rattle.object_heap.specs.declared.object.Class.TheVariants as class
 use Rattle.page_host.specs.Host.{object_of_node}
 use Rattle.page_host.specs.declared.listener.Listener.{Listener}
 use Rattle.page_meaning.specs.Places.{document}
 use Rattle.page_meaning.specs.Store.{Store}
+use Rattle.rebuild_plan.proofs.Callers.{document_inside}
 use Rattle.timer_queue.specs.Timers.{IsIn}
 use Rattle.timer_queue.specs.declared.timer.Live.{Live}
-use Rattle.page_agreement.proofs.Built.{document_inside}
 use Rattle.page_agreement.proofs.Mapped.{maybe_map}
 use Rattle.page_agreement.proofs.Pairs.{all_pairs, correspond_apart, corresponding, paired}
 use Rattle.page_agreement.proofs.World.{are_nodes, node_paired, pair_world}
 use Rattle.page_agreement.specs.Agree.{Agree, AreReached, Corresponds, ListenersCorrespond, NodesCorrespond, TimersCorrespond, built_in, firsts, seconds}
+use Rattle.rebuilding.proofs.Callers.{node_same}
 
 abbrev nth_node : ℕ → NodeId
 nth_node n = record { 0 = n }
-
-abbrev node_number : Class → ℕ
-node_number (class.Node k) = k.0
-node_number d = 0
-
-same_node : (a c : ℕ) → class.Node (nth_node a) ≡ class.Node (nth_node c) → a ≡ c
-same_node a c e = ap node_number e
 
 module _ (m : List Pair) (s t : Store) (one : Still s) (two : Still t) where
   abbrev W : World
@@ -76,7 +68,7 @@ module _ (m : List Pair) (s t : Store) (one : Still s) (two : Still t) where
   one_node : (s : Store) → Still s → (a c : ℕ) → a < length s.host.nodes → c < length s.host.nodes
       → (object_of_node s.host.objects (nth_node a)).0 ≡ (object_of_node s.host.objects (nth_node c)).0 → a ≡ c
   one_node s still a c first second same =
-      same_node a c (sym (still.shaped.host.object_of a first) ∙ ap (λ n. (object_at s.heap.objects n).class) same ∙ still.shaped.host.object_of c second)
+      node_same (sym (still.shaped.host.object_of a first) ∙ ap (λ n. (object_at s.heap.objects n).class) same ∙ still.shaped.host.object_of c second)
 
   module _ (left : AreReached s (firsts m)) (right : AreReached t (seconds m)) where
     pub nodes_apart : (a b c d : ℕ) → NodesCorrespond m s t a b → NodesCorrespond m s t c d → nat_eq a c ≡ nat_eq b d

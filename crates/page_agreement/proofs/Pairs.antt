@@ -1,13 +1,12 @@
 -- Pairs of things: their sides, and that they are one to one where no thing is twice on a side.
-use Rattle.std.proofs.Common.{◌≡◌, ◌⊎◌, inl, inr, refl, sym, ap, subst, ◌∙◌, ℕ, ◌<◌, ◌≤◌, true, false, not, nat_eq, nat_lt, List, [], ◌∷◌, ◌++◌, length, arith}
-use Rattle.std.proofs.lemmas.Bool.{and_parts, eq-eqb, eqb-true, ltb-true, ne_eqb, not-true, or_cases}
+use Rattle.std.proofs.Common.{◌≡◌, ◌⊎◌, inl, inr, refl, sym, ap, subst, ◌∙◌, ℕ, ◌<◌, ◌≤◌, true, false, not, nat_eq, List, [], ◌∷◌, ◌++◌, length, arith}
+use Rattle.std.proofs.lemmas.Bool.{and_parts, eq-eqb, eqb-true, not-true, or_cases}
 use Rattle.heap_relations.specs.Naming.{In, Pair, here, pair, there}
 use Rattle.heap_walker.proofs.Callers.{thing_of}
 use Rattle.heap_walker.specs.Things.{is_in}
-use Rattle.page_meaning.specs.Places.{built_in_count}
 use Rattle.page_meaning.specs.Store.{Store}
 use Rattle.rebuild_plan.specs.Moved.{first_thing}
-use Rattle.rebuilding.proofs.Callers.{below_named, head_in, in_either, is_same, member_left, member_right, same_below, tail_in}
+use Rattle.rebuilding.proofs.Callers.{below_named, differ, head_in, in_either, is_same, member_left, member_right, same_below, tail_in, thing_inside}
 use Rattle.page_agreement.specs.Agree.{AreReached, Corresponds, built_in, firsts, is_once, pairs, seconds, thing}
 
 -- ---- sides
@@ -61,9 +60,6 @@ seconds_are (k ∷ ks) (j ∷ js) same = ap (λ xs. j ∷ xs) (seconds_are ks js
 
 -- ---- one to one
 
-differ : (a b c d : ℕ) → (a ≡ c → ⊥) → (b ≡ d → ⊥) → nat_eq a c ≡ nat_eq b d
-differ a b c d far away = ne_eqb a c far ∙ sym (ne_eqb b d away)
-
 -- one that is in the rest is not the first
 apart : (k j : ℕ) (ks : List ℕ) → is_once (k ∷ ks) ≡ true → is_in j ks ≡ true → k ≡ j → ⊥
 apart k j ks once found same =
@@ -75,9 +71,9 @@ pub pairs_apart : (m : List Pair) → is_once (firsts m) ≡ true → is_once (s
 pairs_apart [] one two a b c d i j = elim i [ ]
 pairs_apart (p ∷ m) one two a b c d here here = eq-eqb a a refl ∙ sym (eq-eqb b b refl)
 pairs_apart (p ∷ m) one two a b c d here (there j) =
-    differ a b c d (apart a c (firsts m) one (first_in m c d j)) (apart b d (seconds m) two (second_in m c d j))
+    differ a c b d (apart a c (firsts m) one (first_in m c d j)) (apart b d (seconds m) two (second_in m c d j))
 pairs_apart (p ∷ m) one two a b c d (there i) here =
-    differ a b c d (λ e. apart c a (firsts m) one (first_in m a b i) (sym e)) (λ e. apart d b (seconds m) two (second_in m a b i) (sym e))
+    differ a c b d (λ e. apart c a (firsts m) one (first_in m a b i) (sym e)) (λ e. apart d b (seconds m) two (second_in m a b i) (sym e))
 pairs_apart (p ∷ m) one two a b c d (there i) (there j) =
     pairs_apart m (and_parts (not (is_in p.one (firsts m))) (is_once (firsts m)) one).1
     (and_parts (not (is_in p.two (seconds m))) (is_once (seconds m)) two).1 a b c d i j
@@ -85,24 +81,19 @@ pairs_apart (p ∷ m) one two a b c d (there i) (there j) =
 -- ---- things
 
 pub young : (s : Store) (ks : List ℕ) → AreReached s ks → (k : ℕ) → is_in k ks ≡ true → first_thing ≤ k
-young s ks all k found =
-    let over : built_in_count < k =
-    ltb-true built_in_count k (and_parts (nat_lt built_in_count k) (nat_lt k (length s.heap.objects)) (thing_of s k (all.sound k found))).0
-    in
-    omega (arith, over)
+young s ks all k found = (thing_inside s k (thing_of s k (all.sound k found))).0
 
 pub thing_there : (s : Store) (ks : List ℕ) → AreReached s ks → (k : ℕ) → is_in k ks ≡ true → k < length s.heap.objects
-thing_there s ks all k found =
-    ltb-true k (length s.heap.objects) (and_parts (nat_lt built_in_count k) (nat_lt k (length s.heap.objects)) (thing_of s k (all.sound k found))).1
+thing_there s ks all k found = (thing_inside s k (thing_of s k (all.sound k found))).1
 
 module _ (m : List Pair) (s t : Store) (left : AreReached s (firsts m)) (right : AreReached t (seconds m)) where
   pub correspond_apart : (a b c d : ℕ) → Corresponds m a b → Corresponds m c d → nat_eq a c ≡ nat_eq b d
   correspond_apart a b c d (built_in one low) (built_in two small) = rw (one, two) refl
   correspond_apart a b c d (built_in one low) (thing j) =
-      differ a b c d (λ e. absurd (omega (arith, e, low, young s (firsts m) left c (first_in m c d j))))
+      differ a c b d (λ e. absurd (omega (arith, e, low, young s (firsts m) left c (first_in m c d j))))
       (λ e. absurd (omega (arith, e, low, one, young t (seconds m) right d (second_in m c d j))))
   correspond_apart a b c d (thing i) (built_in two small) =
-      differ a b c d (λ e. absurd (omega (arith, e, small, young s (firsts m) left a (first_in m a b i))))
+      differ a c b d (λ e. absurd (omega (arith, e, small, young s (firsts m) left a (first_in m a b i))))
       (λ e. absurd (omega (arith, e, small, two, young t (seconds m) right b (second_in m a b i))))
   correspond_apart a b c d (thing i) (thing j) = pairs_apart m left.once right.once a b c d i j
 

@@ -13,6 +13,7 @@ use Rattle.page_host.specs.Host.{object_of_node}
 use Rattle.page_host.specs.declared.listener.Listener.{Listener}
 use Rattle.page_meaning.specs.Store.{Store}
 use Rattle.rebuild_plan.specs.Moved.{first_thing}
+pub use Rattle.rebuilding.specs.Sites.{pairs}
 use Rattle.timer_queue.specs.declared.timer.Live.{Live}
 
 -- ---- what stands for what
@@ -25,12 +26,6 @@ firsts (p ∷ m) = p.one ∷ firsts m
 abbrev pub seconds : List Pair → List ℕ
 seconds [] = []
 seconds (p ∷ m) = p.two ∷ seconds m
-
--- those at the same places of two lists
-abbrev pub pairs : List ℕ → List ℕ → List Pair
-pairs [] js = []
-pairs (k ∷ ks) [] = []
-pairs (k ∷ ks) (j ∷ js) = pair k j ∷ pairs ks js
 
 -- none is twice in the list
 abbrev pub is_once : List ℕ → Bool

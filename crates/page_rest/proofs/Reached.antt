@@ -1,9 +1,10 @@
 -- What can be reached in a page that agrees with itself names itself, where no function was rebuilt.
-use Rattle.std.proofs.Common.{◌≡◌, ◌⊎◌, inl, inr, refl, subst, ℕ, zero, suc, ◌≤◌, Bool, true, false, ◌||◌, nat_eq, List, [], ◌∷◌, ◌++◌, Option, Some, None, drop, arith}
+use Rattle.std.proofs.Common.{◌≡◌, ◌⊎◌, inl, inr, refl, subst, ℕ, ◌≤◌, Bool, true, false, ◌||◌, nat_eq, List, [], ◌∷◌, ◌++◌, Option, Some, None, if◌then◌else◌, arith}
 use Rattle.std.proofs.lemmas.Bool.Decides.{nat_tests}
 use Rattle.std.specs.Option.{option_map}
 use Rattle.std.specs.Prelude.{unwrap_or}
 use Rattle.dom_tree.specs.Node.{children_at, node_at}
+use Rattle.global_names.specs.Names.{names_global}
 use Rattle.timer_queue.specs.declared.timer.Live.{Live}
 use Rattle.agreement.proofs.Callers.{bound_read, linked_read}
 use Rattle.agreement.specs.Acts.{StoreRel}
@@ -11,7 +12,7 @@ use Rattle.heap_relations.proofs.Callers as heap
 use Rattle.heap_relations.specs.Naming.{In, Named, World, here, named, there}
 use Rattle.heap_relations.specs.Related as related
 use Rattle.heap_relations.specs.Related.{ClassRel, Each, EventRel, Maybe, ObjectIds, array, bound, each, event, fault, math, native, no_more, node, none, page, plain, some}
-use Rattle.heap_walker.specs.Things.{Reach, bound_value, bound_values, calls_links, class_links, globals_of, host_links, is_in, link, links, needs_links, node_links, nodes_links, parent_links, root, roots, timers_links}
+use Rattle.heap_walker.specs.Things.{Reach, bound_value, bound_values, calls_links, class_links, globals_of, host_links, is_in, link, links, made_globals, needs_links, node_links, nodes_links, parent_links, root, roots, timers_links}
 use Rattle.host_relations.specs.Hosts.{ListenerRel}
 use Rattle.host_relations.specs.Linked.{Linked}
 use Rattle.host_relations.specs.Nodes.{NodeIds, NodeRel}
@@ -30,7 +31,6 @@ use Rattle.object_heap.specs.declared.object.Class.{Class}
 use Rattle.object_heap.specs.declared.object.Class.TheVariants as class
 use Rattle.object_heap.specs.declared.object.EventParts.{EventParts}
 use Rattle.object_shapes.specs.Links.{event_links, made_links, parts_links, props_links, proto_links, value_links}
-use Rattle.page_meaning.specs.Pristine.{built_in_globals}
 use Rattle.page_host.specs.Host.{object_of_node}
 use Rattle.page_host.specs.declared.listener.Listener.{Listener}
 use Rattle.page_meaning.specs.Places.{built_in_count, document, window}
@@ -51,11 +51,6 @@ in_rest : {k : ℕ} (xs ys : List ℕ) → In k ys → In k (xs ++ ys)
 in_rest [] ys i = i
 in_rest (x ∷ xs) ys i = there (in_rest xs ys i)
 
-not_dropped : {k : ℕ} (n : ℕ) (ps : Props) → In k (props_links (drop n ps)) → In k (props_links ps)
-not_dropped zero ps i = i
-not_dropped (suc n) [] i = i
-not_dropped (suc n) (p ∷ ps) i = in_rest (value_links p.1.value) (props_links ps) (not_dropped n ps i)
-
 either : {k : ℕ} (xs ys : List ℕ) → In k (xs ++ ys) → In k xs ⊎ In k ys
 either [] ys i = inr i
 either (x ∷ xs) ys here = inl here
@@ -68,6 +63,23 @@ either (x ∷ xs) ys (there i) = later (either xs ys i)
 in_first : {k : ℕ} (xs ys : List ℕ) → In k xs → In k (xs ++ ys)
 in_first _ ys here = here
 in_first (x ∷ xs) ys (there i) = there (in_first xs ys i)
+
+in_joined : {k : ℕ} (xs ys zs : List ℕ) → (In k ys → In k zs) → In k (xs ++ ys) → In k (xs ++ zs)
+in_joined {k = k} xs ys zs up i = by (either xs ys i)
+  where
+    by : In k xs ⊎ In k ys → In k (xs ++ zs)
+    by (inl h) = in_first xs zs h
+    by (inr h) = in_rest xs zs (up h)
+
+-- what the globals among properties refer to is among what all refer to
+globals_in : {k : ℕ} (ps : Props) → In k (props_links (made_globals ps)) → In k (props_links ps)
+globals_in [] i = i
+globals_in {k = k} (p ∷ ps) i = by (names_global p.0) i (globals_in ps)
+  where
+    by : (b : Bool) → In k (props_links (if b then made_globals ps else (p ∷ made_globals ps)))
+        → (In k (props_links (made_globals ps)) → In k (props_links ps)) → In k (props_links (p ∷ ps))
+    by true h later = in_rest (value_links p.1.value) (props_links ps) (later h)
+    by false h later = in_joined (value_links p.1.value) (props_links (made_globals ps)) (props_links ps) later h
 
 -- the global object is built in
 some_built_in : window.0 ≤ built_in_count
@@ -174,7 +186,7 @@ module _ {W : World} {s : Store} (g : StoreRel W s s) (closed : W.opens ≡ fals
   globals_named : (k : ℕ) → In k (props_links (globals_of s)) → Named W k k
   globals_named k i =
       let o = object_at s.heap.objects window.0 in
-      let own : In k (props_links o.props) = not_dropped built_in_globals o.props i in
+      let own : In k (props_links o.props) = globals_in o.props i in
       linked_read g (g.built_ins window.0 some_built_in) k (in_rest (made_links o) (event_links o.class ++ props_links o.props) (in_rest (event_links o.class) (props_links o.props) own))
 
   root_named : (k : ℕ) → In k (roots s) → Named W k k

@@ -10,7 +10,7 @@ use Rattle.agreement.specs.Opened.{is_sealed}
 use Rattle.code_table.specs.Declarations.{name_of}
 use Rattle.heap_relations.proofs.Callers as heap
 use Rattle.heap_relations.specs.Naming as naming
-use Rattle.heap_relations.specs.Naming.{Base, BothRel, Constant, Frame, In, Kept, NameRel, Named, Round, Sealed, Slot, SlotRel, World, absent, based, captured, constant, copied, env_id, free, held, inside, named, outermost}
+use Rattle.heap_relations.specs.Naming.{Base, Frame, In, Kept, NameRel, Round, Sealed, Slot, SlotRel, World, absent, based, captured, constant, copied, env_id, free, held, inside, named, outermost}
 use Rattle.heap_walker.specs.Remade.{CanBeRemade}
 use Rattle.heap_walker.specs.Still.{OwnName, has_name}
 use Rattle.heap_walker.specs.Things.{bound_value, bound_values, needs_links}

@@ -5,7 +5,7 @@ pub four_parts : {A : Type 0} (before a b c d one two three four : List A) → o
 four_parts before a b c d one two three four e f g h =
     h ∙ ap (λ l. l ++ d) (g ∙ ap (λ l. l ++ c) (f ∙ ap (λ l. l ++ b) e)) ∙ simp append_assoc
 
--- a call of three arguments: its front up to the first separator, and what follows
+-- a call of three arguments: its prefix up to the first separator, and what follows
 pub five_parts : {A : Type 0} (before start first name separator last close one two three four five : List A)
     → one ≡ before ++ (start ++ (first ++ separator)) → two ≡ one ++ name → three ≡ two ++ separator → four ≡ three ++ last → five ≡ four ++ close
     → five ≡ before ++ (start ++ ((first ++ (separator ++ (name ++ (separator ++ (last ++ []))))) ++ close))

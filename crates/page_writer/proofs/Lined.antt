@@ -79,7 +79,7 @@ maker_load (made.Text x) = text_load x
 maker_load (made.Comment x) = text_load x
 maker_load m = load 0 0
 
--- the lexemes of what makes a thing, behind `=`
+-- the lexemes of what makes a thing, after `=`
 abbrev pub made_part : Maker → List Lexeme
 made_part m = placed Part (maker_expr m) (expr_lexemes (maker_expr m))
 
@@ -514,7 +514,7 @@ prevent_wide at =
       mark_wide punct.Semicolon refl,
     )
 
--- an attribute of a property behind others
+-- an attribute of a property after others
 abbrev attribute : List ℕ → Bool → List Lexeme
 attribute x b = Punct punct.Comma ∷ Text x ∷ Punct punct.Colon ∷ boolean_lexeme b ∷ []
 

@@ -2,8 +2,7 @@
 use Rattle.std.proofs.Common.{◌≡◌, ◌⊎◌, inl, inr, refl, sym, ap, subst, ◌∙◌, ℕ, ◌<◌, ◌≤◌, Bool, true, false, nat_eq, List, [], ◌∷◌, ◌++◌, length, Option, Some, None, arith}
 use Rattle.std.specs.Prelude.{⊤, nat_lt}
 use Rattle.std.specs.List.{position}
-use Rattle.std.proofs.lemmas.Bool.{and_parts, cases_lt, eq-eqb, eqb-true, ltb-true, or_cases, or_left, or_right}
-use Rattle.std.proofs.lemmas.List.Folds.{list_any-append}
+use Rattle.std.proofs.lemmas.Bool.{and_parts, cases_lt, eq-eqb, eqb-true, ltb-true, or_left}
 use Rattle.std.proofs.lemmas.List.Quantifiers.{position-Some}
 use Rattle.dom_tree.proofs.Callers.{child_in}
 use Rattle.dom_tree.specs.Node.{children_at, has, is_document, kind_at, parent_at}
@@ -21,9 +20,9 @@ use Rattle.page_meaning.specs.Places.{built_in_count, document}
 use Rattle.page_meaning.specs.Store.{Store}
 use Rattle.heap_walker.specs.Still.{Still}
 use Rattle.heap_walker.specs.Things.{IsWalk, calls_links, heard_at, host_links, is_in, links, nodes_links, parent_links}
-use Rattle.heap_walker.proofs.Callers.{document_among, host_among, links_in_walk, roots_in_walk, thing_of}
+use Rattle.heap_walker.proofs.Callers.{among_left, among_right, document_among, host_among, links_in_walk, roots_in_walk, thing_of}
 use Rattle.object_shapes.specs.Links.{proto_links}
-use Rattle.rebuild_plan.proofs.Callers.{built_in_is_no_node, number_at}
+use Rattle.rebuild_plan.proofs.Callers.{built_in_is_no_node, node_linked, number_at}
 use Rattle.rebuild_plan.specs.Moved.{first_thing, moved, moved_proto}
 use Rattle.page_writer.proofs.Costs.{named}
 use Rattle.page_writer.proofs.Spelled.{document_at_narrow, thing_at_narrow}
@@ -42,28 +41,8 @@ abbrev pub IsNoDocument : Store → Class → Type 0
 IsNoDocument s (class.Node k) = is_document (kind_at s.host.nodes k.0) ≡ false
 IsNoDocument s c = ⊤
 
-among_left : (j : ℕ) (xs ys : List ℕ) → is_in j xs ≡ true → is_in j (xs ++ ys) ≡ true
-among_left j xs ys h = list_any-append (nat_eq j) xs ys ∙ or_left (is_in j xs) (is_in j ys) h
-
-among_right : (j : ℕ) (xs ys : List ℕ) → is_in j ys ≡ true → is_in j (xs ++ ys) ≡ true
-among_right j xs ys h = list_any-append (nat_eq j) xs ys ∙ or_right (is_in j xs) (is_in j ys) h
-
 first_in : (j : ℕ) (ks : List ℕ) → is_in j (j ∷ ks) ≡ true
 first_in j ks = or_left (nat_eq j j) (is_in j ks) (eq-eqb j j refl)
-
--- the object of a node is among those of the nodes
-object_among : (objects : List ObjId) (c : NodeId) (l : List NodeId) → has c.0 l ≡ true → is_in (object_of_node objects c).0 (nodes_links objects l) ≡ true
-object_among objects c [] h = cc h
-object_among objects c (d ∷ l) h = by (or_cases (nat_eq c.0 d.0) (has c.0 l) h) (λ g. object_among objects c l g)
-  where
-    at : ℕ
-    at = (object_of_node objects c).0
-
-    by : (nat_eq c.0 d.0 ≡ true) ⊎ (has c.0 l ≡ true) → (has c.0 l ≡ true → is_in at (nodes_links objects l) ≡ true) → is_in at (nodes_links objects (d ∷ l)) ≡ true
-    by (inl e) others =
-        let same : at ≡ (object_of_node objects d).0 = ap (λ n. (object_of_node objects (record { 0 = n })).0) (eqb-true c.0 d.0 e) in
-        or_left (nat_eq at (object_of_node objects d).0) (is_in at (nodes_links objects l)) (eq-eqb at (object_of_node objects d).0 same)
-    by (inr g) others = or_right (nat_eq at (object_of_node objects d).0) (is_in at (nodes_links objects l)) (others g)
 
 module _ (s : Store) (things : List ℕ) (still : Still s) (walk : IsWalk s things) (few : length things ≤ 75000) where
   -- the document, or a thing
@@ -77,7 +56,7 @@ module _ (s : Store) (things : List ℕ) (still : Still s) (walk : IsWalk s thin
   near_node j c known is = by (position (nat_eq j) things) refl known
     where
       last : j < first_thing → (j < built_in_count) ⊎ (built_in_count ≤ j) → j ≡ document.0
-      last low (inl built) = absurd (built_in_is_no_node s things still walk j c built is)
+      last low (inl built) = absurd (built_in_is_no_node s still j c built is)
       last low (inr after) = omega (arith, low, after)
 
       by : (o : Option ℕ) → position (nat_eq j) things ≡ o → IsKnown j → named (moved things (record { 0 = j })) ≤ 10
@@ -99,7 +78,7 @@ module _ (s : Store) (things : List ℕ) (still : Still s) (walk : IsWalk s thin
       let up : List ℕ = parent_links s.host.objects (parent_at s.host.nodes p.0) in
       let down : List ℕ = nodes_links s.host.objects (children_at s.host.nodes p.0) in
       let calls : List ℕ = calls_links (heard_at p.0 s.host.listeners) in
-      let below : is_in at.0 down ≡ true = object_among s.host.objects c (children_at s.host.nodes p.0) child in
+      let below : is_in at.0 down ≡ true = node_linked s.host.objects c (children_at s.host.nodes p.0) child in
       let here : is_in at.0 (host_links s.host (class.Node p)) ≡ true = among_right at.0 up (down ++ calls) (among_left at.0 down calls below) in
       let linked : is_in at.0 (links s k) ≡ true = host_among s k at.0 (ap (λ b. is_in at.0 (host_links s.host b)) is ∙ here) in
       near_node at.0 c (known_link k at.0 saved linked) (still.shaped.host.object_of c.0 (child_in s.host.nodes still.shaped.host.sound.nodes.trees p.0 c.0 child))

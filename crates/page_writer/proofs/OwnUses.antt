@@ -9,7 +9,7 @@ use Rattle.std.proofs.lemmas.Slice.Eq.{bytes_eq-Decides}
 use Rattle.built_in_paths.specs.Paths.{names_of, path_of}
 use Rattle.page_meaning.specs.Places.{document}
 use Rattle.js_core.specs.Tree as tree
-use Rattle.js_core.specs.Tree.{call, code, expr, func, member, name, no_exprs, then_stmt}
+use Rattle.js_core.specs.Tree.{func, member, name, then_stmt}
 use Rattle.js_values.specs.Throw.{kind_name}
 use Rattle.js_values.specs.declared.ids.ObjId.{ObjId}
 use Rattle.js_values.specs.declared.value.Value.{Value}

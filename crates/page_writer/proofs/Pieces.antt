@@ -15,7 +15,7 @@ use Rattle.page_writer.specs.declared.save_fault.NotSaved.TheVariants.{TooMany, 
 
 -- ---- what a sink takes
 
--- a front of a piece is a front of the piece and what follows
+-- a prefix of a piece is a prefix of the piece and what follows
 front_of_more : (n : ℕ) (p more : List ℕ) → (m : ℕ) × (take n p ≡ take m (p ++ more))
 front_of_more zero p more = (0, refl)
 front_of_more (suc n) [] more = (0, refl)
@@ -27,7 +27,7 @@ front_before (Some old) (Some new) p more h = let f = front_of_more h.0 p more i
 front_before None (Some new) p more h = absurd h
 front_before (Some old) None p more h = absurd h
 
--- a front of what follows, behind a whole piece
+-- a prefix of what follows, after a whole piece
 behind_piece : (n : ℕ) (p more : List ℕ) → (m : ℕ) × (p ++ take n more ≡ take m (p ++ more))
 behind_piece n [] more = (n, refl)
 behind_piece n (u ∷ p) more = let h = behind_piece n p more in (suc h.0, ap (λ (w : List ℕ). u ∷ w) h.1)

@@ -116,7 +116,7 @@ window_narrow = omega arith
 
 -- ---- values
 
--- behind a minus sign
+-- after a minus sign
 minus_wide : (n : ℕ) → n ≤ 9007199254740991
     → wide (Punct punct.MinusSign ∷ Number (Some (pos n)) ∷ []) ≤ 18
 minus_wide n small =

@@ -7,7 +7,7 @@ use Rattle.built_in_paths.specs.Paths.{names_of, path_of}
 use Rattle.page_meaning.specs.Places.{document}
 use Rattle.js_core.specs.Height.{code_height, expr_height, exprs_height}
 use Rattle.js_core.specs.Tree as tree
-use Rattle.js_core.specs.Tree.{name, bool, func, member, index, literal, no_stmts, text, then_stmt}
+use Rattle.js_core.specs.Tree.{name, bool, func, member, text}
 use Rattle.js_grammar.specs.Syntax.{AreExprs, IsExpr, IsStmt, is_identifier}
 use Rattle.js_lexer.specs.Written.{is_unit}
 use Rattle.js_values.specs.declared.ids.ObjId.{ObjId}

@@ -18,7 +18,7 @@ use Rattle.page_writer.specs.References.{document_expr, path_expr, path_from, re
 
 -- ---- paths
 
--- names, each behind a dot
+-- names, each after a dot
 abbrev behind_dots : List (List ℕ) → List Lexeme
 behind_dots [] = []
 behind_dots (x ∷ xs) = Punct punct.Dot ∷ Name x ∷ behind_dots xs

@@ -182,7 +182,7 @@ kind_is_identifier k = word_is_identifier (kind_name k) (kind_is_free k)
 
 -- ---- the names of paths
 
--- a free word, and at most two words behind it
+-- a free word, and at most two words after it
 unfoldable pub are_path_names : List (List ℕ) → Bool
 are_path_names [] = false
 are_path_names (x ∷ xs) = (is_free_word x && list_all is_word xs) && nat_le (length xs) 2

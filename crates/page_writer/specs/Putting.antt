@@ -8,7 +8,7 @@ use Rattle.page_writer.specs.declared.save_fault.NotSaved.{NotSaved}
 use Rattle.js_core.specs.declared.memory.Failure.TheVariants.{Cause, OutOfMemory}
 use Rattle.page_writer.specs.declared.save_fault.NotSaved.TheVariants.{WriteFault}
 
--- the whole of it was put, or after a fault a front of it, which may be nothing; it is never too large
+-- the whole of it was put, or after a fault a prefix of it, which may be nothing; it is never too large
 abbrev pub Puts : SinkSeen → SinkSeen → List ℕ → Result (Unit {0}) (Failure NotSaved) → Type 0
 Puts old new text (Ok done) = Takes old.taken new.taken text × (new.faults ≡ old.faults)
 Puts old new text (Err (Cause WriteFault)) = TakesFront old.taken new.taken text × (Rose old.faults new.faults × (old.faults ≤ new.faults))

@@ -19,7 +19,7 @@ number_expr n = num (Some (pos n))
 abbrev pub thing_expr : ℕ → tree.Expr
 thing_expr n = index (name (codes "$$")) (number_expr n)
 
--- names behind dots
+-- names after dots
 abbrev pub path_from : tree.Expr → List (List ℕ) → tree.Expr
 path_from e [] = e
 path_from e (x ∷ xs) = path_from (member e x) xs

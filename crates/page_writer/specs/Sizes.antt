@@ -27,9 +27,9 @@ pub data Judged (w : Weight) (old new : SinkSeen) (page : List ℕ) : Result (Un
   -- it is too large, and nothing was put
   many : things_limit < w.things → new ≡ old → Judged w old new page (Err (Cause (TooMany w)))
   long : w.things ≤ things_limit → text_limit < w.text → new ≡ old → Judged w old new page (Err (Cause (TooLong w)))
-  -- a front of the page was put
+  -- a prefix of the page was put
   fault : w.things ≤ things_limit → w.text ≤ text_limit → TakesFront old.taken new.taken page → Rose old.faults new.faults → Judged w old new page (Err (Cause WriteFault))
-  -- want of memory, after a front of the page or nothing; of a page that is too large nothing was put
+  -- out of memory, after a prefix of the page or nothing; of a page that is too large nothing was put
   memory : (things_limit < w.things → new ≡ old) → (text_limit < w.text → new ≡ old) → TakesFront old.taken new.taken page → Judged w old new page (Err OutOfMemory)
 
 -- the answer of saving, by what can be reached

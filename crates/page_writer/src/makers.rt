@@ -31,7 +31,7 @@ pub fn push_object_function(
     push_word(alloc, word, out)
 }
 
-/// Appends what makes a thing, as it stands behind `=`.
+/// Appends what makes a thing, as it stands after `=`.
 pub fn push_maker(alloc: Global, maker: &Maker, out: &mut Vec<Lexeme>) -> Result<(), OutOfMemory>
     ensures { OnOk result (out.new.items ≡ out.old.items
         ++ placed Part (spec.maker_expr maker.now) (expr_lexemes (spec.maker_expr maker.now))) }

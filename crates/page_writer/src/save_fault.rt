@@ -10,9 +10,9 @@ pub enum NotSaved {
     TooMany(Weight),
     /// It has more text than a saved page may have.
     TooLong(Weight),
-    /// The output failed, after a front of the page was put.
+    /// The output failed, after a prefix of the page was put.
     WriteFault,
 }
 
-/// Why a page is not saved, or not whole: its cause, or want of memory, after a front of the page was put or nothing.
+/// Why a page is not saved, or not whole: its cause, or out of memory, after a prefix of the page was put or nothing.
 pub type SaveFault = Failure<NotSaved>;

@@ -199,7 +199,7 @@ fn push_value_field(alloc: Global, value: &Value, out: &mut Vec<Lexeme>) -> Resu
     push_value(alloc, value, out)
 }
 
-// An attribute behind a comma.
+// An attribute after a comma.
 fn push_attribute(
     alloc: Global,
     name: &[u8],

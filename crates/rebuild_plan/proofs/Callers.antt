@@ -3,7 +3,8 @@ use Rattle.rebuild_plan.proofs.Counted as counted
 use Rattle.rebuild_plan.proofs.Standing as standing
 use Rattle.rebuild_plan.specs.Count.{PlansAreFew}
 use Rattle.rebuild_plan.specs.Stands.{PlansStand}
-pub use Rattle.rebuild_plan.proofs.Family.{all_kids, all_nodes, built_in_is_no_node, document_class, kids, kids_as, kids_few, node_linked, nodes_as}
+pub use Rattle.rebuild_plan.proofs.Changing.{none_changed, none_changed_at_rest}
+pub use Rattle.rebuild_plan.proofs.Family.{all_kids, all_nodes, built_in_is_no_node, document_class, document_inside, kids, kids_as, kids_few, node_linked, nodes_as}
 pub use Rattle.rebuild_plan.proofs.Standing.{number_at}
 
 -- the statements of a plan name only what already stands

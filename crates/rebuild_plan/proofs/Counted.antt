@@ -12,7 +12,7 @@ use Rattle.dom_tree.specs.declared.content.Content.{Content}
 use Rattle.dom_tree.specs.declared.content.Kind.{Kind}
 use Rattle.dom_tree.specs.declared.content.Kind.TheVariants as kind
 use Rattle.heap_walker.specs.Things.{globals_of, heard_at}
-use Rattle.heap_walker.specs.Weight.{attributes_load, class_load, document_load, greatest, has_made_length, kind_load, listeners_load, props_load, set_load, text_load, things_load, timers_load, written, written_of}
+use Rattle.heap_walker.specs.Weight.{attributes_load, class_load, document_load, greatest, has_made_length, kind_load, listeners_load, props_load, set_load, things_load, timers_load, written, written_of}
 use Rattle.js_values.specs.declared.ids.NodeId.{NodeId}
 use Rattle.js_values.specs.declared.ids.ObjId.{ObjId}
 use Rattle.object_heap.specs.Chain.{object_at}
@@ -160,9 +160,6 @@ event_count at things parts = omega (arith, length-append (init at e) (dispatch 
     second : (target : Option ObjId) → length (dispatch at target) ≤ 1
     second None = omega arith
     second (Some target) = omega arith
-
-text_things : (text : List ℕ) → (text_load text).things ≡ 0
-text_things text = refl
 
 set_things : (text : Option (List ℕ)) → (set_load text).things ≡ 0
 set_things None = refl
@@ -397,7 +394,7 @@ plans_are_few s things still walk =
     document_few =
         omega (
           arith,
-          hosted o.class (document_class s things still walk),
+          hosted o.class (document_class s still),
           fill_count s things document o,
           prevent_count document t,
           length-append (attributes document t.node.attributes) (set_value document t.node.value),

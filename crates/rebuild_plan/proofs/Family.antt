@@ -2,7 +2,6 @@
 use Rattle.std.proofs.Common.{◌≡◌, ◌⊎◌, inl, inr, refl, sym, ap, ◌∙◌, arith, ℕ, zero, suc, ◌<◌, ◌≤◌, Bool, true, false, ◌&&◌, ◌||◌, not, nat_eq, nat_lt, List, [], ◌∷◌, ◌++◌, None, Some, get_or, length}
 use Rattle.std.proofs.lemmas.Bool.{and_from, and_parts, cases_lt, eq-eqb, eqb-true, ltb-true, not-true, or_cases, or_left, or_right}
 use Rattle.std.proofs.lemmas.Cmp.{nat_eq_equiv}
-use Rattle.std.proofs.lemmas.List.Folds.{list_any-append}
 use Rattle.std.proofs.lemmas.List.Kept.{AllPairs-from_increasing}
 use Rattle.std.proofs.lemmas.Map.Keys.{IsDistinct-cons, IsDistinct-from_apart, IsDistinct-head, IsDistinct-tail}
 use Rattle.std.proofs.lemmas.Map.Made.{length-le_from_is_member}
@@ -23,16 +22,10 @@ use Rattle.page_meaning.specs.Pristine.{built_ins}
 use Rattle.page_meaning.specs.Store.{Store}
 use Rattle.heap_walker.specs.Still.{Still}
 use Rattle.heap_walker.specs.Things.{IsWalk, calls_links, heard_at, host_links, is_in, links, nodes_links, parent_links}
-use Rattle.heap_walker.proofs.Callers.{document_among, host_among, links_in_walk, roots_in_walk, thing_of}
+use Rattle.heap_walker.proofs.Callers.{among_left, among_right, document_among, host_among, links_in_walk, roots_in_walk, thing_of}
 use Rattle.rebuild_plan.specs.Moved.{first_thing}
 
 -- ---- lists of places and of nodes
-
-among_left : (j : ℕ) (xs ys : List ℕ) → is_in j xs ≡ true → is_in j (xs ++ ys) ≡ true
-among_left j xs ys h = list_any-append (nat_eq j) xs ys ∙ or_left (is_in j xs) (is_in j ys) h
-
-among_right : (j : ℕ) (xs ys : List ℕ) → is_in j ys ≡ true → is_in j (xs ++ ys) ≡ true
-among_right j xs ys h = list_any-append (nat_eq j) xs ys ∙ or_right (is_in j xs) (is_in j ys) h
 
 below_differs : (i j : ℕ) → i < j → nat_eq i j ≡ false
 below_differs i j h = by (nat_eq i j) refl
@@ -232,15 +225,12 @@ none_same k (j ∷ js) all i there e = by (or_cases (nat_eq i j) (is_in i js) th
 
 -- ---- of a page at rest
 
-module _ (s : Store) (things : List ℕ) (still : Still s) (walk : IsWalk s things) where
-  abbrev t : Nodes
-  t = s.host.nodes
-
-  nodes_sound : IsSound t
-  nodes_sound = still.shaped.host.sound.nodes
+module _ (s : Store) (still : Still s) where
+  pub document_inside : 0 < length s.host.nodes
+  document_inside = some_node s.host.nodes (still.shaped.host.sound.nodes.document 0)
 
   pub document_class : class_at s document ≡ class.Node (record { 0 = 0 })
-  document_class = ap (class_at s) (sym still.shaped.host.document) ∙ still.shaped.host.object_of 0 (some_node t (nodes_sound.document 0))
+  document_class = ap (class_at s) (sym still.shaped.host.document) ∙ still.shaped.host.object_of 0 document_inside
 
   built_in_made : (j : ℕ) → j < built_in_count → is_made (object_at s.heap.objects j).class ≡ true
   built_in_made zero low = ap is_made still.shaped.window.class
@@ -250,6 +240,13 @@ module _ (s : Store) (things : List ℕ) (still : Still s) (walk : IsWalk s thin
   pub built_in_is_no_node : (j : ℕ) (c : NodeId) → j < built_in_count → (object_at s.heap.objects j).class ≡ class.Node c → ⊥
   built_in_is_no_node j c low is = made_is_no_node (object_at s.heap.objects j).class c (built_in_made j low) is
 
+module _ (s : Store) (things : List ℕ) (still : Still s) (walk : IsWalk s things) where
+  abbrev t : Nodes
+  t = s.host.nodes
+
+  nodes_sound : IsSound t
+  nodes_sound = still.shaped.host.sound.nodes
+
   -- nor is the document a child
   low_is_no_kid : (j p : ℕ) (c : NodeId) → j < first_thing → (object_at s.heap.objects j).class ≡ class.Node c → has c.0 (children_at t p) ≡ true → ⊥
   low_is_no_kid j p c low is child = by (cases_lt j built_in_count)
@@ -258,10 +255,10 @@ module _ (s : Store) (things : List ℕ) (still : Still s) (walk : IsWalk s thin
       first e = no_parent (record { 0 = p }) (sym nodes_sound.root ∙ ap (parent_at t) (sym e) ∙ parent_of_child t nodes_sound.trees p c.0 child)
 
       by : (j < built_in_count) ⊎ (built_in_count ≤ j) → ⊥
-      by (inl h) = built_in_is_no_node j c h is
+      by (inl h) = built_in_is_no_node s still j c h is
       by (inr h) =
           let last : j ≡ document.0 = omega (arith, h, low) in
-          first (same_node c (record { 0 = 0 }) (sym is ∙ ap (λ n. (object_at s.heap.objects n).class) last ∙ document_class))
+          first (same_node c (record { 0 = 0 }) (sym is ∙ ap (λ n. (object_at s.heap.objects n).class) last ∙ document_class s still))
 
   -- it is that of a thing
   kid_is_node : (k c : ℕ) → (k ≡ document.0) ⊎ (is_in k things ≡ true) → IsKid s k c → has c (all_nodes s things) ≡ true

@@ -1,4 +1,5 @@
 pub mod Callers
+pub mod Changing
 pub mod Counted
 pub mod Family
 pub mod Marking

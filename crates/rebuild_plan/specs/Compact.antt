@@ -1,5 +1,5 @@
--- A page as it is saved: its things by number, each by what makes it and what it has; its globals, its document and its timers. Ids are
--- places.
+-- A page as it is saved: its things by number, each by what makes it and what it has; its globals, its document, its timers, and what
+-- changed of its built-in objects. Ids are places.
 use Rattle.std.specs.Prelude.{ℕ, Bool, List, [], ◌∷◌, Option, Some, None, nat_eq, if◌then◌else◌}
 use Rattle.dom_tree.specs.Node.{node_at}
 use Rattle.js_values.specs.declared.ids.ObjId.{ObjId}
@@ -14,6 +14,7 @@ use Rattle.page_meaning.specs.Places.{document, range_error_prototype_place, ref
 use Rattle.page_meaning.specs.Store.{Store}
 use Rattle.heap_walker.specs.Things.{globals_of, needs_of}
 use Rattle.timer_queue.specs.declared.timer.Live.{Live}
+use Rattle.rebuild_plan.specs.Changes.{Changed, changes_of}
 use Rattle.rebuild_plan.specs.Events.{SavedEvent, event_as}
 use Rattle.rebuild_plan.specs.Nodes.{SavedNode, node_as, node_maker}
 use Rattle.rebuild_plan.specs.Timers.{moved_timers}
@@ -79,12 +80,14 @@ abbrev pub things_at : Store → List ℕ → List ℕ → List Thing
 things_at s things [] = []
 things_at s things (k ∷ ks) = thing_of s things (object_at s.heap.objects k) ∷ things_at s things ks
 
--- the globals that scripts made; what the document has, which is there and is not made; the things; the timers
+-- the globals that scripts made; what the document has, which is there and is not made; the things; the timers; what scripts changed of the
+-- built-in object at each place
 pub record Compact : Type 0 where
   pub globals : Props
   pub document : Thing
   pub things : List Thing
   pub timers : List Live
+  pub changes : ℕ → Option Changed
 
 abbrev pub compact : Store → List ℕ → Compact
 compact s things = record {
@@ -92,4 +95,5 @@ compact s things = record {
   document = thing_at s things document.0;
   things = things_at s things things;
   timers = moved_timers things s.host.clock s.host.timers;
+  changes = changes_of s things;
 }

@@ -1,11 +1,11 @@
 //! The properties of things and of the global object.
 
-ghost use Rattle.std.specs.Prelude.{◌≡◌, ◌++◌, ℕ, List, Option, OnOk, false, option_copied, option_map};
+ghost use Rattle.std.specs.Prelude.{◌≡◌, ◌++◌, ◌∷◌, ℕ, List, Option, OnOk, false, option_copied, option_map};
 ghost use Rattle.js_values.specs.declared.ids.ObjId.{ObjId as Id};
 ghost use Rattle.object_heap.specs.Chain.{object_at};
 ghost use Rattle.object_heap.specs.Define.{length_name};
-ghost use Rattle.object_heap.specs.Property.{own_property};
-ghost use Rattle.heap_walker.specs.Things.{globals_of};
+ghost use Rattle.object_heap.specs.Property.{Props, own_property};
+ghost use Rattle.heap_walker.specs.Things.{globals_of, made_globals};
 ghost use Rattle.page_meaning.specs.Places.{window};
 ghost use Rattle.page_meaning.specs.Store.{Store};
 ghost use Rattle.rebuild_plan.specs.Compact as saved;
@@ -14,14 +14,14 @@ ghost use Rattle.rebuild_plan.specs.declared.statement.Maker.TheVariants.{List a
 
 use crate::moved::{moved_prop, moved_value};
 use crate::statement::Rebuild;
-use heap_walker::{BUILT_IN_GLOBALS, Walked};
+use global_names::is_global_name;
+use heap_walker::Walked;
 use js_core::{OutOfMemory, Units, ascii_text};
 use js_values::ObjId;
 use object_heap::{Class, Prop};
 use page_state::{State, WINDOW, further};
 
 /// The globals that scripts made are defined.
-#[tactic(auto, unfolding(page_meaning::specs::Pristine::built_in_globals))]
 pub fn push_globals(
     state: &State,
     walked: &Walked,
@@ -30,11 +30,32 @@ pub fn push_globals(
     ensures { OnOk result (plan.new.items ≡ plan.old.items ++ spec.defines false false window
         (saved.moved_props walked.now.things.keys (globals_of state.now))) }
 {
-    let mut place = BUILT_IN_GLOBALS;
+    let mut place = 0;
     while let Some((name, prop)) = state.own_at(WINDOW, place) {
-        push_property(walked, WINDOW, false, false, name, prop, plan)?;
+        push_global(walked, name, prop, plan)?;
         place = further(place, 1)?;
     }
+    Ok(())
+}
+
+// A property of the global object is defined, if scripts made it; others can follow.
+fn push_global(
+    walked: &Walked,
+    name: &Units,
+    prop: &Prop,
+    plan: &mut Vec<Rebuild>,
+) -> Result<(), OutOfMemory>
+    ensures { OnOk result ((others : Props) →
+        plan.new.items ++ spec.defines false false window
+        (saved.moved_props walked.now.things.keys (made_globals others))
+        ≡ plan.old.items ++ spec.defines false false window
+        (saved.moved_props walked.now.things.keys
+        (made_globals ((name.now, prop.now) ∷ others)))) }
+{
+    if is_global_name(name) {
+        return Ok(());
+    }
+    push_property(walked, WINDOW, false, false, name, prop, plan)?;
     Ok(())
 }
 

@@ -20,7 +20,7 @@ use Rattle.page_host.specs.Host.{Host}
 use Rattle.page_meaning.specs.Store.{Store}
 use Rattle.heap_walker.specs.Still.{Still}
 use Rattle.heap_walker.specs.Things.{IsWalk, calls_links, class_links, globals_of, heard_at, host_links, is_in, links, needs_of, node_links, nodes_links, parent_links}
-use Rattle.heap_walker.proofs.Callers.{document_among, global_among, host_among, links_in_walk, made_among, props_among, roots_in_walk, timers_among, walks_are_same}
+use Rattle.heap_walker.proofs.Callers.{among_left, among_right, document_among, global_among, host_among, links_in_walk, made_among, props_among, roots_in_walk, timers_among, walks_are_same}
 use Rattle.rebuild_plan.specs.Compact.{compact, kind_of, maker_as, moved_needs, moved_props, moved_proto, thing_of, things_at}
 use Rattle.rebuild_plan.specs.Events.{event_as, event_of}
 use Rattle.rebuild_plan.specs.Nodes.{node_as, node_maker, node_of}
@@ -35,13 +35,16 @@ use Rattle.rebuilding.specs.Running.{StatementsRun}
 use Rattle.rebuilding.specs.Scene.{Scene, page_with}
 use Rattle.rebuilding.specs.Sites.{sited_proto}
 use Rattle.rebuilding.proofs.Agreeing.{shape_proto}
-use Rattle.rebuilding.proofs.Carried.{AreYoung, bound_back, in_left, in_right, listeners_back, needs_back, nodes_back, proto_back, props_back, target_back, timers_back}
-use Rattle.rebuilding.proofs.Counterparts.{IsKnown}
+use Rattle.rebuilding.proofs.Carried.{bound_back, listeners_back, needs_back, nodes_back, proto_back, props_back, target_back, timers_back}
+use Rattle.rebuilding.proofs.Known.{IsKnown}
 use Rattle.rebuilding.proofs.Held.{needs_same}
 use Rattle.rebuilding.proofs.Loading.{script_rebuilt}
-use Rattle.rebuilding.proofs.Placed.{error_low, is_thing_at, node_low, place_in, proto_built_in}
+use Rattle.rebuilding.proofs.Placed.{AreYoung, error_low, is_thing_at, node_low, place_in, proto_built_in, young_walk}
 use Rattle.rebuilding.proofs.Scripts.{scene}
-use Rattle.rebuilding.proofs.WalkedAgain.{globals_same, old_things, walked_again, young_sites}
+use Rattle.rebuilding.proofs.BuiltIns.{changes_same}
+use Rattle.rebuilding.proofs.Globals.{globals_same}
+use Rattle.rebuilding.proofs.WalkedAgain.{walked_again}
+use Rattle.rebuilding.proofs.OneToOne.{young_sites}
 
 things_same : (s t : Store) (things sites ks js : List ℕ) → length js ≡ length ks
     → ((n : ℕ) → n < length ks → thing_of t sites (object_at t.heap.objects (nth js n)) ≡ thing_of s things (object_at s.heap.objects (nth ks n)))
@@ -60,10 +63,10 @@ module _ (c : Scene) (s : Store) (things : List ℕ) (h : Contents) (g : Host) (
   t = page_with h g
 
   old : AreYoung things
-  old = old_things c s things h g sites still walk is
+  old = young_walk s things walk
 
   young : AreYoung sites
-  young = young_sites c s things h g sites still walk is
+  young = young_sites c s things h g sites walk is
 
   -- ---- nodes and events
 
@@ -86,11 +89,11 @@ module _ (c : Scene) (s : Store) (things : List ℕ) (h : Contents) (g : Host) (
       let value : (node_of g sites b).value ≡ (node_of s.host things a).value = ap (λ n. n.value) e in
       let children =
       nodes_back things sites is.running.place.rising is.count old young s.host.objects g.objects (children_at s.host.nodes a.0) (children_at g.nodes b.0)
-      (λ j i. known j (in_right j up (down ++ calls) (in_left j down calls i))) (ap (λ n. n.children) e)
+      (λ j i. known j (among_right j up (down ++ calls) (among_left j down calls i))) (ap (λ n. n.children) e)
       in
       let listeners =
       listeners_back things sites is.running.place.rising is.count old young (heard_at a.0 s.host.listeners) (heard_at b.0 g.listeners)
-      (λ j i. known j (in_right j up (down ++ calls) (in_right j down calls i))) (ap (λ n. n.listeners) e)
+      (λ j i. known j (among_right j up (down ++ calls) (among_right j down calls i))) (ap (λ n. n.listeners) e)
       in
       (λ i. record { attributes = attributes i; value = value i; children = children i; listeners = listeners i })
 
@@ -171,8 +174,8 @@ module _ (c : Scene) (s : Store) (things : List ℕ) (h : Contents) (g : Host) (
       let maker : maker_as t sites p.proto p.class ≡ maker_as s things o.proto o.class =
       maker_same (nth sites n) o.proto p.proto o.class p.class made_as.class made_as.proto
       (λ e. kind_same o.proto p.proto o (subst (HasShape s o) e shape) refl made_as.proto)
-      (λ j i. linked j (made_among s k j (in_left j (proto_links o.proto) (class_links s o.class) i)))
-      (λ j i. linked j (made_among s k j (in_right j (proto_links o.proto) (class_links s o.class) i)))
+      (λ j i. linked j (made_among s k j (among_left j (proto_links o.proto) (class_links s o.class) i)))
+      (λ j i. linked j (made_among s k j (among_right j (proto_links o.proto) (class_links s o.class) i)))
       hosted.kind
       in
       let beside = hosted_back (nth sites n) o.class p.class made_as.class (λ j i. linked j (host_among s k j i)) hosted.node hosted.event in
@@ -195,13 +198,13 @@ module _ (c : Scene) (s : Store) (things : List ℕ) (h : Contents) (g : Host) (
   document_maker =
       let o : Object = object_at s.heap.objects document.0 in
       let p : Object = object_at h.objects document.0 in
-      let left : o.class ≡ class.Node (nth_node 0) = document_class s things still walk in
+      let left : o.class ≡ class.Node (nth_node 0) = document_class s still in
       let right : p.class ≡ class.Node (nth_node 0) = is.running.own.document.class in
       let inherited : o.proto ≡ Some node_prototype = shape_proto s o o.class (nth_node 0) left still.shaped.document in
       let above : moved_proto sites p.proto ≡ moved_proto things o.proto =
       proto_moved o.proto p.proto
       (is.running.own.document.proto ∙ sym (proto_built_in s things sites node_prototype.0 walk node_low) ∙ ap (λ q. sited_proto sites (moved_proto things q)) (sym inherited))
-      (λ j i. document_known j (made_among s document.0 j (in_left j (proto_links o.proto) (class_links s o.class) i)))
+      (λ j i. document_known j (made_among s document.0 j (among_left j (proto_links o.proto) (class_links s o.class) i)))
       in
       let kinds : kind_as g (class.Node (nth_node 0)) ≡ kind_as s.host (class.Node (nth_node 0)) =
       sym (ap (λ d. kind_as g d) right) ∙ is.document.host.kind ∙ ap (λ d. kind_as s.host d) left
@@ -215,7 +218,7 @@ module _ (c : Scene) (s : Store) (things : List ℕ) (h : Contents) (g : Host) (
   document_same =
       let o : Object = object_at s.heap.objects document.0 in
       let p : Object = object_at h.objects document.0 in
-      let left : o.class ≡ class.Node (nth_node 0) = document_class s things still walk in
+      let left : o.class ≡ class.Node (nth_node 0) = document_class s still in
       let right : p.class ≡ class.Node (nth_node 0) = is.running.own.document.class in
       let maker = document_maker in
       let told : node_of g [] (nth_node 0) ≡ sited_node sites (node_of s.host things (nth_node 0)) =
@@ -247,14 +250,15 @@ module _ (c : Scene) (s : Store) (things : List ℕ) (h : Contents) (g : Host) (
   compact_same again walked =
       let rebuilt_walk : IsWalk t sites = walked_again c s things h g sites still walk is in
       let globals =
-      ap (moved_props sites) (globals_same c s things h g sites still walk is)
+      ap (moved_props sites) (globals_same c s things h g sites is)
       ∙ props_back things sites is.running.place.rising is.count old young (globals_of s) (λ j i. roots_in_walk s things still walk j (global_among s j i))
       in
       let each = things_same s t things sites things sites is.count thing_same in
       let document = document_same in
       let timers = timers_same in
+      let changes = changes_same c s things h g sites still is.running in
       ap (compact t) (walks_are_same t again sites walked rebuilt_walk)
-      ∙ (λ i. record { globals = globals i; document = document i; things = each i; timers = timers i })
+      ∙ (λ i. record { globals = globals i; document = document i; things = each i; timers = timers i; changes = λ k. changes k i })
 
 -- ---- the page that is loaded
 

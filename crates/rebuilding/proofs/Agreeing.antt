@@ -1,5 +1,5 @@
 -- The page that was saved and the one that was rebuilt agree.
-use Rattle.std.proofs.Common.{◌≡◌, ◌⊎◌, inl, inr, refl, sym, subst, ◌∙◌, ℕ, zero, suc, ◌<◌, ◌≤◌, true, List, [], ◌∷◌, Option, Some, length, arith}
+use Rattle.std.proofs.Common.{◌≡◌, ◌⊎◌, inl, inr, refl, sym, ap, subst, ◌∙◌, ℕ, zero, suc, ◌<◌, ◌≤◌, true, List, [], ◌∷◌, Option, Some, length, arith}
 use Rattle.std.proofs.lemmas.List.{append-nil}
 use Rattle.std.proofs.lemmas.Bool.{cases_lt}
 use Rattle.code_table.specs.Declarations.{name_of}
@@ -21,9 +21,9 @@ use Rattle.agreement.specs.Acts.{HasBuiltIns, IsOlder, IsPlaced, StoreRel, outer
 use Rattle.agreement.specs.Trees.{code_fits}
 use Rattle.agreement.proofs.Callers.{built_in_itself}
 use Rattle.heap_walker.specs.Still.{Still}
-use Rattle.heap_walker.proofs.Callers.{document_among, props_among, roots_in_walk}
-use Rattle.heap_walker.specs.Things.{bound_value, is_in, IsWalk, needs_of}
-use Rattle.rebuild_plan.specs.Compact.{moved_needs}
+use Rattle.heap_walker.proofs.Callers.{document_among, global_among, props_among, roots_in_walk}
+use Rattle.heap_walker.specs.Things.{bound_value, globals_of, is_in, IsWalk, needs_of}
+use Rattle.rebuild_plan.specs.Compact.{moved_needs, place_of}
 use Rattle.rebuilding.specs.Frames.{round_frame}
 use Rattle.rebuilding.specs.Laws.{Agrees}
 use Rattle.rebuilding.specs.Rebuilt as rebuilt
@@ -32,17 +32,19 @@ use Rattle.rebuilding.specs.Scene.{IsRoundOf, Scene, page_with}
 use Rattle.page_writer.specs.Frame.{nth_node}
 use Rattle.rebuild_plan.proofs.Callers.{document_class}
 use Rattle.rebuild_plan.specs.Moved.{first_thing}
+use Rattle.rebuilding.proofs.BuiltIns.{as_made, built_in_alike, changes_same, windows_alike}
+use Rattle.rebuilding.proofs.Globals.{globals_same}
 use Rattle.rebuilding.proofs.Hosts.{document_linked, hosts_rel}
-use Rattle.rebuilding.proofs.OneToOne.{same_places, site_parts}
-use Rattle.rebuilding.proofs.Placed.{node_low}
-use Rattle.rebuilding.specs.Sites.{sited_needs}
-use Rattle.rebuilding.proofs.Counterparts.{IsKnown, need_known, props_rel, rest_at, there_at, thing_rel, value_rel}
+use Rattle.rebuilding.proofs.Known.{IsKnown}
+use Rattle.rebuilding.proofs.OneToOne.{same_places, site_parts, young_sites}
+use Rattle.rebuilding.proofs.Placed.{node_low, number_at, site_thing}
+use Rattle.rebuilding.specs.Sites.{site, sited_needs}
+use Rattle.rebuilding.proofs.Counterparts.{named_site, need_known, props_rel, rest_at, there_at, thing_rel, value_rel}
 use Rattle.rebuilding.proofs.Frames.{fits_at_rest}
-use Rattle.rebuilding.proofs.WindowsAgree.{window_rel}
-use Rattle.rebuilding.proofs.Naming.{base_at, built_in, built_in_paired, IsPair, pair_is, rebuilt_trees, rebuilt_world, thing, thing_paired}
+use Rattle.rebuilding.proofs.Naming.{base_at, built_in, built_in_paired, IsPair, pair_is, rebuilt_trees, rebuilt_world, site_of_built_in, thing, thing_paired}
 use Rattle.rebuilding.proofs.Rounds.{base_rel}
 use Rattle.object_shapes.specs.Links.{props_links}
-use Rattle.object_shapes.specs.Shapes.{HasShape, built_in_at}
+use Rattle.object_shapes.specs.Shapes.{HasShape}
 use Rattle.page_meaning.specs.Places.{built_in_count, document, node_prototype}
 
 -- ---- places
@@ -107,19 +109,35 @@ module _ (c : Scene) (s : Store) (things : List ℕ) (h : Contents) (g : Host) (
   built_ins_named : HasBuiltIns (rebuilt_world s h things sites)
   built_ins_named k low = record { named = built_in_paired things sites k (omega (arith, low)) }
 
+  -- what has the same place in both pages is named
+  place_back : (b : ℕ) → IsKnown sites b → site sites (place_of sites b) ≡ b
+  place_back b (inl low) = site_of_built_in sites sites b low (young_sites c s things h g sites walk is)
+  place_back b (inr found) = let n = number_at sites b found in ap (site sites) n.1 ∙ site_thing sites n.0 ∙ n.3
+
+  place_named : (a b : ℕ) → IsKnown things a → IsKnown sites b → place_of things a ≡ place_of sites b → Named W a b
+  place_named a b one two e = subst (λ j. Named W a j) (ap (site sites) e ∙ place_back b two) (named_site s h things sites walk is.count a one)
+
+  globals_rel : Entries (PropRel (named W)) (globals_of s) (globals_of (page_with h g))
+  globals_rel =
+      subst (λ qs. Entries (PropRel (named W)) (globals_of s) qs) (sym (globals_same c s things h g sites is))
+      (props_rel s h things sites walk is.count (globals_of s) (λ j i. roots_in_walk s things still walk j (global_among s j i)))
+
   built_in_rel : (k : ℕ) → k < built_in_count → ObjectRel (named W) (object_at s.heap.objects k) (object_at h.objects k)
-  built_in_rel zero low = window_rel c s things h g sites still walk is built_ins_named
+  built_in_rel zero low =
+      windows_alike (named W) s (page_with h g) still.shaped.window is.running.own.window (built_in_itself built_ins_named 0).props globals_rel
   built_in_rel (suc k) low =
-      subst (λ o. ObjectRel (named W) o (object_at h.objects (suc k))) (sym (still.shaped.built_ins (suc k) (omega arith) low))
-      (subst (λ p. ObjectRel (named W) (built_in_at (suc k)) p) (sym (is.running.own.objects (suc k) (omega arith) low))
-      (built_in_itself built_ins_named (suc k)))
+      let past : 0 < suc k = omega arith in
+      built_in_alike (named W) things sites place_named s (page_with h g) (suc k) past low (built_in_itself built_ins_named (suc k))
+      (as_made things (suc k) (object_at s.heap.objects (suc k)) past (still.shaped.built_ins (suc k) past low))
+      (as_made sites (suc k) (object_at h.objects (suc k)) past (is.running.own.objects (suc k) past low))
+      (sym (changes_same c s things h g sites still is.running (suc k)))
 
   -- the document's object
   document_rel : ObjectRel (named W) (object_at s.heap.objects document.0) (object_at h.objects document.0)
   document_rel =
       let o : Object = object_at s.heap.objects document.0 in
       let p : Object = object_at h.objects document.0 in
-      let left : o.class ≡ class.Node (nth_node 0) = document_class s things still walk in
+      let left : o.class ≡ class.Node (nth_node 0) = document_class s still in
       let right : p.class ≡ class.Node (nth_node 0) = is.running.own.document.class in
       let kind : ClassRel (named W) (class.Node (nth_node 0)) (class.Node (nth_node 0)) = node (document_linked c s things h g sites still walk is) in
       let above : Maybe (ObjectIds (named W)) (Some node_prototype) (Some node_prototype) =

@@ -18,7 +18,9 @@ use Rattle.rebuilding.specs.Rebuilt.{ClassIsRebuilt, bound, event, fault, list, 
 use Rattle.rebuilding.specs.Running.{Stand}
 use Rattle.rebuilding.specs.Scene.{IsRunning, Scene}
 use Rattle.rebuilding.specs.Sites.{site}
-use Rattle.rebuilding.proofs.Placed.{number_at, place_low, site_low, site_thing}
+use Rattle.rebuilding.proofs.Known.{IsKnown}
+use Rattle.rebuilding.proofs.Naming.{site_of_built_in}
+use Rattle.rebuilding.proofs.Placed.{number_at, place_low, site_thing, young_walk}
 use Rattle.rebuilding.proofs.SitesApart.{site_there, sites_differ}
 
 -- a class keeps whether it can be called
@@ -32,10 +34,6 @@ class_callable bound = refl
 class_callable node = refl
 class_callable event = refl
 
--- what a reached thing may refer to
-abbrev pub IsKnownPlace : List ℕ → ℕ → Type 0
-IsKnownPlace things x = (x < first_thing) ⊎ (is_in x things ≡ true)
-
 module _ (c : Scene) (h : Contents) (s : Store) (things sites : List ℕ) (running : IsRunning c h sites) (count : length sites ≡ length things)
     (still : Still s) (walk : IsWalk s things)
     (document_class : (object_at s.heap.objects document.0).class ≡ class.Node (nth_node 0))
@@ -45,22 +43,22 @@ module _ (c : Scene) (h : Contents) (s : Store) (things sites : List ℕ) (runni
   spot x = site sites (place_of things x)
 
   low_spot : (x : ℕ) → x < first_thing → spot x ≡ x
-  low_spot x low = ap (site sites) (place_low s things x walk low) ∙ site_low sites x low
+  low_spot x low = site_of_built_in things sites x low (young_walk s things walk)
 
   -- the site of a thing with its number
   thing_spot : (x : ℕ) → is_in x things ≡ true → (i : ℕ) × (spot x ≡ nth sites i) × (i < length things) × (nth things i ≡ x)
   thing_spot x among = let i = number_at things x among in (i.0, ap (site sites) i.1 ∙ site_thing sites i.0, i.2, i.3)
 
   -- it stands
-  pub known_stands : (x : ℕ) → IsKnownPlace things x → Stand sites (place_of things x ∷ [])
+  pub known_stands : (x : ℕ) → IsKnown things x → Stand sites (place_of things x ∷ [])
   known_stands x (inl low) =
-      and_from _ _ (lt-ltb (place_of things x) (first_thing + length sites) (omega (arith, place_low s things x walk low, low))) refl
+      and_from _ _ (lt-ltb (place_of things x) (first_thing + length sites) (omega (arith, place_low things x (young_walk s things walk) low, low))) refl
   known_stands x (inr among) =
       let i = number_at things x among in
       and_from _ _ (lt-ltb (place_of things x) (first_thing + length sites) (omega (arith, i.1, i.2, count))) refl
 
   -- it can be called
-  pub known_callable : (x : ℕ) → IsKnownPlace things x → is_callable_class (object_at s.heap.objects x).class ≡ true
+  pub known_callable : (x : ℕ) → IsKnown things x → is_callable_class (object_at s.heap.objects x).class ≡ true
       → is_callable_class (object_at h.objects (spot x)).class ≡ true
   known_callable x (inr among) is =
       let i = thing_spot x among in
@@ -80,7 +78,7 @@ module _ (c : Scene) (h : Contents) (s : Store) (things sites : List ℕ) (runni
           nothing (class.Node (nth_node 0)) refl (ap (λ k. (object_at s.heap.objects k).class) last ∙ document_class)
 
   -- two have two counterparts
-  pub known_apart : (x y : ℕ) → IsKnownPlace things x → IsKnownPlace things y → spot x ≡ spot y → x ≡ y
+  pub known_apart : (x y : ℕ) → IsKnown things x → IsKnown things y → spot x ≡ spot y → x ≡ y
   known_apart x y (inl a) (inl b) same = sym (low_spot x a) ∙ same ∙ low_spot y b
   known_apart x y (inl a) (inr b) same =
       let j = thing_spot y b in

@@ -1,12 +1,9 @@
 -- What names the site of a thing is moved back to where the thing was moved, and the sites of links are the links of what is sited.
 use Rattle.std.specs.Prelude.{unwrap_or}
-use Rattle.std.proofs.Common.{◌≡◌, inl, inr, refl, sym, ap, ◌∙◌, ℕ, ◌+◌, ◌-◌, ◌<◌, ◌≤◌, Bool, true, false, nat_eq, map, List, [], ◌∷◌, ◌++◌, Option, Some, None, length, arith}
+use Rattle.std.proofs.Common.{◌≡◌, inl, inr, refl, sym, ap, ◌∙◌, ℕ, ◌+◌, ◌-◌, ◌<◌, Bool, true, false, nat_eq, map, List, [], ◌∷◌, ◌++◌, Option, Some, None, length, arith}
 use Rattle.std.proofs.Math.Bool.{or-true}
 use Rattle.std.proofs.lemmas.Bool.{eq-eqb, eqb-true}
 use Rattle.std.proofs.lemmas.List.{map-append}
-use Rattle.std.proofs.lemmas.List.Folds.{list_any-append}
-use Rattle.std.proofs.lemmas.List.Quantifiers.{position-Some}
-use Rattle.std.specs.List.{position}
 use Rattle.std.specs.List.Sorted.{IsStrictlyIncreasing}
 use Rattle.heap_walker.specs.Things.{calls_links, is_in, needs_links, nodes_links, timers_links}
 use Rattle.js_values.specs.declared.ids.ObjId.{ObjId}
@@ -19,15 +16,17 @@ use Rattle.page_host.specs.Host.{object_of_node}
 use Rattle.page_host.specs.declared.listener.Listener.{Listener}
 use Rattle.timer_queue.specs.declared.timer.Live.{Live}
 use Rattle.object_shapes.specs.Links.{props_links, proto_links, value_links, values_links}
-use Rattle.rebuild_plan.specs.Compact.{moved_needs, moved_props, moved_proto, moved_value, moved_values, place_of, placed}
+use Rattle.rebuild_plan.specs.Compact.{moved_needs, moved_props, moved_proto, moved_value, moved_values, place_of}
 use Rattle.rebuild_plan.specs.Moved.{first_thing}
 use Rattle.rebuild_plan.specs.Nodes.{moved_listeners, moved_nodes}
 use Rattle.rebuild_plan.specs.Timers.{moved_timers}
 use Rattle.rebuilding.specs.Rebuilt.{nth, sited_ids, sited_listeners, sited_timers}
 use Rattle.rebuilding.specs.Sites.{site, sited_needs, sited_props, sited_proto, sited_value, sited_values}
-use Rattle.rebuilding.proofs.Counterparts.{IsKnown}
+use Rattle.heap_walker.proofs.Callers.{among_left, among_right}
+use Rattle.rebuilding.proofs.Basics.{heads_same, tails_same}
+use Rattle.rebuilding.proofs.Known.{AreKnown, IsKnown, head_in, tail_in}
 use Rattle.rebuilding.proofs.Naming.{rising_places, site_of_built_in}
-use Rattle.rebuilding.proofs.Placed.{number_at, place_in, site_thing}
+use Rattle.rebuilding.proofs.Placed.{AreYoung, number_at, place_in, place_low, site_thing}
 
 -- ---- lists
 
@@ -55,41 +54,7 @@ from_mapped f j (x ∷ xs) h = by (nat_eq j (f x)) refl (λ g. from_mapped f j x
         let m = later (rw e at h) in
         record { from = m.from; among = rw m.among (or-true (nat_eq m.from x)); is = m.is }
 
-pub in_left : (j : ℕ) (ks js : List ℕ) → is_in j ks ≡ true → is_in j (ks ++ js) ≡ true
-in_left j ks js h = list_any-append (nat_eq j) ks js ∙ rw h refl
-
-pub in_right : (j : ℕ) (ks js : List ℕ) → is_in j js ≡ true → is_in j (ks ++ js) ≡ true
-in_right j ks js h = list_any-append (nat_eq j) ks js ∙ rw h (or-true (is_in j ks))
-
-self_in : (k : ℕ) → is_in k (k ∷ []) ≡ true
-self_in k = rw (eq-eqb k k refl) refl
-
-pub head_in : (k : ℕ) (ks : List ℕ) → is_in k (k ∷ ks) ≡ true
-head_in k ks = rw (eq-eqb k k refl) refl
-
-pub tail_in : (j k : ℕ) (ks : List ℕ) → is_in j ks ≡ true → is_in j (k ∷ ks) ≡ true
-tail_in j k ks h = rw h (or-true (nat_eq j k))
-
-pub heads_same : {A : Type 0} {x y : A} {xs ys : List A} → (x ∷ xs) ≡ (y ∷ ys) → x ≡ y
-heads_same e = cc e
-
-pub tails_same : {A : Type 0} {x y : A} {xs ys : List A} → (x ∷ xs) ≡ (y ∷ ys) → xs ≡ ys
-tails_same e = cc e
-
 -- ---- places
-
--- each of these is a thing's
-abbrev pub AreYoung : List ℕ → Type 0
-AreYoung ks = (n : ℕ) → n < length ks → first_thing ≤ nth ks n
-
-pub place_low : (ks : List ℕ) (k : ℕ) → AreYoung ks → k < first_thing → place_of ks k ≡ k
-place_low ks k young low = by (position (nat_eq k) ks) refl
-  where
-    by : (o : Option ℕ) → position (nat_eq k) ks ≡ o → place_of ks k ≡ k
-    by None is = ap (placed k) is
-    by (Some i) is =
-        let found = position-Some (nat_eq k) ks i 0 is in
-        absurd (omega (arith, low, young i found.0, eqb-true k (nth ks i) found.1))
 
 -- of numbers that rise, the nth has the nth place
 pub place_at : (ks : List ℕ) (n : ℕ) → IsStrictlyIncreasing ks → n < length ks → place_of ks (nth ks n) ≡ first_thing + n
@@ -154,43 +119,43 @@ module _ (things sites : List ℕ) where
         let there : m.0 < length sites = omega (arith, m.2, count) in
         ap (place_of sites) (ap (site sites) m.1 ∙ site_thing sites m.0) ∙ place_at sites m.0 rising there ∙ sym m.1
 
-    pub value_back : (v : Value) → ((j : ℕ) → is_in j (value_links v) ≡ true → IsKnown things j)
+    pub value_back : (v : Value) → AreKnown things (value_links v)
         → moved_value sites (sited_value sites (moved_value things v)) ≡ moved_value things v
-    value_back (value.Object at) known = ap (λ k. value.Object (record { 0 = k })) (place_back at.0 (known at.0 (self_in at.0)))
+    value_back (value.Object at) known = ap (λ k. value.Object (record { 0 = k })) (place_back at.0 (known at.0 (head_in at.0 [])))
     value_back value.Undefined known = refl
     value_back value.Null known = refl
     value_back (value.Bool b) known = refl
     value_back (value.Num n) known = refl
     value_back (value.Text t) known = refl
 
-    pub values_back : (vs : List Value) → ((j : ℕ) → is_in j (values_links vs) ≡ true → IsKnown things j)
+    pub values_back : (vs : List Value) → AreKnown things (values_links vs)
         → moved_values sites (sited_values sites (moved_values things vs)) ≡ moved_values things vs
     values_back [] known = refl
     values_back (v ∷ vs) known =
-        let first = value_back v (λ j h. known j (in_left j (value_links v) (values_links vs) h)) in
-        let others = values_back vs (λ j h. known j (in_right j (value_links v) (values_links vs) h)) in
+        let first = value_back v (λ j h. known j (among_left j (value_links v) (values_links vs) h)) in
+        let others = values_back vs (λ j h. known j (among_right j (value_links v) (values_links vs) h)) in
         (λ i. first i ∷ others i)
 
-    pub needs_back : (ns : List (List ℕ × Value)) → ((j : ℕ) → is_in j (needs_links ns) ≡ true → IsKnown things j)
+    pub needs_back : (ns : List (List ℕ × Value)) → AreKnown things (needs_links ns)
         → moved_needs sites (sited_needs sites (moved_needs things ns)) ≡ moved_needs things ns
     needs_back [] known = refl
     needs_back (n ∷ ns) known =
-        let first = value_back n.1 (λ j h. known j (in_left j (value_links n.1) (needs_links ns) h)) in
-        let others = needs_back ns (λ j h. known j (in_right j (value_links n.1) (needs_links ns) h)) in
+        let first = value_back n.1 (λ j h. known j (among_left j (value_links n.1) (needs_links ns) h)) in
+        let others = needs_back ns (λ j h. known j (among_right j (value_links n.1) (needs_links ns) h)) in
         (λ i. (n.0, first i) ∷ others i)
 
-    pub props_back : (ps : Props) → ((j : ℕ) → is_in j (props_links ps) ≡ true → IsKnown things j)
+    pub props_back : (ps : Props) → AreKnown things (props_links ps)
         → moved_props sites (sited_props sites (moved_props things ps)) ≡ moved_props things ps
     props_back [] known = refl
     props_back (e ∷ es) known =
-        let first = value_back e.1.value (λ j h. known j (in_left j (value_links e.1.value) (props_links es) h)) in
-        let others = props_back es (λ j h. known j (in_right j (value_links e.1.value) (props_links es) h)) in
+        let first = value_back e.1.value (λ j h. known j (among_left j (value_links e.1.value) (props_links es) h)) in
+        let others = props_back es (λ j h. known j (among_right j (value_links e.1.value) (props_links es) h)) in
         (λ i. (e.0, with_value e.1 (first i)) ∷ others i)
 
-    pub proto_back : (p : Option ObjId) → ((j : ℕ) → is_in j (proto_links p) ≡ true → IsKnown things j)
+    pub proto_back : (p : Option ObjId) → AreKnown things (proto_links p)
         → moved_proto sites (sited_proto sites (moved_proto things p)) ≡ moved_proto things p
     proto_back None known = refl
-    proto_back (Some at) known = ap (λ k. Some (record { 0 = k })) (place_back at.0 (known at.0 (self_in at.0)))
+    proto_back (Some at) known = ap (λ k. Some (record { 0 = k })) (place_back at.0 (known at.0 (head_in at.0 [])))
 
     -- what was moved so and stands there is moved back
     pub nodes_back : (objects others : List ObjId) (cs ds : List NodeId) → ((j : ℕ) → is_in j (nodes_links objects cs) ≡ true → IsKnown things j)
@@ -206,7 +171,7 @@ module _ (things sites : List ℕ) where
         let rest = nodes_back objects others cs ds (λ j h. known j (tail_in j at (nodes_links objects cs) h)) (tails_same e) in
         (λ i. record { 0 = first i } ∷ rest i)
 
-    pub listeners_back : (ls ms : List Listener) → ((j : ℕ) → is_in j (calls_links ls) ≡ true → IsKnown things j)
+    pub listeners_back : (ls ms : List Listener) → AreKnown things (calls_links ls)
         → moved_listeners [] ms ≡ sited_listeners sites (moved_listeners things ls) → moved_listeners sites ms ≡ moved_listeners things ls
     listeners_back [] [] known e = refl
     listeners_back [] (m ∷ ms) known e = absurd (cc e)
@@ -221,16 +186,16 @@ module _ (things sites : List ℕ) where
         let rest = listeners_back ls ms (λ j h. known j (tail_in j l.call.0 (calls_links ls) h)) (tails_same e) in
         (λ i. record { kind = kind i; call = record { 0 = first i }; capture = capture i } ∷ rest i)
 
-    pub target_back : (p q : Option ObjId) → ((j : ℕ) → is_in j (proto_links p) ≡ true → IsKnown things j)
+    pub target_back : (p q : Option ObjId) → AreKnown things (proto_links p)
         → moved_proto [] q ≡ sited_proto sites (moved_proto things p) → moved_proto sites q ≡ moved_proto things p
     target_back None None known e = refl
     target_back None (Some b) known e = absurd (cc e)
     target_back (Some a) None known e = absurd (cc e)
     target_back (Some a) (Some b) known e =
         let same : b.0 ≡ site sites (place_of things a.0) = ap (λ o. (unwrap_or o a).0) e in
-        ap (λ k. Some (record { 0 = k })) (ap (place_of sites) same ∙ place_back a.0 (known a.0 (self_in a.0)))
+        ap (λ k. Some (record { 0 = k })) (ap (place_of sites) same ∙ place_back a.0 (known a.0 (head_in a.0 [])))
 
-    pub timers_back : (clock : ℕ) (ts : List Live) → ((j : ℕ) → is_in j (timers_links ts) ≡ true → IsKnown things j)
+    pub timers_back : (clock : ℕ) (ts : List Live) → AreKnown things (timers_links ts)
         → moved_timers sites 0 (sited_timers sites (moved_timers things clock ts)) ≡ moved_timers things clock ts
     timers_back clock [] known = refl
     timers_back clock (t ∷ ts) known =
@@ -247,9 +212,9 @@ module _ (things sites : List ℕ) where
         × (moved_values sites (sited_values sites (moved_values things args)) ≡ moved_values things args)
     bound_back target this args known =
         let others : (j : ℕ) → is_in j (value_links this ++ values_links args) ≡ true → IsKnown things j =
-        λ j h. known j (in_right j (target.0 ∷ []) (value_links this ++ values_links args) h)
+        λ j h. known j (among_right j (target.0 ∷ []) (value_links this ++ values_links args) h)
         in (
-          place_back target.0 (known target.0 (in_left target.0 (target.0 ∷ []) (value_links this ++ values_links args) (self_in target.0))),
-          value_back this (λ j h. others j (in_left j (value_links this) (values_links args) h)),
-          values_back args (λ j h. others j (in_right j (value_links this) (values_links args) h)),
+          place_back target.0 (known target.0 (among_left target.0 (target.0 ∷ []) (value_links this ++ values_links args) (head_in target.0 []))),
+          value_back this (λ j h. others j (among_left j (value_links this) (values_links args) h)),
+          values_back args (λ j h. others j (among_right j (value_links this) (values_links args) h)),
         )

@@ -1,6 +1,6 @@
 -- What a statement changes of an object that stands: one that is built in and not the global object is closed and throws.
-use Rattle.std.proofs.Common.{◌≡◌, ◌⊎◌, inl, inr, refl, sym, ap, subst, ◌∙◌, ℕ, zero, suc, ◌+◌, ◌<◌, ◌≤◌, Bool, true, false, ◌&&◌, ◌||◌, nat_eq, nat_lt, List, [], ◌∷◌, None, is_some, drop, length, arith, if◌then◌else◌, not}
-use Rattle.std.proofs.lemmas.Bool.{and_parts, cases_eq, eq-eqb, or_parts}
+use Rattle.std.proofs.Common.{◌≡◌, ◌⊎◌, inl, inr, refl, sym, ap, subst, ◌∙◌, ℕ, ◌+◌, ◌<◌, ◌≤◌, Bool, true, false, ◌&&◌, ◌||◌, nat_eq, nat_lt, List, [], ◌∷◌, None, is_some, length, arith, if◌then◌else◌, not}
+use Rattle.std.proofs.lemmas.Bool.{cases_eq, eq-eqb, or_parts}
 use Rattle.std.specs.List.{list_all}
 use Rattle.global_names.specs.Names.{names_global}
 use Rattle.js_values.specs.declared.throw.Throw.{Throw}
@@ -24,6 +24,7 @@ use Rattle.rebuilding.specs.Sites.{site}
 use Rattle.rebuilding.proofs.DocumentStays.{document_defined, document_prevented}
 use Rattle.rebuilding.proofs.Staying.{MayChange, Stands, place_other, place_there, running_changed, site_place, site_thing, stays_changed}
 use Rattle.rebuilding.proofs.WindowStays.{is_built, window_defined}
+use Rattle.object_shapes.proofs.Callers.{built_in_closed}
 use Rattle.object_shapes.specs.Shapes.{IsWindow, built_in_at}
 use Rattle.page_meaning.specs.Places.{built_in_count}
 use Rattle.rebuild_plan.specs.Moved.{first_thing}
@@ -32,18 +33,6 @@ use Rattle.object_heap.specs.declared.object.EventParts.{EventParts}
 use Rattle.rebuilding.proofs.Placed.{at_or}
 
 -- ---- what is closed
-
-all_closed : (os : List Object) → list_all (λ o. o.closed) os ≡ true → (k : ℕ) → (object_at os k).closed ≡ true
-all_closed [] h k = refl
-all_closed (o ∷ os) h zero = (and_parts o.closed (list_all (λ x. x.closed) os) h).0
-all_closed (o ∷ os) h (suc k) = all_closed os (and_parts o.closed (list_all (λ x. x.closed) os) h).1 k
-
-others_closed : list_all (λ o. o.closed) (drop 1 built_ins) ≡ true
-others_closed = refl
-
-pub built_in_closed : (k : ℕ) → 0 < k → (built_in_at k).closed ≡ true
-built_in_closed zero h = absurd (omega (arith, h))
-built_in_closed (suc k) h = all_closed (drop 1 built_ins) others_closed k
 
 thrown_none : {A : Type 0} (b : Bool) (x : A) (t : Throw) (y : Attempt A) → (if b then throws x t else y).thrown ≡ None → b ≡ false
 thrown_none true x t y h = cc h

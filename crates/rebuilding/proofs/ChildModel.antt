@@ -37,7 +37,7 @@ use Rattle.rebuilding.proofs.ChildPhase.{Keeps, children_go, counterpart, node_p
 use Rattle.rebuilding.proofs.ListenPhase.{bare_lacks}
 use Rattle.rebuilding.proofs.NodesAt.{NodesStand, document_here, document_node, thing_here, thing_node}
 use Rattle.rebuilding.proofs.OwnObjects.{IsNodeOn, OwnObjects, node_same, own_kept}
-use Rattle.rebuilding.proofs.Placed.{number_at, place_in, place_low, site_low, site_thing}
+use Rattle.rebuilding.proofs.Placed.{number_at, place_in, place_low, site_low, site_thing, young_walk}
 use Rattle.rebuilding.proofs.SavedNodes.{IsRest, first_has, in_pair, more_has, node_found, node_listed, nodes_world, pair_in, rest_here, rest_next, whole_rest}
 use Rattle.rebuilding.proofs.SitesApart.{site_there, sites_differ}
 
@@ -96,7 +96,7 @@ module _ (c : Scene) (End : Contents → Host → List ℕ → Type 0) (h : Cont
   pub root_place_is : node_place s things (nth_node 0) ≡ document
   root_place_is =
       ap (λ (o : ObjId). at_place (place_of things o.0)) (family.still.shaped.host.node_of document.0 0 family.root).1
-      ∙ ap at_place (place_low s things document.0 family.walk (omega arith))
+      ∙ ap at_place (place_low things document.0 (young_walk s things family.walk) (omega arith))
 
   -- ---- each known node
 

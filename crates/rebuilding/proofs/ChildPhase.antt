@@ -29,6 +29,7 @@ use Rattle.rebuilding.specs.Rebuilt.{Succeeds, nth}
 use Rattle.rebuilding.specs.Running.{IsNodeHere, Lacks, node_here, object_here}
 use Rattle.rebuilding.specs.Scene.{IsHosting, Scene}
 use Rattle.rebuilding.proofs.HostPhase.{hosted_next}
+use Rattle.rebuilding.proofs.Basics.{one_on}
 
 -- nodes alone are others, and as many
 abbrev pub Keeps : Host → Host → Type 0
@@ -114,9 +115,6 @@ module _ (c : Scene) (End : Contents → Host → List ℕ → Type 0) (h : Cont
         by (object_at s.heap.objects k).class refl
         (λ j. from ks (suc n) j rs (omega (arith, count)) (λ i there. at (suc i) (omega (arith, there)) ∙ ap (nth things) (one_on n i)))
       where
-        one_on : (a b : ℕ) → a + suc b ≡ suc a + b
-        one_on a b = omega arith
-
         others : List Rebuild
         others = plan.each phase.Children (suc n) (things_at s things ks)
 

@@ -1,10 +1,7 @@
 -- What is related for the naming of a page that was saved and the one that was rebuilt: values, properties and whole things.
 use Rattle.std.specs.Prelude.{unwrap_or}
 use Rattle.std.specs.Option.{option_map}
-use Rattle.std.proofs.Common.{◌≡◌, ◌⊎◌, inl, inr, refl, sym, ap, subst, suc, is_some, ◌∙◌, ℕ, ◌<◌, ◌≤◌, Bool, true, false, bytes_eq, nat_lt, List, [], ◌∷◌, ◌++◌, Option, Some, None, length, arith}
-use Rattle.std.proofs.Math.Bool.{or-true}
-use Rattle.std.proofs.lemmas.Bool.{and_parts, eq-eqb, ltb-true}
-use Rattle.std.proofs.lemmas.List.Folds.{list_any-append}
+use Rattle.std.proofs.Common.{◌≡◌, inl, inr, refl, sym, ap, subst, suc, is_some, ◌∙◌, ℕ, ◌<◌, Bool, true, false, bytes_eq, List, [], ◌∷◌, ◌++◌, Option, Some, None, length, arith}
 use Rattle.std.proofs.lemmas.Slice.Eq.{bytes_eq-Decides}
 use Rattle.js_core.specs.Tree.{Code}
 use Rattle.js_values.specs.declared.ids.EnvId.{EnvId}
@@ -22,45 +19,32 @@ use Rattle.page_host.specs.Host.{Host}
 use Rattle.page_meaning.specs.Store.{Store}
 use Rattle.scope_analysis.specs.Needs.{needed_variables}
 use Rattle.scope_analysis.specs.Names.{is_among}
+use Rattle.heap_relations.proofs.Callers.{is_some_same}
 use Rattle.heap_relations.specs.Naming.{based, Named, named, World}
 use Rattle.heap_relations.specs.Related.{array, bound, ClassRel, Each, each, Entries, entry, event, EventRel, fault, Maybe, no_entries, no_more, node, none, null, num, object, ObjectIds, ObjectRel, page, plain, PropRel, some, text, truth, undefined, ValueRel}
 use Rattle.agreement.specs.Trees.{code_fits}
 use Rattle.heap_walker.specs.Still.{IsFunctionAtRest, IsQuiet, Still}
 use Rattle.heap_walker.specs.Things.{bound_value, bound_values, class_links, host_links, is_in, IsWalk, needs_links}
 use Rattle.rebuild_plan.specs.Events.{event_as, event_of}
-use Rattle.rebuild_plan.specs.Moved.{first_thing}
 use Rattle.rebuild_plan.specs.Compact.{moved_props, moved_proto, moved_value, moved_values, place_of}
 use Rattle.rebuilding.specs.Frames.{round_frame}
 use Rattle.rebuilding.specs.Rebuilt as rebuilt
 use Rattle.rebuilding.specs.Rebuilt.{ClassIsRebuilt, HostIsRebuilt, IsRebuiltAs, IsRested, nth, sited_event}
 use Rattle.rebuilding.specs.Scene.{Scene}
 use Rattle.rebuilding.specs.Sites.{site, sited_props, sited_proto, sited_value, sited_values}
-use Rattle.heap_walker.proofs.Callers.{host_among, links_in_walk, made_among, props_among}
+use Rattle.heap_walker.proofs.Callers.{among_left, among_right, host_among, links_in_walk, made_among, props_among}
+use Rattle.rebuilding.proofs.ByPlaces.{nothing_same}
+use Rattle.rebuilding.proofs.Known.{AreKnown, IsKnown, head_in}
 use Rattle.rebuilding.proofs.Naming.{based_at, built_in_paired, nodes_paired, rebuilt_world, site_of_built_in, thing_at, thing_paired}
-use Rattle.rebuilding.proofs.Placed.{is_thing_at, place_in}
-use Rattle.page_meaning.specs.Places.{built_in_count, document}
+use Rattle.rebuilding.proofs.Placed.{is_thing_at, place_in, thing_inside, young_walk}
+use Rattle.page_meaning.specs.Places.{document}
 use Rattle.object_shapes.specs.Shapes.{HasShape}
 use Rattle.object_shapes.specs.Links.{props_links, proto_links, value_links, values_links}
 
--- built in, the document or walked
-abbrev pub IsKnown : List ℕ → ℕ → Type 0
-IsKnown things k = (k < first_thing) ⊎ (is_in k things ≡ true)
-
 -- ---- things
 
-module _ (s : Store) (things : List ℕ) (walk : IsWalk s things) (n : ℕ) (below : n < length things) where
-  pub young_at : first_thing ≤ nth things n
-  young_at =
-      let over : built_in_count < nth things n =
-      ltb-true built_in_count (nth things n)
-      (and_parts (nat_lt built_in_count (nth things n)) (nat_lt (nth things n) (length s.heap.objects)) (is_thing_at s things n walk below)).0
-      in
-      omega (arith, over)
-
-  pub there_at : nth things n < length s.heap.objects
-  there_at =
-      ltb-true (nth things n) (length s.heap.objects)
-      (and_parts (nat_lt built_in_count (nth things n)) (nat_lt (nth things n) (length s.heap.objects)) (is_thing_at s things n walk below)).1
+pub there_at : (s : Store) (things : List ℕ) → IsWalk s things → (n : ℕ) → n < length things → nth things n < length s.heap.objects
+there_at s things walk n below = (thing_inside s (nth things n) (is_thing_at s things n walk below)).1
 
 -- a function among them is at rest
 pub rest_at : (s : Store) (things : List ℕ) → Still s → IsWalk s things → (n : ℕ) → n < length things → (source : Code) (env : Option EnvId)
@@ -68,15 +52,6 @@ pub rest_at : (s : Store) (things : List ℕ) → Still s → IsWalk s things �
 rest_at s things still walk n below source env is = still.functions (nth things n) source env (walk.sound (nth things n) (place_in things n below)) is
 
 -- ---- what is named
-
-self_in : (k : ℕ) → is_in k (k ∷ []) ≡ true
-self_in k = rw (eq-eqb k k refl) refl
-
-left_in : (j : ℕ) (ks js : List ℕ) → is_in j ks ≡ true → is_in j (ks ++ js) ≡ true
-left_in j ks js h = list_any-append _ ks js ∙ rw h refl
-
-right_in : (j : ℕ) (ks js : List ℕ) → is_in j js ≡ true → is_in j (ks ++ js) ≡ true
-right_in j ks js h = list_any-append _ ks js ∙ rw h (or-true (is_in j ks))
 
 -- what its needed variables hold is known
 need_linked : (s : Store) (env : Option EnvId) (xs : List (List ℕ)) (x : List ℕ) (j : ℕ) → is_among x xs ≡ true
@@ -87,10 +62,10 @@ need_linked s env (y ∷ ys) x j among h = by (bytes_eq x y) refl (λ more. need
     by : (b : Bool) → bytes_eq x y ≡ b → (is_among x ys ≡ true → is_in j (needs_links (bound_values s env ys)) ≡ true)
         → is_in j (needs_links (bound_values s env (y ∷ ys))) ≡ true
     by true same later =
-        left_in j (value_links (bound_value s env y)) (needs_links (bound_values s env ys))
+        among_left j (value_links (bound_value s env y)) (needs_links (bound_values s env ys))
         (subst (λ z. is_in j (value_links (bound_value s env z)) ≡ true) ((bytes_eq-Decides x y).0 same) h)
     by false other later =
-        right_in j (value_links (bound_value s env y)) (needs_links (bound_values s env ys)) (later (rw other at among))
+        among_right j (value_links (bound_value s env y)) (needs_links (bound_values s env ys)) (later (rw other at among))
 
 pub need_known : (s : Store) (things : List ℕ) → Still s → IsWalk s things → (n : ℕ) → n < length things → (source : Code) (env : Option EnvId)
     → (object_at s.heap.objects (nth things n)).class ≡ class.Page source env → (x : List ℕ) → is_among x (needed_variables source) ≡ true
@@ -101,7 +76,7 @@ need_known s things still walk n below source env is x among j h =
     let linked : is_in j (class_links s o.class) ≡ true =
     subst (λ d. is_in j (class_links s d) ≡ true) (sym is) (need_linked s env (needed_variables source) x j among h)
     in
-    links_in_walk s things still walk k (place_in things n below) j (made_among s k j (right_in j (proto_links o.proto) (class_links s o.class) linked))
+    links_in_walk s things still walk k (place_in things n below) j (made_among s k j (among_right j (proto_links o.proto) (class_links s o.class) linked))
 
 -- an event among them is not under dispatch, and its target is known
 record IsKeptEvent (things : List ℕ) (p : EventParts) : Type 0 where
@@ -138,61 +113,54 @@ module _ (s : Store) (h : Contents) (things sites : List ℕ) (walk : IsWalk s t
 
   pub named_site : (k : ℕ) → IsKnown things k → Named (rebuilt_world s h things sites) k (site sites (place_of things k))
   named_site k (inl low) =
-      let same : site sites (place_of things k) ≡ k = site_of_built_in things sites k low (λ n below. young_at s things walk n below) in
+      let same : site sites (place_of things k) ≡ k = site_of_built_in things sites k low (young_walk s things walk) in
       subst (λ j. Named W k j) (sym same) (record { named = built_in_paired things sites k (omega (arith, low)) })
   named_site k (inr found) =
       let t = thing_at things sites k found in
       let pair : Named W (nth things t.place) (nth sites t.place) = record { named = thing_paired things sites count t.place t.below } in
       subst (λ j. Named W k j) (sym t.two) (subst (λ i. Named W i (nth sites t.place)) (sym t.one) pair)
 
-  pub value_rel : (v : Value) → ((j : ℕ) → is_in j (value_links v) ≡ true → IsKnown things j)
+  pub value_rel : (v : Value) → AreKnown things (value_links v)
       → ValueRel (named (rebuilt_world s h things sites)) v (sited_value sites (moved_value things v))
   value_rel value.Undefined known = undefined
   value_rel value.Null known = null
   value_rel (value.Bool b) known = truth
   value_rel (value.Num n) known = num
   value_rel (value.Text t) known = text
-  value_rel (value.Object at) known = object (named_site at.0 (known at.0 (self_in at.0)))
+  value_rel (value.Object at) known = object (named_site at.0 (known at.0 (head_in at.0 [])))
 
-  values_rel : (vs : List Value) → ((j : ℕ) → is_in j (values_links vs) ≡ true → IsKnown things j)
+  values_rel : (vs : List Value) → AreKnown things (values_links vs)
       → Each (ValueRel (named W)) vs (sited_values sites (moved_values things vs))
   values_rel [] known = no_more
   values_rel (v ∷ vs) known =
-      each (value_rel v (λ j g. known j (left_in j (value_links v) (values_links vs) g)))
-      (values_rel vs (λ j g. known j (right_in j (value_links v) (values_links vs) g)))
+      each (value_rel v (λ j g. known j (among_left j (value_links v) (values_links vs) g)))
+      (values_rel vs (λ j g. known j (among_right j (value_links v) (values_links vs) g)))
 
-  proto_rel : (proto : Option ObjId) → ((j : ℕ) → is_in j (proto_links proto) ≡ true → IsKnown things j)
+  proto_rel : (proto : Option ObjId) → AreKnown things (proto_links proto)
       → Maybe (ObjectIds (named W)) proto (sited_proto sites (moved_proto things proto))
   proto_rel None known = none
-  proto_rel (Some at) known = some (record { linked = named_site at.0 (known at.0 (self_in at.0)) })
+  proto_rel (Some at) known = some (record { linked = named_site at.0 (known at.0 (head_in at.0 [])) })
 
-  pub props_rel : (ps : Props) → ((j : ℕ) → is_in j (props_links ps) ≡ true → IsKnown things j)
+  pub props_rel : (ps : Props) → AreKnown things (props_links ps)
       → Entries (PropRel (named (rebuilt_world s h things sites))) ps (sited_props sites (moved_props things ps))
   props_rel [] known = no_entries
   props_rel ((x, p) ∷ ps) known =
       let first : ValueRel (named W) p.value (sited_value sites (moved_value things p.value)) =
-      value_rel p.value (λ j g. known j (left_in j (value_links p.value) (props_links ps) g))
+      value_rel p.value (λ j g. known j (among_left j (value_links p.value) (props_links ps) g))
       in
       entry (record { value = first; writable = refl; enumerable = refl; configurable = refl })
-      (props_rel ps (λ j g. known j (right_in j (value_links p.value) (props_links ps) g)))
+      (props_rel ps (λ j g. known j (among_right j (value_links p.value) (props_links ps) g)))
 
   -- ---- events
 
-  target_rel : (t u : Option ObjId) → ((j : ℕ) → is_in j (proto_links t) ≡ true → IsKnown things j) → moved_proto [] u ≡ sited_proto sites (moved_proto things t)
+  target_rel : (t u : Option ObjId) → AreKnown things (proto_links t) → moved_proto [] u ≡ sited_proto sites (moved_proto things t)
       → Maybe (ObjectIds (named W)) t u
   target_rel None None known e = none
   target_rel None (Some b) known e = absurd (cc e)
   target_rel (Some a) None known e = absurd (cc e)
   target_rel (Some a) (Some b) known e =
       let same : site sites (place_of things a.0) ≡ b.0 = ap (λ o. (unwrap_or o a).0) (sym e) in
-      some (record { linked = subst (λ j. Named W a.0 j) same (named_site a.0 (known a.0 (self_in a.0))) })
-
-  some_same : {t u : Option ObjId} → Maybe (ObjectIds (named W)) t u → is_some t ≡ is_some u
-  some_same none = refl
-  some_same (some x) = refl
-
-  nothing_same : {t u : Option ObjId} → t ≡ None → u ≡ None → Maybe (ObjectIds (named W)) t u
-  nothing_same {t = t} {u = u} e f = subst (λ x. Maybe (ObjectIds (named W)) x u) (sym e) (subst (λ x. Maybe (ObjectIds (named W)) None x) (sym f) none)
+      some (record { linked = subst (λ j. Named W a.0 j) same (named_site a.0 (known a.0 (head_in a.0 []))) })
 
   event_rel : (p q : EventParts) → IsKeptEvent things p → IsRested (class.Event q) → event_of [] q ≡ sited_event sites (event_of things p) → EventRel (named W) p q
   event_rel p q left right same =
@@ -202,9 +170,9 @@ module _ (s : Store) (h : Contents) (things sites : List ℕ) (walk : IsWalk s t
         bubbles = sym (ap (λ x. x.bubbles) same);
         cancelable = sym (ap (λ x. x.cancelable) same);
         begun = sym (ap (λ x. x.begun) same);
-        sent = left.sent ∙ some_same target ∙ sym right.0;
+        sent = left.sent ∙ is_some_same target ∙ sym right.0;
         target = target;
-        current = nothing_same left.quiet.current right.1;
+        current = nothing_same (named W) p.current q.current left.quiet.current right.1;
         phase = left.quiet.phase ∙ sym right.2;
       }
 
@@ -230,11 +198,11 @@ module _ (s : Store) (h : Contents) (things sites : List ℕ) (walk : IsWalk s t
       })
   class_rel c n below a b one two known fits kept parts rested (rebuilt.bound {target = target} {this = this} {args = args}) =
       let others : (j : ℕ) → is_in j (value_links this ++ values_links args) ≡ true → IsKnown things j =
-      λ j g. known j (right_in j (target.0 ∷ []) (value_links this ++ values_links args) g)
+      λ j g. known j (among_right j (target.0 ∷ []) (value_links this ++ values_links args) g)
       in
-      bound (named_site target.0 (known target.0 (left_in target.0 (target.0 ∷ []) (value_links this ++ values_links args) (self_in target.0))))
-      (value_rel this (λ j g. others j (left_in j (value_links this) (values_links args) g)))
-      (values_rel args (λ j g. others j (right_in j (value_links this) (values_links args) g)))
+      bound (named_site target.0 (known target.0 (among_left target.0 (target.0 ∷ []) (value_links this ++ values_links args) (head_in target.0 []))))
+      (value_rel this (λ j g. others j (among_left j (value_links this) (values_links args) g)))
+      (values_rel args (λ j g. others j (among_right j (value_links this) (values_links args) g)))
   class_rel c n below a b one two known fits kept parts rested (rebuilt.node {a = k} {b = j}) =
       node (record { named = nodes_paired s.heap.objects h.objects (document.0 ∷ things) (document.0 ∷ sites) (suc n) (omega (arith, below)) (ap suc count) k j one two })
   class_rel c n below a b one two known fits kept parts rested (rebuilt.event {a = p} {b = q}) =
@@ -258,11 +226,11 @@ module _ (s : Store) (h : Contents) (things sites : List ℕ) (walk : IsWalk s t
       λ j i. links_in_walk s things still walk k (place_in things n below) j (props_among s k j i)
       in
       let above : Maybe (ObjectIds (named W)) o.proto (sited_proto sites (moved_proto things o.proto)) =
-      proto_rel o.proto (λ j i. linked j (left_in j (proto_links o.proto) (class_links s o.class) i))
+      proto_rel o.proto (λ j i. linked j (among_left j (proto_links o.proto) (class_links s o.class) i))
       in
       record {
         class = class_rel c n below o.class p.class refl refl
-            (λ j i. linked j (right_in j (proto_links o.proto) (class_links s o.class) i)) fits (event_kept s things still walk n below) hosted.event hosted.rested is.class;
+            (λ j i. linked j (among_right j (proto_links o.proto) (class_links s o.class) i)) fits (event_kept s things still walk n below) hosted.event hosted.rested is.class;
         proto = subst (λ q. Maybe (ObjectIds (named W)) o.proto q) (sym is.proto) above;
         extensible = sym is.extensible;
         closed = still.shaped.not_closed k (is_thing_at s things n walk below) ∙ sym is.closed;

@@ -44,7 +44,7 @@ open_for o x closed none =
     ∙ ap (λ (p : Option Prop). is_window o.class && (names_global x && is_some p)) none
     ∙ and_right (is_window o.class) _ (and-false (names_global x))
 
--- the object, with these properties behind its own
+-- the object, with these properties after its own
 abbrev pub and_props : Object → Props → Object
 and_props o ps = with_props o (o.props ++ ps)
 

@@ -9,6 +9,7 @@ use Rattle.rebuild_plan.specs.declared.phase.Phase.{Phase}
 use Rattle.rebuild_plan.specs.declared.statement.Rebuild.{Rebuild}
 use Rattle.rebuilding.specs.Rebuilt.{Succeeds, nth}
 use Rattle.rebuilding.specs.Scene.{IsHosting, Scene}
+use Rattle.rebuilding.proofs.Basics.{one_on}
 
 -- the statements for the thing with this number lead from its state to the next one's
 abbrev pub HostStepSucceeds : Scene → (Contents → Host → List ℕ → Type 0) → Contents → Store → List ℕ → List ℕ → Phase → (ℕ → Host → Type 0) → Type 0
@@ -36,9 +37,6 @@ module _ (c : Scene) (End : Contents → Host → List ℕ → Type 0) (h : Cont
       subst (Succeeds c End h g sites) are
       (step n g (others ++ rs) (omega (arith, count)) hosting is
       (λ j now next. from ks (suc n) j rs (omega (arith, count)) (λ i there. same (suc i) (omega (arith, there)) ∙ ap (nth things) (one_on n i)) now next later))
-    where
-      one_on : (a b : ℕ) → a + suc b ≡ suc a + b
-      one_on a b = omega arith
 
   pub each_host : (g : Host) (rs : List Rebuild) → IsHosting h g → State 0 g
       → ((j : Host) → IsHosting h j → State (length things) j → Succeeds c End h j sites rs)

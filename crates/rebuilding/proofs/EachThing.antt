@@ -13,6 +13,7 @@ use Rattle.rebuilding.specs.Scene.{IsRunning, Scene, IsHosting}
 use Rattle.rebuilding.proofs.Going.{Allowed, Going}
 use Rattle.rebuilding.proofs.Phase.{Phase, phase_next, phase_same}
 use Rattle.page_host.specs.Host.{Host}
+use Rattle.rebuilding.proofs.Basics.{one_on}
 
 -- the first n things have become what they are to be
 abbrev pub mixed : (ℕ → Object) → (ℕ → Object) → ℕ → ℕ → Object
@@ -73,6 +74,3 @@ module _ (c : Scene) (End : Contents → Host → List ℕ → Type 0) (s : Stor
       (phase_next c g h i w sites own root (mixed before after n) (mixed before after (suc n)) n (after n) phase within now
       (sym (mixed_last before after (suc n) n (omega arith))) (λ m other. mixed_other before after n m other))
       more later))
-    where
-      one_on : (a b : ℕ) → a + suc b ≡ suc a + b
-      one_on a b = omega arith

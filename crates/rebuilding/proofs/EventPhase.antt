@@ -29,7 +29,7 @@ use Rattle.rebuilding.specs.Rebuilt.{Succeeds, nth}
 use Rattle.rebuilding.specs.Running.{IsNodeHere, Lacks, node_of_class, object_here, with_parts}
 use Rattle.rebuilding.specs.Scene.{IsHosting, IsRunning, Scene}
 use Rattle.rebuilding.specs.Sites.{site, sited, sited_proto}
-use Rattle.rebuilding.proofs.Basics.{not_in}
+use Rattle.rebuilding.proofs.Basics.{not_in, one_on}
 use Rattle.rebuilding.proofs.Placed.{site_thing}
 use Rattle.rebuilding.proofs.SitesApart.{site_there, sites_differ}
 use Rattle.rebuilding.proofs.Going.{Allowed, Going, changed_next, going_begins, range_rest, stands_split}
@@ -340,9 +340,6 @@ module _ (c : Scene) (End : Contents → Host → List ℕ → Type 0) (s : Stor
     where
       saved_at : ℕ → Option SavedEvent
       saved_at j = event_as things (object_at s.heap.objects j).class
-
-      one_on : (a b : ℕ) → a + suc b ≡ suc a + b
-      one_on a b = omega arith
 
   -- from the page as the phase finds it; the document is no event
   pub events_succeed : (rs : List Rebuild) (p : Compact) → p.things ≡ things_at s things things → p.document.event ≡ None → AreReady → IsRunning c g sites → IsHosting g w

@@ -32,12 +32,12 @@ use Rattle.rebuilding.specs.Running.{Lacks, object_here}
 use Rattle.rebuilding.specs.Scene.{Scene}
 use Rattle.rebuilding.specs.Sites.{sited_proto}
 use Rattle.rebuilding.proofs.Basics.{nothing}
-use Rattle.rebuilding.proofs.Callables.{IsKnownPlace}
+use Rattle.rebuilding.proofs.Known.{IsKnown}
 use Rattle.rebuilding.proofs.EventPhase.{AreReady, IsInOrder, IsReached}
 use Rattle.rebuilding.proofs.ListenPhase.{bare_lacks}
 use Rattle.rebuilding.proofs.NodesAt.{NodesStand, document_here, document_node, thing_here, thing_node}
 use Rattle.rebuilding.proofs.OwnObjects.{OwnObjects}
-use Rattle.rebuilding.proofs.Placed.{event_low, is_thing_at, number_at, place_in, place_low, proto_built_in}
+use Rattle.rebuilding.proofs.Placed.{event_low, is_thing_at, number_at, place_in, place_low, proto_built_in, young_walk}
 use Rattle.rebuilding.proofs.Stages.{Made, MadeHost, MadeProps}
 
 -- ---- events of the saved page
@@ -109,7 +109,7 @@ module _ (c : Scene) (End : Contents → Host → List ℕ → Type 0) (s : Stor
   within n inside = omega (arith, inside, made.count)
 
   -- where a node that can be reached stands
-  reached_node : (at : ObjId) → IsKnownPlace things at.0 → is_node_class s.host.nodes (class_at s at) ≡ true → IsReached c End sites h g (Some (moved things at))
+  reached_node : (at : ObjId) → IsKnown things at.0 → is_node_class s.host.nodes (class_at s at) ≡ true → IsReached c End sites h g (Some (moved things at))
   reached_node at (inr among) is =
       let i = number_at things at.0 among in
       let a = is_node s.host.nodes (class_at s at) is in
@@ -128,10 +128,10 @@ module _ (c : Scene) (End : Contents → Host → List ℕ → Type 0) (s : Stor
       place k = record { 0 = k }
 
       by : (at.0 < built_in_count) ⊎ (built_in_count ≤ at.0) → IsReached c End sites h g (Some (moved things at))
-      by (inl built) = let a = is_node s.host.nodes (class_at s at) is in absurd (built_in_is_no_node s things still walk at.0 a.node built a.class)
+      by (inl built) = let a = is_node s.host.nodes (class_at s at) is in absurd (built_in_is_no_node s still at.0 a.node built a.class)
       by (inr past) =
           let last : at.0 ≡ document.0 = omega (arith, low, past) in
-          let same : moved things at ≡ document = ap place (place_low s things at.0 walk low ∙ last) in
+          let same : moved things at ≡ document = ap place (place_low things at.0 (young_walk s things walk) low ∙ last) in
           let lacks : Lacks (object_here h sites document) (codes "dispatchEvent") = bare_lacks (object_here h sites document) (codes "dispatchEvent")
           (ap (λ (o : Object). o.props) (document_here h sites) ∙ nodes.document_props)
           in

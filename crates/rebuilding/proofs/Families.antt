@@ -1,10 +1,9 @@
 -- A reached node has its parent and its children among the reached ones.
 use Rattle.std.proofs.Common.{◌≡◌, ◌⊎◌, inl, inr, refl, sym, ap, subst, ◌∙◌, ℕ, ◌<◌, ◌≤◌, true, nat_eq, List, [], ◌∷◌, ◌++◌, Some, length, arith}
-use Rattle.std.proofs.lemmas.Bool.{and_parts, cases_lt, eq-eqb, eqb-true, ltb-true, or_cases, or_left, or_right}
-use Rattle.std.proofs.lemmas.List.Folds.{list_any-append}
+use Rattle.std.proofs.lemmas.Bool.{and_parts, cases_lt, eq-eqb, eqb-true, ltb-true, or_cases, or_left}
 use Rattle.dom_tree.proofs.Callers.{child_in, parent_in}
 use Rattle.dom_tree.specs.Node.{Nodes, children_at, has, parent_at}
-use Rattle.heap_walker.proofs.Callers.{document_among, host_among, links_in_walk, roots_in_walk}
+use Rattle.heap_walker.proofs.Callers.{among_left, among_right, document_among, host_among, links_in_walk, roots_in_walk}
 use Rattle.heap_walker.specs.Still.{Still}
 use Rattle.heap_walker.specs.Things.{IsWalk, calls_links, heard_at, host_links, is_in, nodes_links, parent_links}
 use Rattle.js_values.specs.declared.ids.NodeId.{NodeId}
@@ -18,18 +17,12 @@ use Rattle.page_writer.specs.Frame.{nth_node}
 use Rattle.rebuild_plan.proofs.Callers.{all_nodes, built_in_is_no_node, document_class, node_linked}
 use Rattle.rebuild_plan.specs.Moved.{first_thing}
 use Rattle.rebuilding.specs.Rebuilt.{nth}
-use Rattle.rebuilding.proofs.Callables.{IsKnownPlace}
+use Rattle.rebuilding.proofs.Known.{IsKnown}
 use Rattle.rebuilding.proofs.ChildModel.{IsFamily}
 use Rattle.rebuilding.proofs.Hearable.{AreKnown, all_known}
 use Rattle.rebuilding.proofs.OwnObjects.{node_same}
 use Rattle.rebuilding.proofs.Placed.{is_thing_at, number_at, place_in}
 use Rattle.rebuilding.proofs.SavedNodes.{first_has, more_has, node_found, node_listed, whole_rest}
-
-in_left : (j : ℕ) (xs ys : List ℕ) → is_in j xs ≡ true → is_in j (xs ++ ys) ≡ true
-in_left j xs ys h = list_any-append (nat_eq j) xs ys ∙ or_left (is_in j xs) (is_in j ys) h
-
-in_right : (j : ℕ) (xs ys : List ℕ) → is_in j ys ≡ true → is_in j (xs ++ ys) ≡ true
-in_right j xs ys h = list_any-append (nat_eq j) xs ys ∙ or_right (is_in j xs) (is_in j ys) h
 
 module _ (s : Store) (things : List ℕ) (still : Still s) (walk : IsWalk s things) where
   abbrev t : Nodes
@@ -42,7 +35,7 @@ module _ (s : Store) (things : List ℕ) (still : Still s) (walk : IsWalk s thin
   object d = (object_of_node s.host.objects d).0
 
   root_class : (object_at s.heap.objects document.0).class ≡ class.Node (nth_node 0)
-  root_class = document_class s things still walk
+  root_class = document_class s still
 
   class_of : (d : NodeId) → d.0 < length t → (object_at s.heap.objects (object d)).class ≡ class.Node d
   class_of d low = still.shaped.host.object_of d.0 low
@@ -55,17 +48,17 @@ module _ (s : Store) (things : List ℕ) (still : Still s) (walk : IsWalk s thin
   found d low (inl small) = by (cases_lt (object d) built_in_count)
     where
       by : (object d < built_in_count) ⊎ (built_in_count ≤ object d) → has d.0 known ≡ true
-      by (inl h) = absurd (built_in_is_no_node s things still walk (object d) d h (class_of d low))
+      by (inl h) = absurd (built_in_is_no_node s still (object d) d h (class_of d low))
       by (inr h) =
           let last : object d ≡ document.0 = omega (arith, small, h) in
           let zero_is : d.0 ≡ 0 = node_same (sym (class_of d low) ∙ ap (λ m. (object_at s.heap.objects m).class) last ∙ root_class) in
           subst (λ m. has m known ≡ true) (sym zero_is) (first_has (nth_node 0) (all_nodes s things))
 
   -- what a reached node refers to is reached or built in
-  linked_place : (k : NodeId) → has k.0 known ≡ true → (x : ℕ) → is_in x (host_links s.host (class.Node k)) ≡ true → IsKnownPlace things x
+  linked_place : (k : NodeId) → has k.0 known ≡ true → (x : ℕ) → is_in x (host_links s.host (class.Node k)) ≡ true → IsKnown things x
   linked_place k h x i = by (or_cases (nat_eq k.0 0) (has k.0 (all_nodes s things)) h)
     where
-      by : (nat_eq k.0 0 ≡ true) ⊎ (has k.0 (all_nodes s things) ≡ true) → IsKnownPlace things x
+      by : (nat_eq k.0 0 ≡ true) ⊎ (has k.0 (all_nodes s things) ≡ true) → IsKnown things x
       by (inl e) =
           let mine : (object_at s.heap.objects document.0).class ≡ class.Node k = root_class ∙ ap (λ m. class.Node (nth_node m)) (sym (eqb-true k.0 0 e)) in
           roots_in_walk s things still walk x (document_among s x (host_among s document.0 x (ap (λ C. is_in x (host_links s.host C)) mine ∙ i)))
@@ -90,7 +83,7 @@ module _ (s : Store) (things : List ℕ) (still : Still s) (walk : IsWalk s thin
   pub heard_known : (k : NodeId) → has k.0 (nth_node 0 ∷ all_nodes s things) ≡ true → AreKnown things (heard_at k.0 s.host.listeners)
   heard_known k h =
       all_known things (heard_at k.0 s.host.listeners)
-      (λ x i. linked_place k h x (in_right x (up k) (down k ++ calls k) (in_right x (down k) (calls k) i)))
+      (λ x i. linked_place k h x (among_right x (up k) (down k ++ calls k) (among_right x (down k) (calls k) i)))
 
   pub family : IsFamily s things
   family = record {
@@ -100,8 +93,8 @@ module _ (s : Store) (things : List ℕ) (still : Still s) (walk : IsWalk s thin
     no_thing = λ n inside is. no_root n inside is;
     children =
         λ k d h i. linked_known k d h (child_in t still.shaped.host.sound.nodes.trees k.0 d.0 i)
-        (in_right (object d) (up k) (down k ++ calls k) (in_left (object d) (down k) (calls k) (node_linked s.host.objects d (children_at t k.0) i)));
-    parents = λ k p h e. linked_known k p h (parent_in t still.shaped.host.sound.nodes.trees k.0 p e) (in_left (object p) (up k) (down k ++ calls k) (above k p e));
+        (among_right (object d) (up k) (down k ++ calls k) (among_left (object d) (down k) (calls k) (node_linked s.host.objects d (children_at t k.0) i)));
+    parents = λ k p h e. linked_known k p h (parent_in t still.shaped.host.sound.nodes.trees k.0 p e) (among_left (object p) (up k) (down k ++ calls k) (above k p e));
   }
     where
       above : (k p : NodeId) → parent_at t k.0 ≡ Some p → is_in (object p) (up k) ≡ true

@@ -57,7 +57,7 @@ module _ (c : Scene) (End : Contents → Host → List ℕ → Type 0) (s : Stor
       (i : Contents) → Going c g i w sites (site sites at.0) (with_props o (rebuilt_props sites things ps)) → Allowed (length sites) rs
       → Succeeds c End i w sites rs
 
-  -- the properties behind the first ones, which are there
+  -- the properties after the first ones, which are there
   pub rest_succeeds : (first others ps : Props) (xs : List Rebuild) (h : Contents) (o : Object) (rs : List Rebuild)
       → Going c g h w sites (site sites at.0) o
       → o.closed ≡ false → o.extensible ≡ true → is_list o.class ≡ false → o.props ≡ rebuilt_props sites things first → ps ≡ first ++ others

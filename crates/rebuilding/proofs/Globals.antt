@@ -1,9 +1,10 @@
--- The globals that scripts made are defined behind those that are built in.
+-- The globals that scripts made are defined after those that are built in.
 use Rattle.std.proofs.Common.{◌≡◌, refl, sym, ap, subst, ◌∙◌, ℕ, true, false, not, ◌&&◌, is_none, is_some, drop, Option, Some, None, List, [], ◌∷◌, ◌++◌, length, bytes_eq}
 use Rattle.std.proofs.Math.Seq.{drop-append_seam}
 use Rattle.std.proofs.lemmas.Bool.{and_from}
 use Rattle.std.specs.List.{IsDistinct, list_all}
 use Rattle.std.specs.Map.{keys_of}
+use Rattle.heap_walker.proofs.Callers.{window_globals}
 use Rattle.heap_walker.specs.Still.{Still}
 use Rattle.heap_walker.specs.Things.{globals_of}
 use Rattle.object_heap.specs.Chain.{object_at}
@@ -21,15 +22,14 @@ use Rattle.page_meaning.specs.Store.{Store}
 use Rattle.rebuild_plan.specs.Compact.{moved_props}
 use Rattle.rebuild_plan.specs.Plan.{defines}
 use Rattle.rebuild_plan.specs.declared.statement.Rebuild.{Rebuild}
-use Rattle.rebuilding.specs.Rebuilt.{Succeeds}
-use Rattle.rebuilding.specs.Scene.{IsHosting, IsRunning, Scene}
-use Rattle.rebuilding.specs.Sites.{site}
+use Rattle.rebuilding.specs.Rebuilt.{IsRebuilt, Succeeds}
+use Rattle.rebuilding.specs.Scene.{IsHosting, IsRunning, Scene, page_with}
+use Rattle.rebuilding.specs.Sites.{site, sited_props}
 use Rattle.rebuilding.proofs.Defining.{and_props, defines_succeed}
 use Rattle.rebuilding.proofs.Going.{Allowed, Going, going_begins}
 use Rattle.rebuilding.proofs.PropertyNames.{both_keys, moved_all, moved_keys, rebuilt_props}
 use Rattle.rebuilding.proofs.WindowStays.{is_built}
 use Rattle.object_shapes.specs.Shapes.{IsWindow, built_in_at}
-use Rattle.page_meaning.specs.Pristine.{built_in_globals}
 use Rattle.rebuilding.proofs.Placed.{site_built_in, some_built_in}
 
 pub at_window : (sites : List ℕ) → site sites window.0 ≡ window.0
@@ -37,17 +37,21 @@ at_window sites = site_built_in sites 0 some_built_in
 
 -- ---- which globals scripts made
 
-pub counted : length (built_in_at window.0).props ≡ built_in_globals
-unfolding built_in_globals
-counted = refl
+-- the global object has the built-in ones, and then those
+pub window_props : (s : Store) → IsWindow (object_at s.heap.objects window.0)
+    → (object_at s.heap.objects window.0).props ≡ (built_in_at window.0).props ++ globals_of s
+window_props s rest = rest.props ∙ ap (λ ps. (built_in_at window.0).props ++ ps) (sym (window_globals (object_at s.heap.objects window.0) rest))
 
--- those behind the ones that are built in
-pub globals_are : (o : Object) (rest : IsWindow o) → drop built_in_globals o.props ≡ rest.others
-globals_are o rest =
-    ap (λ n. drop n o.props) (sym counted) ∙ ap (drop (length (built_in_at window.0).props)) rest.props
-    ∙ drop-append_seam (built_in_at window.0).props rest.others
+-- of the page that was rebuilt they are those of the page that was saved
+pub globals_same : (c : Scene) (s : Store) (things : List ℕ) (h : Contents) (g : Host) (sites : List ℕ) → IsRebuilt c s things h g sites
+    → globals_of (page_with h g) ≡ sited_props sites (moved_props things (globals_of s))
+globals_same c s things h g sites is =
+    let first : Props = (built_in_at window.0).props in
+    let own : Props = sited_props sites (moved_props things (globals_of s)) in
+    let whole : first ++ globals_of (page_with h g) ≡ first ++ own = sym (window_props (page_with h g) is.running.own.window) ∙ is.globals in
+    sym (drop-append_seam first (globals_of (page_with h g))) ∙ ap (drop (length first)) whole ∙ drop-append_seam first own
 
--- their names are new behind the built-in ones
+-- their names are new after the built-in ones
 globals_new : (bs others saved now left : Props) (things : List ℕ) → left ≡ others → saved ≡ bs ++ others → HasDistinctNames saved → now ≡ bs
     → IsDistinct bytes_eq (keys_of now ++ keys_of (moved_props things left))
 globals_new bs others saved now left things same are names is =
@@ -88,7 +92,7 @@ pub globals_succeed : (c : Scene) (End : Contents → Host → List ℕ → Type
 globals_succeed c End s things sites h w rs still running hosting now allowed later =
     let o : Object = object_at h.objects window.0 in
     let rest : IsWindow (object_at s.heap.objects window.0) = still.shaped.window in
-    let left : globals_of s ≡ rest.others = globals_are (object_at s.heap.objects window.0) rest in
+    let left : globals_of s ≡ rest.others = window_globals (object_at s.heap.objects window.0) rest in
     let ordinary : is_list o.class ≡ false = ap is_list running.own.window.class in
     defines_succeed c End sites h w (moved_props things (globals_of s)) h window o rs
     (going_begins c h w sites (site sites window.0) o running hosting (ap (object_at h.objects) (at_window sites)))

@@ -22,15 +22,16 @@ use Rattle.rebuild_plan.specs.Nodes.{moved_listeners}
 use Rattle.rebuilding.specs.Rebuilt.{ClassIsRebuilt, nth}
 use Rattle.rebuilding.specs.Scene.{IsRunning, Scene}
 use Rattle.rebuilding.specs.Sites.{site, sited}
-use Rattle.rebuilding.proofs.Callables.{IsKnownPlace, known_apart, known_callable, known_stands}
+use Rattle.rebuilding.proofs.Callables.{known_apart, known_callable, known_stands}
+use Rattle.rebuilding.proofs.Known.{IsKnown}
 use Rattle.rebuilding.proofs.ListenPhase.{CanHear, heard_as}
 
 -- each calls what is built in or a thing
 abbrev pub AreKnown : List ℕ → List Listener → Type 0
 AreKnown things [] = Unit {0}
-AreKnown things (l ∷ ls) = IsKnownPlace things l.call.0 × AreKnown things ls
+AreKnown things (l ∷ ls) = IsKnown things l.call.0 × AreKnown things ls
 
-pub all_known : (things : List ℕ) (ls : List Listener) → ((x : ℕ) → is_in x (calls_links ls) ≡ true → IsKnownPlace things x) → AreKnown things ls
+pub all_known : (things : List ℕ) (ls : List Listener) → ((x : ℕ) → is_in x (calls_links ls) ≡ true → IsKnown things x) → AreKnown things ls
 all_known things [] each = tt
 all_known things (l ∷ ls) each = (
   each l.call.0 (or_left (nat_eq l.call.0 l.call.0) (is_in l.call.0 (calls_links ls)) (eq-eqb l.call.0 l.call.0 refl)),
@@ -86,7 +87,7 @@ module _ (c : Scene) (h : Contents) (s : Store) (things sites : List ℕ) (runni
     shown_end [] y = refl
     shown_end (x ∷ xs) y = ap (λ ls. show x ∷ ls) (shown_end xs y)
 
-    same_back : (l m : Listener) → l.node.0 ≡ a → m.node.0 ≡ a → IsKnownPlace things l.call.0 → IsKnownPlace things m.call.0
+    same_back : (l m : Listener) → l.node.0 ≡ a → m.node.0 ≡ a → IsKnown things l.call.0 → IsKnown things m.call.0
         → is_same_listener (show l) (show m) ≡ true → is_same_listener l m ≡ true
     same_back l m one other left right e =
         let calls : Bool = nat_eq (site sites (place_of things l.call.0)) (site sites (place_of things m.call.0)) in
@@ -107,7 +108,7 @@ module _ (c : Scene) (h : Contents) (s : Store) (things sites : List ℕ) (runni
     both_false : (b d : Bool) → b ≡ false → d ≡ false → (b || d) ≡ false
     both_false b d e g = rw (e, g) refl
 
-    not_registered : (before : List Listener) (l : Listener) → AreOf a before → AreKnown things before → l.node.0 ≡ a → IsKnownPlace things l.call.0
+    not_registered : (before : List Listener) (l : Listener) → AreOf a before → AreKnown things before → l.node.0 ≡ a → IsKnown things l.call.0
         → is_registered before l ≡ false → is_registered (shown before) (show l) ≡ false
     not_registered [] l of known mine place e = refl
     not_registered (m ∷ before) l of known mine place e =
@@ -120,7 +121,7 @@ module _ (c : Scene) (h : Contents) (s : Store) (things sites : List ℕ) (runni
     of_end [] y of e = (e, tt)
     of_end (x ∷ xs) y of e = (of.0, of_end xs y of.1 e)
 
-    known_end : (xs : List Listener) (y : Listener) → AreKnown things xs → IsKnownPlace things y.call.0 → AreKnown things (xs ++ y ∷ [])
+    known_end : (xs : List Listener) (y : Listener) → AreKnown things xs → IsKnown things y.call.0 → AreKnown things (xs ++ y ∷ [])
     known_end [] y known e = (e, tt)
     known_end (x ∷ xs) y known e = (known.0, known_end xs y known.1 e)
 

@@ -13,7 +13,7 @@ use Rattle.object_heap.specs.declared.object.Class.{Class}
 use Rattle.object_heap.specs.declared.object.Class.TheVariants.{Native}
 use Rattle.page_host.specs.HostNames.{host_name}
 use Rattle.page_host.specs.declared.host_name.HostName.{HostName}
-use Rattle.page_meaning.specs.Act.{Act, Ended, Outcome, also, done, nothing, on_value, then_on}
+use Rattle.page_meaning.specs.Act.{Act, Ended, also, done, nothing, on_value, then_on}
 use Rattle.page_meaning.specs.Calls.{begin, called, calls_at}
 use Rattle.page_meaning.specs.Errors.{settle}
 use Rattle.page_meaning.specs.Expressions.{eval, eval_args}
@@ -24,12 +24,8 @@ use Rattle.page_meaning.specs.Reading.{named_at}
 use Rattle.page_meaning.specs.Rows.{row_of}
 use Rattle.page_meaning.specs.Statements.{exec}
 use Rattle.page_meaning.specs.Store.{Store}
-use Rattle.page_meaning.specs.declared.signal.Signal.{Signal}
 use Rattle.page_meaning.specs.declared.signal.Signal.TheVariants.{Value as Val}
-
--- what goes on with a value, once it is there
-also_on : (f : Value → Act) {o : Outcome Signal} {v : Value} {t : Store} {k : ℕ} → o ≡ Ended (Val v) t k → then_on o (on_value f) ≡ (f v).run t k
-also_on f e = ap (λ (o : Outcome Signal). then_on o (on_value f)) e
+use Rattle.rebuilding.proofs.Calling.{also_on}
 
 -- the built-in function stands at its place
 abbrev pub IsNative : Store → BuiltIn → Type 0

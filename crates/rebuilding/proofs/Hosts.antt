@@ -25,9 +25,9 @@ use Rattle.host_relations.specs.Nodes.{NodeIds, NodeRel, NodesRel}
 use Rattle.host_relations.specs.Restart as restart
 use Rattle.host_relations.specs.Timers.{TimersRel}
 use Rattle.agreement.specs.Acts.{clocks_of}
-use Rattle.heap_walker.proofs.Callers.{document_among, host_among, links_in_walk, roots_in_walk, timers_among}
+use Rattle.heap_walker.proofs.Callers.{among_left, among_right, document_among, host_among, links_in_walk, roots_in_walk, timers_among}
 use Rattle.heap_walker.specs.Still.{Still}
-use Rattle.heap_walker.specs.Things.{IsWalk, calls_links, heard_at, host_links, is_in, links, node_links, nodes_links, parent_links, timers_links}
+use Rattle.heap_walker.specs.Things.{IsWalk, calls_links, heard_at, host_links, is_in, links, node_links, nodes_links, parent_links}
 use Rattle.page_writer.specs.Frame.{nth_node}
 use Rattle.rebuild_plan.proofs.Callers.{built_in_is_no_node, document_class}
 use Rattle.rebuild_plan.specs.Compact.{moved, place_of}
@@ -38,24 +38,19 @@ use Rattle.rebuilding.specs.Rebuilt as rebuilt
 use Rattle.rebuilding.specs.Rebuilt.{ClassIsRebuilt, HostIsRebuilt, IsOwned, IsRebuilt, kind_as, nth, sited_ids, sited_listeners, sited_node, sited_timers}
 use Rattle.rebuilding.specs.Scene.{Scene}
 use Rattle.rebuilding.specs.Sites.{site, sited}
-use Rattle.rebuilding.proofs.Carried.{head_in, heads_same, in_left, in_right, tail_in, tails_same}
-use Rattle.rebuilding.proofs.Counterparts.{IsKnown, named_site}
-use Rattle.rebuilding.proofs.Naming.{IsNodePair, built_in_paired, node_pair_at, nodes_paired, pair_is, rebuilt_world, thing_at, thing_paired}
+use Rattle.rebuilding.proofs.Basics.{heads_same, tails_same}
+use Rattle.rebuilding.proofs.Counterparts.{named_site}
+use Rattle.rebuilding.proofs.Known.{IsKnown, head_in, tail_in, timer_in}
+use Rattle.rebuilding.proofs.Naming.{IsNodePair, built_in_paired, node_pair_at, nodes_paired, pair_is, rebuilt_world, site_of_built_in, thing_at, thing_paired}
 use Rattle.rebuilding.proofs.OneToOne.{same_places, site_below}
-use Rattle.rebuilding.proofs.Placed.{place_in, place_low, site_low}
-
-abbrev node_number : Class → ℕ
-node_number (class.Node k) = k.0
-node_number d = 0
-
-node_same : (a b : ℕ) → class.Node (nth_node a) ≡ class.Node (nth_node b) → a ≡ b
-node_same a b e = ap node_number e
+use Rattle.rebuilding.proofs.Placed.{place_in, young_walk}
+use Rattle.rebuilding.proofs.OwnObjects.{node_same}
 
 -- ---- which node stands for which
 
-record IsNodeToo (d : Class) : Type 0 where
-  node : NodeId
-  is : d ≡ class.Node node
+pub record IsNodeToo (d : Class) : Type 0 where
+  pub node : NodeId
+  pub is : d ≡ class.Node node
 
 module _ {c : Scene} {es : List Environment} {s : Store} {things sites : List ℕ} {k : ℕ} where
   node_on_right : {a b : Class} → ClassIsRebuilt c es s things sites k a b → (p : NodeId) → a ≡ class.Node p → IsNodeToo b
@@ -92,11 +87,6 @@ heard_there k (l ∷ ls) = by (nat_eq k l.node.0) refl (heard_there k ls)
     by false e later = rw e later
 
 -- ---- timers
-
-timer_in : (ts : List Live) (t : Live) → IsIn ts t → is_in t.call.0 (timers_links ts) ≡ true
-timer_in [] t i = absurd i
-timer_in (u ∷ ts) t (inl same) = subst (λ (v : Live). is_in v.call.0 (timers_links (u ∷ ts)) ≡ true) same (head_in u.call.0 (timers_links ts))
-timer_in (u ∷ ts) t (inr i) = tail_in t.call.0 u.call.0 (timers_links ts) (timer_in ts t i)
 
 same_timers : (things sites : List ℕ) (clock : ℕ) (ts : List Live)
     → restart.moved_timers clock (λ at. sited sites (moved things at)) ts ≡ sited_timers sites (moved_timers things clock ts)
@@ -194,13 +184,13 @@ module _ (c : Scene) (s : Store) (things : List ℕ) (h : Contents) (g : Host) (
       by : (a ≡ i) ⊎ (a ≡ i → ⊥) → nat_eq a i ≡ nat_eq b j
       by (inl same) =
           let ones : x.one ≡ y.one = sym (left_place x) ∙ ap (λ n. (object_of_node s.host.objects (nth_node n)).0) same ∙ left_place y in
-          let equal : b ≡ j = node_same b j (sym x.right ∙ ap (λ n. (object_at h.objects n).class) (to_right ones) ∙ y.right) in
+          let equal : b ≡ j = node_same (sym x.right ∙ ap (λ n. (object_at h.objects n).class) (to_right ones) ∙ y.right) in
           eq-eqb a i same ∙ sym (eq-eqb b j equal)
       by (inr other) =
           ne_eqb a i other
           ∙ sym (ne_eqb b j (λ same.
           let twos : x.two ≡ y.two = sym (right_place x) ∙ ap (λ n. (object_of_node g.objects (nth_node n)).0) same ∙ right_place y in
-          other (node_same a i (sym x.left ∙ ap (λ n. (object_at s.heap.objects n).class) (to_left twos) ∙ y.left))))
+          other (node_same (sym x.left ∙ ap (λ n. (object_at s.heap.objects n).class) (to_left twos) ∙ y.left))))
 
   -- ---- what is known is linked
 
@@ -224,10 +214,10 @@ module _ (c : Scene) (s : Store) (things : List ℕ) (h : Contents) (g : Host) (
       }
 
       low : k < first_thing → (k < built_in_count) ⊎ (built_in_count ≤ k) → Linked W p.0 q.0
-      low small (inl built) = absurd (built_in_is_no_node s things still walk k p built left)
+      low small (inl built) = absurd (built_in_is_no_node s still k p built left)
       low small (inr past) =
           let same : k ≡ document.0 = omega (arith, small, past) in
-          linked_at 0 (omega arith) same (at ∙ ap (site sites) (place_low s things k walk small) ∙ site_low sites k small ∙ same)
+          linked_at 0 (omega arith) same (at ∙ site_of_built_in things sites k small (young_walk s things walk) ∙ same)
 
       by : IsKnown things k → Linked W p.0 q.0
       by (inl small) = low small (cases_lt k built_in_count)
@@ -281,7 +271,7 @@ module _ (c : Scene) (s : Store) (things : List ℕ) (h : Contents) (g : Host) (
       let calls = calls_links (heard_at a s.host.listeners) in
       each_child (children_at s.host.nodes a) (children_at g.nodes b) (child_in s.host.nodes still.shaped.host.sound.nodes.trees a)
       (child_in g.nodes is.hosting.sound.nodes.trees b)
-      (λ j i. links_known x j (in_right j up (down ++ calls) (in_left j down calls i)))
+      (λ j i. links_known x j (among_right j up (down ++ calls) (among_left j down calls i)))
       (ap (λ n. n.children) (node_told x))
 
   each_heard : (a b : ℕ) → Linked W a b → (ls ms : List Listener) → AreAt a ls → AreAt b ms → ((j : ℕ) → is_in j (calls_links ls) ≡ true → IsKnown things j)
@@ -307,7 +297,7 @@ module _ (c : Scene) (s : Store) (things : List ℕ) (h : Contents) (g : Host) (
       let down = nodes_links s.host.objects (children_at s.host.nodes a) in
       let calls = calls_links (heard_at a s.host.listeners) in
       each_heard a b l (heard_at a s.host.listeners) (heard_at b g.listeners) (heard_there a s.host.listeners) (heard_there b g.listeners)
-      (λ j i. links_known x j (in_right j up (down ++ calls) (in_right j down calls i)))
+      (λ j i. links_known x j (among_right j up (down ++ calls) (among_right j down calls i)))
       (ap (λ n. n.listeners) (node_told x))
 
   -- ---- parents
@@ -356,7 +346,7 @@ module _ (c : Scene) (s : Store) (things : List ℕ) (h : Contents) (g : Host) (
       left = still.shaped.host.object_of p.0 there
 
       low : k < first_thing → (k < built_in_count) ⊎ (built_in_count ≤ k) → PartnerOf p.0
-      low small (inl built) = absurd (built_in_is_no_node s things still walk k p built left)
+      low small (inl built) = absurd (built_in_is_no_node s still k p built left)
       low small (inr past) =
           let same : k ≡ document.0 = omega (arith, small, past) in
           record {
@@ -399,7 +389,7 @@ module _ (c : Scene) (s : Store) (things : List ℕ) (h : Contents) (g : Host) (
       by (inl e) =
           let same : j ≡ document.0 = eqb-true j document.0 e in
           let two : (object_at h.objects document.0).class ≡ class.Node q = ap (λ k. (object_at h.objects k).class) (sym same) ∙ right in
-          let one : (object_at s.heap.objects document.0).class ≡ class.Node (nth_node 0) = document_class s things still walk in
+          let one : (object_at s.heap.objects document.0).class ≡ class.Node (nth_node 0) = document_class s still in
           record {
             node = 0;
             linked = record { named = nodes_paired s.heap.objects h.objects (document.0 ∷ things) (document.0 ∷ sites) 0 (omega arith) (ap suc is.count) (nth_node 0) q one two };
@@ -426,7 +416,7 @@ module _ (c : Scene) (s : Store) (things : List ℕ) (h : Contents) (g : Host) (
       let among : is_in k (parent_links s.host.objects (parent_at s.host.nodes a)) ≡ true =
       subst (λ o. is_in k (parent_links s.host.objects o) ≡ true) (sym up) (head_in k [])
       in
-      let known : IsKnown things k = links_known x k (in_left k (parent_links s.host.objects (parent_at s.host.nodes a)) rest among) in
+      let known : IsKnown things k = links_known x k (among_left k (parent_links s.host.objects (parent_at s.host.nodes a)) rest among) in
       let q = right_partner p (parent_in s.host.nodes trees a p up) known in
       let f = found_right a (children_rel p.0 q.node q.linked) (child_of_parent s.host.nodes trees a p up) in
       let same : b ≡ f.node.0 = eqb-true b f.node.0 (sym (one_to_one a b a f.node.0 l f.linked) ∙ eq-eqb a a refl) in
@@ -444,7 +434,7 @@ module _ (c : Scene) (s : Store) (things : List ℕ) (h : Contents) (g : Host) (
       sound n e first = let bad : None ≡ Some q = sym is.hosting.sound.nodes.root ∙ ap (parent_at g.nodes) (sym first) ∙ e in absurd (cc bad)
 
       by : (x.two ≡ document.0) ⊎ (is_in x.two sites ≡ true) → ⊥
-      by (inl same) = sound b up (node_same b 0 (sym x.right ∙ ap (λ n. (object_at h.objects n).class) same ∙ document_there))
+      by (inl same) = sound b up (node_same (sym x.right ∙ ap (λ n. (object_at h.objects n).class) same ∙ document_there))
       by (inr found) =
           let trees = is.hosting.sound.nodes.trees in
           let mine : is_in (object_of_node g.objects (nth_node b)).0 sites ≡ true = subst (λ n. is_in n sites ≡ true) (sym (right_place x)) found in
@@ -469,7 +459,7 @@ module _ (c : Scene) (s : Store) (things : List ℕ) (h : Contents) (g : Host) (
   pub document_linked : Linked (rebuilt_world s h things sites) 0 0
   document_linked = record {
     named = nodes_paired s.heap.objects h.objects (document.0 ∷ things) (document.0 ∷ sites) 0 (omega arith) (ap suc is.count) (nth_node 0) (nth_node 0)
-        (document_class s things still walk) document_there;
+        (document_class s still) document_there;
   }
 
   node_rel : (a b : ℕ) → Linked W a b → NodeRel (Linked W) (node_at s.host.nodes a) (node_at g.nodes b)

@@ -5,6 +5,8 @@ pub mod ArrayFills
 pub mod Bared
 pub mod Basics
 pub mod Binds
+pub mod BuiltIns
+pub mod ByPlaces
 pub mod Callables
 pub mod Callers
 pub mod Calling
@@ -26,6 +28,7 @@ pub mod EventsReady
 pub mod Families
 pub mod FillSteps
 pub mod Fills
+pub mod FoundRound
 pub mod FrameSound
 pub mod Frames
 pub mod Fresh
@@ -43,6 +46,7 @@ pub mod HostRuns
 pub mod Hosts
 pub mod InOrder
 pub mod Indices
+pub mod Known
 pub mod Lasting
 pub mod List
 pub mod ListenPhase
@@ -90,5 +94,4 @@ pub mod TimersReady
 pub mod Uses
 pub mod WalkedAgain
 pub mod WindowStays
-pub mod WindowsAgree
 pub mod Wrapped

@@ -13,7 +13,7 @@ use Rattle.page_meaning.specs.Statements.{exec_all}
 use Rattle.page_meaning.specs.Store.{Store}
 use Rattle.page_meaning.specs.Tasks.{depth_limit, finished, Script, step_limit, task_of}
 use Rattle.page_writer.specs.Script.{saved_in_frame, saved_script, statements}
-use Rattle.rebuild_plan.specs.Compact.{compact, Thing, things_at}
+use Rattle.rebuild_plan.specs.Compact.{compact, Thing}
 use Rattle.rebuild_plan.specs.Plan.{defines, makes, plan, timers, whole}
 use Rattle.rebuild_plan.specs.declared.phase.Phase.TheVariants as phase
 use Rattle.rebuild_plan.specs.declared.statement.Rebuild.{Rebuild}
@@ -26,6 +26,7 @@ use Rattle.rebuilding.proofs.InOrder.{all_run, Finishes}
 use Rattle.rebuilding.proofs.Settling.{settled_heap, settled_is, settled_quiet, still_rebuilt}
 use Rattle.rebuilding.proofs.FrameSound.{frame_host_sound}
 use Rattle.rebuilding.proofs.Scripts.{begun, cleared, cleared_fresh, scene, script_run}
+use Rattle.rebuilding.proofs.Basics.{things_long}
 
 -- ---- limits
 
@@ -41,16 +42,12 @@ makes_long : (n : ℕ) (ts : List Thing) (rest : List Rebuild) → length ts ≤
 makes_long n [] rest = omega arith
 makes_long n (t ∷ ts) rest = omega (arith, makes_long (suc n) ts rest)
 
-as_many : (s : Store) (things ks : List ℕ) → length (things_at s things ks) ≡ length ks
-as_many s things [] = refl
-as_many s things (k ∷ ks) = ap suc (as_many s things ks)
-
 plan_long : (s : Store) (things : List ℕ) → length things ≤ length (plan (compact s things))
 plan_long s things =
     let c = compact s things in
     omega (
       arith,
-      as_many s things things,
+      things_long s things things,
       makes_long 0 c.things
           (whole phase.Children c
           ++ (whole phase.Contents c

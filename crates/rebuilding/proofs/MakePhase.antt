@@ -23,12 +23,12 @@ use Rattle.rebuilding.specs.Rebuilt.{Succeeds, nth}
 use Rattle.rebuilding.specs.Running.{CanBeMade, HasMade, IsMade, Stays, made_host}
 use Rattle.rebuilding.specs.Scene.{IsRunning, Scene, is_site, IsCleared, IsHosting}
 use Rattle.rebuilding.proofs.Fresh.{AreKept, can_make, made_fresh, IsNamed}
-use Rattle.rebuilding.proofs.Placed.{below_more, is_thing_at, nth_last, nth_more, place_in, some_built_in}
+use Rattle.rebuilding.proofs.Placed.{is_thing_at, nth_last, nth_more, place_in, some_built_in}
 use Rattle.rebuilding.proofs.Stages.{IsFresh, Made, MadeHost}
 use Rattle.rebuilding.proofs.Lasting.{fresh_stays}
 use Rattle.rebuilding.proofs.Targets.{target_kept}
 use Rattle.object_shapes.specs.Shapes.{HasShape, built_in_at}
-use Rattle.rebuilding.proofs.Basics.{all_at}
+use Rattle.rebuilding.proofs.Basics.{all_at, one_on}
 use Rattle.page_meaning.specs.Places.{built_in_count}
 use Rattle.object_shapes.specs.Links.{proto_links, all_below, is_thing}
 use Rattle.rebuild_plan.specs.Moved.{first_thing}
@@ -43,6 +43,7 @@ use Rattle.rebuild_plan.specs.declared.statement.Maker.{Maker}
 use Rattle.rebuilding.proofs.OwnObjects.{HasOwn, IsNodeOn, OwnObjects}
 use Rattle.rebuilding.specs.Rebuilt.{IsFresh as IsFirst}
 use Rattle.rebuilding.proofs.MadeHosts.{Joined, host_made, host_stays, joined_cleared, made_joined, own_joined, own_made}
+use Rattle.object_shapes.proofs.Callers.{below_more}
 
 -- ---- what holds of each maker
 
@@ -77,7 +78,7 @@ values_small s things (k ∷ ks) n (suc i) rest h inside =
 
 -- ---- the things so far
 
--- a front of the things stands at these sites
+-- the first things stand at these sites
 record Front (c : Scene) (s : Store) (things : List ℕ) (h : Contents) (g : Host) (sites : List ℕ) : Type 0 where
   running : IsRunning c h sites
   cleared : IsCleared h g
@@ -98,7 +99,7 @@ record IsSaved (s : Store) (things : List ℕ) : Type 0 where
   small : (i : ℕ) → i < length things → All IsLiteral (maker_values (maker_at s things (nth things i)))
   few : length things < 4294967295
 
--- the statements behind the makers
+-- the statements after the makers
 abbrev pub behind : Compact → List Rebuild
 behind p =
     whole phase.Children p
@@ -368,7 +369,7 @@ module _ (c : Scene) (s : Store) (things : List ℕ) (known : IsSaved s things) 
       subst (λ m. CanBeMade h sites n (maker_at s things m)) here (can h g sites n next few front),
       λ i w after running hosting run. later i w after
           (λ long front_after. from ks (suc n) i w after long (omega (arith, count))
-          (λ j inside. same (suc j) (omega (arith, inside)) ∙ ap (nth things) (moved_on n j)) front_after)
+          (λ j inside. same (suc j) (omega (arith, inside)) ∙ ap (nth things) (one_on n j)) front_after)
           (front_grows h g i w sites after n next front running hosting few (subst (λ m. HasMade c h g i w sites after (maker_at s things m)) (sym here) run)),
     )
       where
@@ -377,9 +378,6 @@ module _ (c : Scene) (s : Store) (things : List ℕ) (known : IsSaved s things) 
 
         here : nth things n ≡ k
         here = let none : n + 0 ≡ n = omega arith in sym (same 0 (omega arith) ∙ ap (nth things) none)
-
-        moved_on : (a b : ℕ) → a + suc b ≡ suc a + b
-        moved_on a b = omega arith
 
         later : (i : Contents) (w : Host) (after : List ℕ)
             → (suc n ≡ length after → Front c s things i w after → Succeeds c End i w after (makes (suc n) (things_at s things ks) ++ rest))

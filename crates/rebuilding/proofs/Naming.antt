@@ -1,10 +1,8 @@
 -- The naming of a page that was saved and the one that was rebuilt: what a page begins with names itself, and each thing the object at its site.
-use Rattle.std.proofs.Common.{◌≡◌, ◌⊎◌, inl, inr, refl, sym, ap, subst, ◌∙◌, ℕ, zero, suc, ◌<◌, ◌≤◌, Bool, true, false, nat_eq, List, [], ◌∷◌, ◌++◌, Option, Some, None, length, arith}
-use Rattle.std.proofs.lemmas.Bool.{cases_eq, cases_lt, eq-eqb, eqb-true, lt-ltb, ne_eqb}
+use Rattle.std.proofs.Common.{◌≡◌, ◌⊎◌, inl, inr, refl, sym, ap, subst, ◌∙◌, ℕ, zero, suc, ◌<◌, ◌≤◌, Bool, true, false, nat_eq, List, [], ◌∷◌, ◌++◌, Option, length, arith}
+use Rattle.std.proofs.lemmas.Bool.{cases_eq, cases_lt, eq-eqb, ne_eqb}
 use Rattle.std.proofs.lemmas.Bool.Decides.{nat_tests}
 use Rattle.std.proofs.lemmas.List.Kept.{AllPairs-from_increasing}
-use Rattle.std.proofs.lemmas.List.Quantifiers.{position-Some}
-use Rattle.std.specs.List.{position, position_or_len}
 use Rattle.std.specs.List.Sorted.{IsStrictlyIncreasing}
 use Rattle.js_core.specs.Tree.{Code}
 use Rattle.js_values.specs.declared.ids.EnvId.{EnvId}
@@ -18,13 +16,12 @@ use Rattle.page_meaning.specs.Store.{Store}
 use Rattle.heap_relations.specs.Naming.{Base, here, In, Pair, pair, there, World}
 use Rattle.agreement.specs.Trees.{code_fits, HasEqualTrees}
 use Rattle.heap_walker.specs.Things.{is_in}
-use Rattle.rebuild_plan.specs.Compact.{place_of, placed}
+use Rattle.rebuild_plan.specs.Compact.{place_of}
 use Rattle.rebuild_plan.specs.Moved.{first_thing}
 use Rattle.rebuilding.specs.Frames.{round_frame}
 use Rattle.rebuilding.specs.Rebuilt.{nth}
-use Rattle.rebuilding.specs.Sites.{site}
-use Rattle.rebuilding.proofs.Basics.{found_below}
-use Rattle.rebuilding.proofs.Placed.{site_thing}
+use Rattle.rebuilding.specs.Sites.{pairs, site}
+use Rattle.rebuilding.proofs.Placed.{AreYoung, number_at, place_low, site_low, site_thing}
 use Rattle.page_meaning.specs.Places.{document}
 
 -- ---- the world
@@ -33,11 +30,6 @@ use Rattle.page_meaning.specs.Places.{document}
 abbrev pub same_below : ℕ → List Pair
 same_below zero = []
 same_below (suc n) = pair n n ∷ same_below n
-
-abbrev pub pairs : List ℕ → List ℕ → List Pair
-pairs [] js = []
-pairs (k ∷ ks) [] = []
-pairs (k ∷ ks) (j ∷ js) = pair k j ∷ pairs ks js
 
 abbrev pub base_with : Code → Option EnvId → Class → List Base
 base_with source env (class.Page other round) = record { one = env; two = round; frame = round_frame source } ∷ []
@@ -137,7 +129,7 @@ pair_at (k ∷ ks) (j ∷ js) a b (there i) =
     let h = pair_at ks js a b i in
     record { place = suc h.place; below = omega (arith, h.below); one = h.one; two = h.two }
 
-paired : (ks js : List ℕ) (n : ℕ) → n < length ks → length js ≡ length ks → In (pair (nth ks n) (nth js n)) (pairs ks js)
+pub paired : (ks js : List ℕ) (n : ℕ) → n < length ks → length js ≡ length ks → In (pair (nth ks n) (nth js n)) (pairs ks js)
 paired [] js n below same = absurd (omega (arith, below))
 paired (k ∷ ks) [] n below same = absurd (omega (arith, same))
 paired (k ∷ ks) (j ∷ js) zero below same = here
@@ -237,15 +229,15 @@ nodes_paired os ps (k ∷ ks) (j ∷ js) (suc n) below same a b one two =
 
 -- ---- places
 
+pub differ : (a b c d : ℕ) → (a ≡ b → ⊥) → (c ≡ d → ⊥) → nat_eq a b ≡ nat_eq c d
+differ a b c d far away = ne_eqb a b far ∙ sym (ne_eqb c d away)
+
 -- numbers that rise are the same only at the same place
 pub rising_places : (ks : List ℕ) (m n : ℕ) → IsStrictlyIncreasing ks → m < length ks → n < length ks → nat_eq (nth ks m) (nth ks n) ≡ nat_eq m n
 rising_places ks m n rises one two = by (cases_lt m n) (cases_eq m n)
   where
     apart : (i j : ℕ) → i < j → j < length ks → nth ks i < nth ks j
     apart i j before inside = AllPairs-from_increasing ks rises i j 0 before inside
-
-    differ : (a b c d : ℕ) → (a ≡ b → ⊥) → (c ≡ d → ⊥) → nat_eq a b ≡ nat_eq c d
-    differ a b c d far away = ne_eqb a b far ∙ sym (ne_eqb c d away)
 
     by : (m < n) ⊎ (n ≤ m) → (m ≡ n) ⊎ (m ≡ n → ⊥) → nat_eq (nth ks m) (nth ks n) ≡ nat_eq m n
     by order (inl same) = subst (λ k. nat_eq (nth ks m) (nth ks k) ≡ nat_eq m k) same (eq-eqb (nth ks m) (nth ks m) refl ∙ sym (eq-eqb m m refl))
@@ -261,26 +253,12 @@ pub record IsThingAt (things sites : List ℕ) (k : ℕ) : Type 0 where
 
 pub thing_at : (things sites : List ℕ) (k : ℕ) → is_in k things ≡ true → IsThingAt things sites k
 thing_at things sites k found =
-    let i : ℕ = position_or_len (nat_eq k) things in
-    let inside : i < length things = found_below (nat_eq k) things found in
-    let is : position (nat_eq k) things ≡ Some i = rw (lt-ltb i (length things) inside) refl in
-    record {
-      place = i;
-      below = inside;
-      one = eqb-true k (nth things i) (position-Some (nat_eq k) things i 0 is).1;
-      two = ap (λ o. site sites (placed k o)) is ∙ site_thing sites i;
-    }
+    let m = number_at things k found in
+    record { place = m.0; below = m.2; one = sym m.3; two = ap (site sites) m.1 ∙ site_thing sites m.0 }
 
 -- what is built in stands where it stood, and so does the document
-pub site_of_built_in : (things sites : List ℕ) (k : ℕ) → k < first_thing → ((n : ℕ) → n < length things → first_thing ≤ nth things n)
-    → site sites (place_of things k) ≡ k
-site_of_built_in things sites k low young = by (position (nat_eq k) things) refl
-  where
-    by : (o : Option ℕ) → position (nat_eq k) things ≡ o → site sites (place_of things k) ≡ k
-    by None is = ap (λ o. site sites (placed k o)) is ∙ rw (lt-ltb k first_thing low) refl
-    by (Some i) is =
-        let found = position-Some (nat_eq k) things i 0 is in
-        absurd (omega (arith, low, young i found.0, eqb-true k (nth things i) found.1))
+pub site_of_built_in : (things sites : List ℕ) (k : ℕ) → k < first_thing → AreYoung things → site sites (place_of things k) ≡ k
+site_of_built_in things sites k low young = ap (site sites) (place_low things k young low) ∙ site_low sites k low
 
 -- ---- what the world names
 

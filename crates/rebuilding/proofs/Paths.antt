@@ -150,7 +150,7 @@ module _ (c : Scene) (s : Store) (sites : List ℕ) (r : IsRunning c s.heap site
         let g = holds_at (own_property (built_in_at window.0).props x) j h in
         global_read x g.prop n (other_name x j h) (built_in_found window.0 x g.prop g.there) ∙ ap (λ v. Ended (Val v) s n) g.holds
 
-    -- a name behind a dot
+    -- a name after a dot
     pub member_read : (e : tree.Expr) (k : ℕ) (x : List ℕ) (j : ℕ) → (eval calls (inside c) e).run s n ≡ Ended (Val (Reference (at_place k))) s n
         → held_by built_ins k x ≡ Some j → (eval calls (inside c) (member e x)).run s n ≡ Ended (Val (Reference (at_place j))) s n
     member_read e k x j base h =

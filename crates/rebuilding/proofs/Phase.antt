@@ -14,6 +14,7 @@ use Rattle.rebuilding.proofs.Basics.{not_in}
 use Rattle.rebuilding.proofs.Placed.{some_built_in}
 use Rattle.rebuilding.proofs.SitesApart.{site_there, sites_differ}
 use Rattle.page_host.specs.Host.{Host}
+use Rattle.rebuilding.proofs.Staying.{document_there}
 
 -- ---- the state of a phase
 
@@ -26,10 +27,6 @@ pub record Phase (c : Scene) (g h : Contents) (w : Host) (sites : List ℕ) (own
   pub things : (n : ℕ) → n < length sites → object_at h.objects (nth sites n) ≡ state n
   pub document : object_at h.objects document.0 ≡ root
   pub globals : (object_at h.objects window.0).props ≡ own
-
--- the list is younger than the document
-document_there : (c : Scene) (h : Contents) (sites : List ℕ) → IsRunning c h sites → document.0 < length h.objects
-document_there c h sites running = omega (arith, running.place.list_young, running.place.list_there)
 
 -- once the globals are defined
 pub phase_begins : (c : Scene) (g h : Contents) (w : Host) (sites : List ℕ) (o : Object) → IsRunning c g sites → Going c g h w sites window.0 o

@@ -2,10 +2,10 @@
 use Rattle.std.proofs.Common.{◌≡◌, refl, sym, ap, ◌∙◌, ℕ, zero, suc, ◌+◌, ◌-◌, ◌<◌, ◌≤◌, Bool, true, false, nat_eq, nat_lt, List, [], ◌∷◌, ◌++◌, Option, Some, None, length, arith}
 use Rattle.std.proofs.Math.ListN.{get_or-append}
 use Rattle.std.proofs.Math.Seq.{get_or-append_seam}
-use Rattle.std.proofs.lemmas.Bool.{eq-eqb, eqb-true, le-ltb, lt-ltb, ltb-false, ltb-true, and_parts, and_from}
+use Rattle.std.proofs.lemmas.Bool.{eq-eqb, eqb-true, le-ltb, lt-ltb, ltb-false, ltb-true, and_parts}
 use Rattle.std.proofs.lemmas.List.Folds.{list_all-append, list_any_at}
 use Rattle.std.proofs.lemmas.List.Quantifiers.{position-Some}
-use Rattle.std.specs.List.{list_all, position, position_or_len}
+use Rattle.std.specs.List.{list_all, position}
 use Rattle.heap_walker.specs.Things.{IsWalk, is_in, needs_links}
 use Rattle.js_values.specs.declared.ids.ObjId.{ObjId}
 use Rattle.js_values.specs.declared.throw.ErrorKind.{ErrorKind}
@@ -18,10 +18,10 @@ use Rattle.page_meaning.specs.Places.{array_prototype_place, error_prototype, er
 use Rattle.page_meaning.specs.Store.{Store}
 use Rattle.rebuild_plan.specs.Compact.{moved_proto, place_of, placed}
 use Rattle.heap_walker.proofs.Callers.{thing_of}
+use Rattle.rebuild_plan.proofs.Callers as plan
 use Rattle.rebuild_plan.specs.Moved.{first_thing}
 use Rattle.rebuilding.specs.Rebuilt.{nth}
 use Rattle.rebuilding.specs.Sites.{site, sited_needs, sited_proto, sited_value, sited_values}
-use Rattle.rebuilding.proofs.Basics.{found_below}
 use Rattle.page_meaning.specs.Places.{built_in_count}
 use Rattle.object_shapes.specs.Links.{is_thing, proto_links, value_links, values_links, all_below}
 
@@ -31,12 +31,6 @@ pub at_or : (p : Object → Bool) (os : List Object) (k : ℕ) → list_all p os
 at_or p [] k all none = none
 at_or p (o ∷ os) zero all none = (and_parts _ _ all).0
 at_or p (o ∷ os) (suc k) all none = at_or p os k (and_parts _ _ all).1 none
-
-pub below_more : (a b : ℕ) (ks : List ℕ) → a ≤ b → all_below a ks ≡ true → all_below b ks ≡ true
-below_more a b [] more h = refl
-below_more a b (k ∷ ks) more h =
-    let low : k < a = ltb-true k a (and_parts _ _ h).0 in
-    and_from _ _ (lt-ltb k b (omega (arith, low, more))) (below_more a b ks more (and_parts _ _ h).1)
 
 -- ---- places
 
@@ -73,29 +67,37 @@ place_in things i inside = list_any_at (nat_eq (nth things i)) things i 0 inside
 pub is_thing_at : (s : Store) (things : List ℕ) (i : ℕ) → IsWalk s things → i < length things → is_thing s (nth things i) ≡ true
 is_thing_at s things i walk inside = thing_of s (nth things i) (walk.sound (nth things i) (place_in things i inside))
 
+-- each of these is a thing's
+abbrev pub AreYoung : List ℕ → Type 0
+AreYoung ks = (n : ℕ) → n < length ks → first_thing ≤ nth ks n
+
+-- a thing is younger than what a page begins with, and there
+pub thing_inside : (s : Store) (k : ℕ) → is_thing s k ≡ true → (first_thing ≤ k) × (k < length s.heap.objects)
+thing_inside s k thing =
+    let parts = and_parts (nat_lt built_in_count k) (nat_lt k (length s.heap.objects)) thing in
+    let past : built_in_count < k = ltb-true built_in_count k parts.0 in
+    (omega (arith, past), ltb-true k (length s.heap.objects) parts.1)
+
+pub young_walk : (s : Store) (things : List ℕ) → IsWalk s things → AreYoung things
+young_walk s things walk n inside = (thing_inside s (nth things n) (is_thing_at s things n walk inside)).0
+
 -- what is built in keeps its place, and so does the document
-pub place_low : (s : Store) (things : List ℕ) (k : ℕ) → IsWalk s things → k < first_thing → place_of things k ≡ k
-place_low s things k walk low = by (position (nat_eq k) things) refl
+pub place_low : (ks : List ℕ) (k : ℕ) → AreYoung ks → k < first_thing → place_of ks k ≡ k
+place_low ks k young low = by (position (nat_eq k) ks) refl
   where
-    by : (o : Option ℕ) → position (nat_eq k) things ≡ o → place_of things k ≡ k
+    by : (o : Option ℕ) → position (nat_eq k) ks ≡ o → place_of ks k ≡ k
     by None is = ap (placed k) is
     by (Some i) is =
-        let found = position-Some (nat_eq k) things i 0 is in
-        let same : k ≡ nth things i = eqb-true k (nth things i) found.1 in
-        let high : built_in_count < nth things i = ltb-true built_in_count (nth things i) (and_parts _ _ (is_thing_at s things i walk found.0)).0 in
-        absurd (omega (arith, low, same, high))
+        let found = position-Some (nat_eq k) ks i 0 is in
+        absurd (omega (arith, low, young i found.0, eqb-true k (nth ks i) found.1))
 
 pub place_built_in : (s : Store) (things : List ℕ) (k : ℕ) → IsWalk s things → k < built_in_count → place_of things k ≡ k
-place_built_in s things k walk low = place_low s things k walk (omega (arith, low))
+place_built_in s things k walk low = place_low things k (young_walk s things walk) (omega (arith, low))
 
 -- the place of a thing, which has this number
 pub number_at : (things : List ℕ) (k : ℕ) → is_in k things ≡ true
     → (i : ℕ) × (place_of things k ≡ first_thing + i) × (i < length things) × (nth things i ≡ k)
-number_at things k h =
-    let i : ℕ = position_or_len (nat_eq k) things in
-    let inside : i < length things = found_below (nat_eq k) things h in
-    let is : position (nat_eq k) things ≡ Some i = rw (lt-ltb i (length things) inside) refl in
-    (i, ap (placed k) is, inside, sym (eqb-true k (nth things i) (position-Some (nat_eq k) things i 0 is).1))
+number_at things k h = let m = plan.number_at things k h in (m.0, ap (placed k) m.1, m.2, m.3)
 
 -- ---- sites
 

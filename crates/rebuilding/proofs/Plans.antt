@@ -64,6 +64,7 @@ use Rattle.rebuilding.proofs.SavedNodes.{nodes_world}
 use Rattle.rebuilding.proofs.Stages.{IsFresh, Made, MadeProps}
 use Rattle.rebuilding.proofs.TimerPhase.{timers_succeed}
 use Rattle.rebuilding.proofs.TimersReady.{are_timers, distinct_moved, timely_moved}
+use Rattle.rebuilding.proofs.Basics.{things_long}
 
 -- ---- what comes after the makers may be run
 
@@ -77,10 +78,6 @@ after_makes (t ∷ ts) n rest allowed =
       stands = one_more n (plan.makes (suc n) ts ++ rest) (and_parts _ (standing (1 + n) (plan.makes (suc n) ts ++ rest)) allowed.stands).1;
       in_range = range_rest (Make n t.maker) (plan.makes (suc n) ts ++ rest) allowed.in_range;
     }))
-
-things_length : (s : Store) (things ks : List ℕ) → length (things_at s things ks) ≡ length ks
-things_length s things [] = refl
-things_length s things (k ∷ ks) = ap suc (things_length s things ks)
 
 -- ---- what timers are filled with is a function
 
@@ -427,7 +424,7 @@ pub made_rebuilds : (c : Scene) (s : Store) (things sites : List ℕ) (h : Conte
     → HaveLiterals (plan.plan (compact s things)) → Made c s things h g sites → Succeeds c (IsRebuilt c s things) h g sites (behind (compact s things))
 made_rebuilds c s things sites h g still walk in_range made =
     let rest : List Rebuild = behind (compact s things) in
-    let count : 0 + length (things_at s things things) ≡ length sites = omega (arith, things_length s things things, made.count) in
+    let count : 0 + length (things_at s things things) ≡ length sites = omega (arith, things_long s things things, made.count) in
     rest_rebuilds c s things sites h g still walk made
     (subst (λ m. Allowed m rest) count
     (after_makes (things_at s things things) 0 rest (record { stands = plans_stand s things still walk; in_range = in_range })))

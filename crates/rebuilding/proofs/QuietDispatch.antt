@@ -1,7 +1,6 @@
 -- A dispatch in a page without listeners: the event becomes as after a dispatch, and nothing else is done (DOM Level 2 Events, section 1.2).
 use Rattle.std.proofs.Common.{◌≡◌, refl, ap, ◌∙◌, sym, subst, ℕ, zero, suc, ◌+◌, ◌<◌, ◌≤◌, Bool, true, false, not, List, [], ◌∷◌, length, length-set, slice_set, Some, nat_le, filter, arith, if◌then◌else◌}
 use Rattle.std.proofs.lemmas.Bool.Decides.{nat_tests}
-use Rattle.std.proofs.lemmas.List.{get_or-set_same}
 use Rattle.js_values.specs.declared.ids.NodeId.{NodeId}
 use Rattle.js_values.specs.declared.ids.ObjId.{ObjId}
 use Rattle.js_values.specs.declared.throw.Throw.TheVariants.{UnspecifiedEventType}
@@ -10,7 +9,7 @@ use Rattle.object_heap.specs.Chain.{object_at}
 use Rattle.object_heap.specs.Heap.{Contents, with_object}
 use Rattle.object_heap.specs.Laws.{gives_parts}
 use Rattle.object_heap.specs.Laws as heap
-use Rattle.object_heap.specs.Object.{Object, changed_event, no_object, with_class}
+use Rattle.object_heap.specs.Object.{Object, changed_event, with_class}
 use Rattle.object_heap.specs.declared.object.Class.{Class}
 use Rattle.object_heap.specs.declared.object.Class.TheVariants as class
 use Rattle.object_heap.specs.declared.object.EventParts.{EventParts}
@@ -32,6 +31,7 @@ use Rattle.page_meaning.specs.Store.{Store, with_heap}
 use Rattle.page_meaning.specs.declared.signal.Signal.TheVariants.{Value as Val}
 use Rattle.rebuilding.proofs.HostRows.{on_node_run}
 use Rattle.dom_tree.specs.Steps.{is_there}
+use Rattle.object_heap.proofs.Callers.{object_set_same}
 
 -- ---- an event that changes twice
 
@@ -39,9 +39,6 @@ set_twice : (os : List Object) (k : ℕ) (o p : Object) → slice_set (slice_set
 set_twice [] k o p = refl
 set_twice (q ∷ os) zero o p = refl
 set_twice (q ∷ os) (suc k) o p = ap (λ l. q ∷ l) (set_twice os k o p)
-
-at_set : (os : List Object) (k : ℕ) (o : Object) → k < length os → object_at (slice_set os k o) k ≡ o
-at_set os k o h = get_or-set_same os k o no_object h
 
 both_changed : (f g : EventParts → EventParts) (c : Class) → changed_event g (changed_event f c) ≡ changed_event (λ p. g (f p)) c
 both_changed f g (class.Event parts) = refl
@@ -62,7 +59,7 @@ given_twice : (h : Contents) (k : ℕ) (f g : EventParts → EventParts) → k <
 given_twice h k f g there =
     let o : Object = object_at h.objects k in
     let first : Object = with_class o (changed_event f o.class) in
-    ap (λ x. with_object (with_object h k first) k (with_class x (changed_event g x.class))) (at_set h.objects k first there)
+    ap (λ x. with_object (with_object h k first) k (with_class x (changed_event g x.class))) (object_set_same h.objects k first there)
     ∙ ap (λ os. record { objects = os; environments = h.environments }) (set_twice h.objects k first (with_class o (changed_event g (changed_event f o.class))))
     ∙ ap (λ c. with_object h k (with_class o c)) (both_changed f g o.class)
 
@@ -74,7 +71,7 @@ given_long h k f there =
 given_class : (h : Contents) (k : ℕ) (f : EventParts → EventParts) → k < length h.objects → (object_at (given h k f).objects k).class ≡ changed_event f (object_at h.objects k).class
 given_class h k f there =
     let o : Object = object_at h.objects k in
-    ap (λ (x : Object). x.class) (at_set h.objects k (with_class o (changed_event f o.class)) there)
+    ap (λ (x : Object). x.class) (object_set_same h.objects k (with_class o (changed_event f o.class)) there)
 
 -- ---- phases without marks
 

@@ -2,7 +2,6 @@
 use Rattle.std.proofs.Common.{◌≡◌, ◌⊎◌, inl, inr, refl, sym, ap, ◌∙◌, ℕ, suc, ◌+◌, ◌-◌, ◌<◌, ◌≤◌, pos, negsuc, ◌-ℤ◌, true, List, [], ◌∷◌, ◌++◌, Option, Some, None, is_some, length, slice_index_or, nat_lt, bytes_eq, codes, append-nil, append_assoc, Ok, Err, if◌then◌else◌, unwrap_or, arith, subst, Bool, false, nat_eq}
 use Rattle.std.proofs.lemmas.Bool.{and_parts, and_right, cases_lt, cond-false, cond-true, eqb-false, eqb-true, le-leb, le-ltb, lt-ltb, ltb-true}
 use Rattle.std.proofs.lemmas.Int.{ints}
-use Rattle.std.proofs.lemmas.List.Folds.{list_all-append}
 use Rattle.std.specs.Fmt.{decimal}
 use Rattle.std.specs.List.{All}
 use Rattle.std.specs.Option.{option_map}
@@ -48,6 +47,8 @@ use Rattle.object_shapes.specs.Shapes.{built_in_at}
 use Rattle.page_meaning.specs.Places.{built_in_count}
 use Rattle.object_shapes.specs.Links.{value_links, values_links, all_below}
 use Rattle.rebuild_plan.specs.Moved.{first_thing}
+use Rattle.rebuilding.proofs.Placed.{site_built_in}
+use Rattle.object_shapes.proofs.Callers.{below_parts}
 
 -- ---- numbers
 
@@ -62,9 +63,6 @@ negative_whole i h = le-leb (suc i) largest (omega (arith, ints, h.0))
 
 -- ---- places
 
-built_in_sited : (sites : List ℕ) (k : ℕ) → k < built_in_count → site sites k ≡ k
-built_in_sited sites k low = cond-true (nat_lt k first_thing) _ _ (lt-ltb k first_thing (omega (arith, low)))
-
 document_held : held_by built_ins window.0 (codes "document") ≡ Some document.0
 document_held = refl
 
@@ -76,9 +74,6 @@ thing_sited sites k high = cond-false (nat_lt k first_thing) _ _ (le-ltb k first
 
 one_below : (n k : ℕ) → all_below n (k ∷ []) ≡ true → k < n
 one_below n k h = ltb-true k n (and_parts (nat_lt k n) true h).0
-
-both_below : (n : ℕ) (xs ys : List ℕ) → all_below n (xs ++ ys) ≡ true → (all_below n xs ≡ true) × (all_below n ys ≡ true)
-both_below n xs ys h = and_parts (all_below n xs) (all_below n ys) (sym (list_all-append (λ k. nat_lt k n) xs ys) ∙ h)
 
 module _ (c : Scene) (s : Store) (sites : List ℕ) (r : IsRunning c s.heap sites) where
   -- ---- the list in an expression
@@ -127,7 +122,7 @@ module _ (c : Scene) (s : Store) (sites : List ℕ) (r : IsRunning c s.heap site
         → (eval calls (inside c) (reference_over k path)).run s n ≡ Ended (Val (Reference (at_place (site sites k)))) s n
     reference_by k (Some path) is there =
         let low : k < built_in_count = omega (arith, (each k).0 (ap is_some is), built_ins_count) in
-        path_read c s sites r calls n lead k path is ∙ ap (λ j. Ended (Val (Reference (at_place j))) s n) (sym (built_in_sited sites k low))
+        path_read c s sites r calls n lead k path is ∙ ap (λ j. Ended (Val (Reference (at_place j))) s n) (sym (site_built_in sites k low))
     reference_by k None is there = by (cases_lt k built_in_count) (nat_eq k document.0) refl
       where
         Read : tree.Expr → Type 0
@@ -175,7 +170,7 @@ module _ (c : Scene) (s : Store) (sites : List ℕ) (r : IsRunning c s.heap site
       → (eval_args calls (inside c) (value_exprs vs) got f).run s n ≡ (f (got ++ sited_values sites vs)).run s n
   arguments_read calls n lead each [] got f range there = ap (λ l. (f l).run s n) (sym (append-nil got))
   arguments_read calls n lead each (v ∷ vs) got f range there =
-      let parts = both_below (first_thing + length sites) (value_links v) (values_links vs) there in
+      let parts = below_parts (first_thing + length sites) (value_links v) (values_links vs) there in
       let w = sited_value sites v in
       ap (λ (o : Outcome Signal). then_on o (on_value (λ x. eval_args calls (inside c) (value_exprs vs) (got ++ x ∷ []) f)))
       (value_read calls n lead each v (range 0 v (omega arith)) parts.0)

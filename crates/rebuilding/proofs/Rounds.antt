@@ -1,5 +1,5 @@
 -- What a function that was rebuilt finds round it: its own name as it was, what it needs, and nothing else of the page.
-use Rattle.std.proofs.Common.{◌≡◌, refl, sym, ap, subst, ◌∙◌, ℕ, ◌<◌, Bool, true, false, not, List, [], ◌∷◌, Option, Some, None, length, filter, map}
+use Rattle.std.proofs.Common.{◌≡◌, refl, sym, subst, ℕ, ◌<◌, Bool, true, false, not, List, [], ◌∷◌, Option, Some, None, length, filter, map}
 use Rattle.std.proofs.lemmas.Slice.Eq.{bytes_eq-Decides}
 use Rattle.std.specs.List.{list_all}
 use Rattle.std.specs.Option.{ForSome}
@@ -8,26 +8,25 @@ use Rattle.code_table.specs.Declarations.{name_of}
 use Rattle.js_core.specs.Tree.{Code, func}
 use Rattle.js_values.specs.declared.ids.EnvId.{EnvId}
 use Rattle.js_values.specs.declared.value.Value.TheVariants.{Object as Reference}
-use Rattle.object_heap.specs.Environment.{AreInside, Bound, environment_at}
-use Rattle.object_heap.specs.Heap.{Contents, first_bound, look_in, lookup}
-use Rattle.object_heap.proofs.Callers.{lookup_on}
+use Rattle.object_heap.specs.Environment.{AreInside, Bound}
+use Rattle.object_heap.specs.Heap.{Contents, look_in, lookup}
 use Rattle.page_meaning.specs.Places.{at_place}
 use Rattle.page_meaning.specs.Store.{Store}
 use Rattle.scope_analysis.specs.Needs.{needed_variables}
 use Rattle.scope_analysis.specs.Identifiers.{is_reserved}
 use Rattle.scope_analysis.specs.Names.{is_among}
 use Rattle.scope_analysis.specs.Uses.{expr_uses}
-use Rattle.heap_relations.specs.Naming.{Absent, BaseRel, Named, named, Sealed, sealed, SealedRel, unbound, unused, World}
+use Rattle.heap_relations.specs.Naming.{Absent, BaseRel, Named, named, Sealed, sealed, SealedRel, unbound, World}
 use Rattle.heap_relations.specs.Related.{object, ValueRel}
-use Rattle.heap_walker.specs.Still.{has_name, IsFunctionAtRest, other_names, OwnName}
+use Rattle.heap_walker.specs.Still.{IsFunctionAtRest, other_names}
 use Rattle.heap_walker.specs.Things.{bound_value, needs_of}
 use Rattle.rebuild_plan.specs.Compact.{moved_needs, moved_value}
-use Rattle.rebuilding.specs.Frames.{is_own, keeps_round, round_frame}
+use Rattle.rebuilding.specs.Frames.{is_own, round_frame}
 use Rattle.rebuilding.specs.Scene.{bare, env_at, IsRoundOf, IsRunning, named as with_name, Scene, page_with}
 use Rattle.rebuilding.specs.Sites.{sited_needs, sited_value}
-use Rattle.rebuilding.proofs.Basics.{nothing}
 use Rattle.rebuilding.proofs.Closures.{binding_there}
-use Rattle.rebuilding.proofs.Held.{IsFound, needed_found, not_held, own_found, round_unbound, some_found}
+use Rattle.rebuilding.proofs.FoundRound.{need_at_rest, other_at_rest, own_at_rest, round_names}
+use Rattle.rebuilding.proofs.Held.{IsFound, needed_found, not_held, own_found, round_unbound}
 use Rattle.rebuilding.proofs.Naming.{rebuilt_world}
 use Rattle.agreement.proofs.Callers.{all_names}
 
@@ -75,29 +74,30 @@ module _ (c : Scene) (s : Store) (h : Contents) (things sites others : List ℕ)
   abbrev t : Store
   t = page_with h s.host
 
-  own_sealed : (name : Option (List ℕ)) (needs : Bound) (from to : Option EnvId) → OwnName s k from name → IsRoundOf c h.environments j needs name to
-      → (x : List ℕ) → is_own name x ≡ true → SealedRel (named W) Sealed (look_in s.heap.environments from x) (look_in h.environments to x)
-  own_sealed name needs from to own (bare binds) x g = absurd (cc g)
-  own_sealed name needs None to own (with_name e binds inside at) x g = absurd (cc own)
-  own_sealed name needs (Some d) to own (with_name {x = y} {b = b} e binds inside at) x g =
+  abbrev needs : Bound
+  needs = sited_needs sites (moved_needs things (needs_of s env source))
+
+  own_rebuilt : (name : Option (List ℕ)) (to : Option EnvId) → IsRoundOf c h.environments j needs name to → (x : List ℕ) → is_own name x ≡ true
+      → IsFound (Reference (at_place j)) (look_in h.environments to x)
+  own_rebuilt name to (bare binds) x g = absurd (cc g)
+  own_rebuilt name to (with_name {x = y} {b = b} e binds inside at) x g =
       let same : y ≡ x = sym ((bytes_eq-Decides x y).0 g) in
-      let left : lookup s.heap.environments d.0 y ≡ Some (env_at d.0, Reference (at_place k)) =
-      lookup_on s.heap.environments d.0 y ages
-      ∙ ap (λ o. first_bound d.0 o (environment_at s.heap.environments d.0).outer (λ q. lookup s.heap.environments q y)) own
-      in
-      let right : lookup h.environments e y ≡ Some (env_at e, Reference (at_place j)) =
+      let found : lookup h.environments e y ≡ Some (env_at e, Reference (at_place j)) =
       own_found h.environments running.place.sound.environments e (Some (env_at b)) y (Reference (at_place j)) at
       in
-      subst (λ z. SealedRel (named W) Sealed (lookup s.heap.environments d.0 z) (lookup h.environments e z)) same
-      (rw (left, right) (sealed (object pair)))
+      subst (λ z. IsFound (Reference (at_place j)) (lookup h.environments e z)) same (record { env = env_at e; is = found })
+
+  own_sealed : (x : List ℕ) → is_own (name_of source) x ≡ true → SealedRel (named W) Sealed (look_in s.heap.environments env x) (look_in h.environments round x)
+  own_sealed x own =
+      let was = own_at_rest s ages k env (name_of source) rest.own_name x own in
+      let found = own_rebuilt (name_of source) round is x own in
+      rw (was.is, found.is) (sealed (object pair))
 
   -- what it needs is bound on both sides, and the right holds the counterpart
   needed_sealed : (x : List ℕ) → is_among x (needed_variables source) ≡ true
       → SealedRel (named W) Sealed (look_in s.heap.environments env x) (look_in h.environments round x)
   needed_sealed x among =
-      let was : IsFound (bound_value s env x) (look_in s.heap.environments env x) =
-      some_found (look_in s.heap.environments env x) (all_names (has_name s env) (needed_variables source) x rest.bound among)
-      in
+      let was = need_at_rest s k source env rest x among in
       let found = needed_found c s t things sites running.place.sound.environments j source env round is x among in
       rw (was.is, found.is) (sealed (values x among))
 
@@ -105,35 +105,20 @@ module _ (c : Scene) (s : Store) (h : Contents) (things sites others : List ℕ)
       → is_among x (other_names source) ≡ true
       → SealedRel (named W) Absent (look_in s.heap.environments env x) (look_in h.environments round x)
   other_absent x own none among =
-      let left : look_in s.heap.environments env x ≡ None =
-      nothing (look_in s.heap.environments env x)
-      (not-true (has_name s env x) (all_names (λ y. not (has_name s env y)) (other_names source) x rest.alone among))
-      in
+      let left : look_in s.heap.environments env x ≡ None = other_at_rest s k source env rest x among in
       let right : look_in h.environments round x ≡ None =
-      round_unbound h.environments running.place.sound.environments c running.place.scope (sited_needs sites (moved_needs things (needs_of s env source))) j
-      (name_of source) round is x own (other_free source x among) (not_held s things sites env (needed_variables source) x none)
+      round_unbound h.environments running.place.sound.environments c running.place.scope needs j (name_of source) round is x own (other_free source x among)
+      (not_held s things sites env (needed_variables source) x none)
       in
       rw (left, right) unbound
-
-  names_round : (x : List ℕ) → SealedRel (named W) (keeps_round source x) (look_in s.heap.environments env x) (look_in h.environments round x)
-  names_round x = by (is_own (name_of source) x) refl (is_among x (needed_variables source)) refl (is_among x (other_names source)) refl
-    where
-      by : (a : Bool) → is_own (name_of source) x ≡ a → (b : Bool) → is_among x (needed_variables source) ≡ b
-          → (d : Bool) → is_among x (other_names source) ≡ d
-          → SealedRel (named W) (keeps_round source x) (look_in s.heap.environments env x) (look_in h.environments round x)
-      by true own b need d among =
-          rw own (own_sealed (name_of source) (sited_needs sites (moved_needs things (needs_of s env source))) env round rest.own_name is x own)
-      by false own true need d among = rw (own, need) (needed_sealed x need)
-      by false own false need true among = rw (own, need, among) (other_absent x own need among)
-      by false own false need false among = rw (own, need, among) unused
 
   -- no environment is that of a slot
   pub base_rel : BaseRel (rebuilt_world s h things sites) (record { one = env; two = round; frame = round_frame source }) s.heap.environments
       h.environments
   base_rel = record {
-    names = λ x free. names_round x;
+    names = λ x free. round_names W source (look_in s.heap.environments env) (look_in h.environments round) own_sealed needed_sealed other_absent x;
     one_inside = rest.there;
-    two_inside = round_inside c h others running j (sited_needs sites (moved_needs things (needs_of s env source))) (name_of source) round is;
+    two_inside = round_inside c h others running j needs (name_of source) round is;
     one_apart = λ u i o. elim i [ ];
     two_apart = λ u i o. elim i [ ];
   }

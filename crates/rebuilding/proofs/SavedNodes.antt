@@ -11,6 +11,7 @@ use Rattle.page_meaning.specs.Store.{Store}
 use Rattle.page_writer.specs.Frame.{nth_node}
 use Rattle.rebuild_plan.proofs.Callers.{all_nodes, nodes_as}
 use Rattle.rebuilding.specs.Rebuilt.{nth}
+use Rattle.rebuilding.proofs.Basics.{one_on}
 
 -- ---- namings of nodes alone
 
@@ -88,9 +89,6 @@ whole_rest things = record { total = omega arith; at = λ j inside. ap (nth thin
 
 pub rest_next : (things : List ℕ) (n k : ℕ) (ks : List ℕ) → IsRest things n (k ∷ ks) → IsRest things (suc n) ks
 rest_next things n k ks r = record { total = omega (arith, r.total); at = λ j inside. r.at (suc j) (omega (arith, inside)) ∙ ap (nth things) (one_on n j) }
-  where
-    one_on : (a b : ℕ) → a + suc b ≡ suc a + b
-    one_on a b = omega arith
 
 pub rest_here : (things : List ℕ) (n k : ℕ) (ks : List ℕ) → IsRest things n (k ∷ ks) → k ≡ nth things n
 rest_here things n k ks r = let nil : n + 0 ≡ n = omega arith in r.at 0 (omega arith) ∙ ap (nth things) nil

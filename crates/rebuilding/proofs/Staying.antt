@@ -136,7 +136,7 @@ positive : 0 < built_in_count
 unfolding built_in_count
 positive = omega arith
 
-document_there : (c : Scene) (h : Contents) (sites : List ℕ) → IsRunning c h sites → document.0 < length h.objects
+pub document_there : (c : Scene) (h : Contents) (sites : List ℕ) → IsRunning c h sites → document.0 < length h.objects
 document_there c h sites r = begun_there c h sites r document.0 (omega arith)
 
 pub running_on : (c : Scene) (h i : Contents) (sites but : List ℕ) → IsRunning c h sites → IsSound i → Stays h i but

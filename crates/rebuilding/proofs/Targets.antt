@@ -1,5 +1,5 @@
 -- What a bound function calls stands, as a function of the same length.
-use Rattle.std.proofs.Common.{◌≡◌, ◌⊎◌, inl, inr, refl, sym, ap, subst, ◌∙◌, ℕ, zero, suc, ◌+◌, ◌<◌, Bool, true, ◌||◌, not, nat_lt, List, Option, Some, None, is_some, length, unwrap_or, arith, ◌≤◌}
+use Rattle.std.proofs.Common.{◌≡◌, ◌⊎◌, inl, inr, refl, sym, ap, subst, ◌∙◌, ℕ, zero, suc, ◌+◌, ◌<◌, Bool, true, false, ◌||◌, not, nat_lt, List, Option, Some, None, length, unwrap_or, arith, ◌≤◌}
 use Rattle.std.proofs.lemmas.Bool.{cases_lt, ltb-true}
 use Rattle.std.specs.List.{list_all}
 use Rattle.std.specs.Option.{option_map}
@@ -33,6 +33,7 @@ use Rattle.rebuilding.specs.Sites.{site, sited}
 use Rattle.rebuilding.proofs.Binds.{bind_name, bind_value, built_in_bind, inherited, own_none}
 use Rattle.rebuilding.proofs.Fresh.{IsKept}
 use Rattle.rebuilding.proofs.Placed.{at_or, function_low, number_at, place_built_in, site_built_in, site_thing}
+use Rattle.rebuilding.proofs.BuiltIns.{IsBuiltAt, as_made, is_fixed}
 use Rattle.rebuilding.proofs.Stages.{IsFresh, MadeProps}
 use Rattle.rebuilding.proofs.Lasting.{proto_is}
 use Rattle.object_shapes.specs.Shapes.{HasShape, built_in_at}
@@ -59,20 +60,28 @@ same_length s t at to p older_s older_t one two =
 
 -- ---- built-in functions have one
 
+abbrev has_fixed : Option Prop → Bool
+has_fixed None = false
+has_fixed (Some p) = is_fixed p
+
+-- one that can neither be written nor configured
 abbrev has_own_length : Object → Bool
-has_own_length o = not (is_function (Some o.class)) || is_some (own_length o)
+has_own_length o = not (is_function (Some o.class)) || has_fixed (own_length o)
 
 all_have : list_all has_own_length built_ins ≡ true
 all_have = refl
 
-of_function : (o : Object) → has_own_length o ≡ true → is_function (Some o.class) ≡ true → (p : Prop) × (own_length o ≡ Some p)
+abbrev HasFixed : Option Prop → Type 0
+HasFixed own = (p : Prop) × (own ≡ Some p) × (is_fixed p ≡ true)
+
+of_function : (o : Object) → has_own_length o ≡ true → is_function (Some o.class) ≡ true → HasFixed (own_length o)
 of_function o has is = by (own_length o) refl
   where
-    by : (own : Option Prop) → own_length o ≡ own → (p : Prop) × (own_length o ≡ Some p)
-    by (Some p) e = (p, e)
+    by : (own : Option Prop) → own_length o ≡ own → HasFixed (own_length o)
+    by (Some p) e = (p, e, rw (is, e) at has)
     by None e = cc (rw (is, e) at has)
 
-built_in_length : (k : ℕ) → is_function (Some (built_in_at k).class) ≡ true → (p : Prop) × (own_length (built_in_at k) ≡ Some p)
+built_in_length : (k : ℕ) → is_function (Some (built_in_at k).class) ≡ true → HasFixed (own_length (built_in_at k))
 built_in_length k is = of_function (built_in_at k) (at_or has_own_length built_ins k all_have refl) is
 
 -- ---- things that are functions have one
@@ -122,21 +131,24 @@ module _ (c : Scene) (s : Store) (things : List ℕ) (h : Contents) (g : Host) (
 
   built_in_kept : (target : ObjId) → is_function (Some (class_at s target)) ≡ true → target.0 < built_in_count → IsKept s things h g sites target
   built_in_kept target is low =
-      let was : object_at s.heap.objects target.0 ≡ built_in_at target.0 = still.shaped.built_ins target.0 (not_window target.0 is) low in
-      let now : object_at h.objects target.0 ≡ built_in_at target.0 = running.own.objects target.0 (not_window target.0 is) low in
+      let past : 0 < target.0 = not_window target.0 is in
+      let was : IsBuiltAt things target.0 (object_at s.heap.objects target.0) =
+      as_made things target.0 (object_at s.heap.objects target.0) past (still.shaped.built_ins target.0 past low)
+      in
+      let now : object_at h.objects target.0 ≡ built_in_at target.0 = running.own.objects target.0 past low in
       let at : site sites (place_of things target.0) ≡ target.0 =
       ap (site sites) (place_built_in s things target.0 walk low) ∙ site_built_in sites target.0 low
       in
       let there : object_at h.objects (site sites (place_of things target.0)) ≡ built_in_at target.0 = ap (object_at h.objects) at ∙ now in
-      let here : is_function (Some (built_in_at target.0).class) ≡ true = subst (λ (o : Object). is_function (Some o.class) ≡ true) was is in
-      let own : (p : Prop) × (own_length (built_in_at target.0) ≡ Some p) = built_in_length target.0 here in
+      let here : is_function (Some (built_in_at target.0).class) ≡ true = subst (λ d. is_function (Some d) ≡ true) was.class is in
+      let own : HasFixed (own_length (built_in_at target.0)) = built_in_length target.0 here in
       record {
         class = subst (λ (o : Object). is_function (Some o.class) ≡ true) (sym there) here;
         bind = subst (λ k. get h.objects k bind_name ≡ Some bind_value) (sym at)
             (built_in_bind h.objects running.place.sound.prototypes prototype_same target.0 now here);
         length = same_length (page_with h g) s
             (sited sites (moved things target)) target own.0 running.place.sound.prototypes still.sound.prototypes (ap own_length there ∙ own.1)
-            (ap own_length was ∙ own.1);
+            (was.fixed length_name own.0 own.1 own.2);
       }
 
   thing_kept : (target : ObjId) → is_function (Some (class_at s target)) ≡ true → is_in target.0 things ≡ true
@@ -177,5 +189,5 @@ module _ (c : Scene) (s : Store) (things : List ℕ) (h : Contents) (g : Host) (
       by (inl below) = built_in_kept target is below
       by (inr past) =
           let same : target.0 ≡ document.0 = omega (arith, low, past) in
-          absurd (no_node_function (class_at s target) (record { 0 = 0 }) is (ap (λ k. (object_at s.heap.objects k).class) same ∙ document_class s things still walk))
+          absurd (no_node_function (class_at s target) (record { 0 = 0 }) is (ap (λ k. (object_at s.heap.objects k).class) same ∙ document_class s still))
   target_kept target (inr found) is stands = thing_kept target is found stands

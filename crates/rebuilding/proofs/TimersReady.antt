@@ -1,9 +1,8 @@
 -- The timers of a page at rest can be started again: ids are distinct, rests are times of the language, and each calls a function that stands.
-use Rattle.std.proofs.Common.{◌≡◌, inl, inr, refl, sym, ap, subst, ◌∙◌, ℕ, ◌<◌, ◌==◌, ◌||◌, true, nat_eq, List, [], ◌∷◌, length, arith}
-use Rattle.std.proofs.lemmas.Bool.{eq-eqb, or_left, or_right}
+use Rattle.std.proofs.Common.{◌≡◌, inl, inr, refl, ap, subst, ◌∙◌, ℕ, ◌<◌, ◌==◌, ◌||◌, List, [], ◌∷◌, length, arith}
 use Rattle.heap_walker.proofs.Callers.{roots_in_walk, timers_among}
 use Rattle.heap_walker.specs.Still.{Still}
-use Rattle.heap_walker.specs.Things.{IsWalk, is_in, timers_links}
+use Rattle.heap_walker.specs.Things.{IsWalk}
 use Rattle.object_heap.specs.Chain.{object_at}
 use Rattle.object_heap.specs.Heap.{Contents}
 use Rattle.object_heap.specs.declared.object.Class.TheVariants as class
@@ -14,7 +13,8 @@ use Rattle.page_writer.specs.Frame.{nth_node}
 use Rattle.rebuild_plan.specs.Timers.{moved_timer, moved_timers}
 use Rattle.rebuilding.specs.Rebuilt.{ClassIsRebuilt, nth}
 use Rattle.rebuilding.specs.Scene.{IsRunning, Scene}
-use Rattle.rebuilding.proofs.Callables.{IsKnownPlace, known_callable, known_stands}
+use Rattle.rebuilding.proofs.Callables.{known_callable, known_stands}
+use Rattle.rebuilding.proofs.Known.{IsKnown, timer_in}
 use Rattle.rebuilding.proofs.TimerPhase.{IsTimer}
 use Rattle.timer_queue.specs.Laws.{HasDistinctIds}
 use Rattle.timer_queue.specs.Timely.{AreTimely, IsTimely}
@@ -47,12 +47,6 @@ timely_moved things clock ts timely u i =
     subst (IsTimely time_limit 0) f.is
     (record { id = was.id; few = was.few; ahead = omega arith; near = omega (arith, was.near, was.ahead); period = was.period })
 
--- what timers call is known
-linked : (ts : List Live) (t : Live) → IsIn ts t → is_in t.call.0 (timers_links ts) ≡ true
-linked [] t i = absurd i
-linked (u ∷ ts) t (inl e) = or_left (nat_eq t.call.0 u.call.0) (is_in t.call.0 (timers_links ts)) (eq-eqb t.call.0 u.call.0 (ap (λ (v : Live). v.call.0) (sym e)))
-linked (u ∷ ts) t (inr i) = or_right (nat_eq t.call.0 u.call.0) (is_in t.call.0 (timers_links ts)) (linked ts t i)
-
 module _ (c : Scene) (h : Contents) (s : Store) (things sites : List ℕ) (running : IsRunning c h sites) (count : length sites ≡ length things)
     (still : Still s) (walk : IsWalk s things)
     (document_class : (object_at s.heap.objects document.0).class ≡ class.Node (nth_node 0))
@@ -61,8 +55,8 @@ module _ (c : Scene) (h : Contents) (s : Store) (things sites : List ℕ) (runni
   pub are_timers : (u : Live) → IsIn (moved_timers things s.host.clock s.host.timers) u → IsTimer h sites u
   are_timers u i =
       let f = came_from things s.host.clock s.host.timers u i in
-      let known : IsKnownPlace things f.timer.call.0 =
-      roots_in_walk s things still walk f.timer.call.0 (timers_among s f.timer.call.0 (linked s.host.timers f.timer f.inside))
+      let known : IsKnown things f.timer.call.0 =
+      roots_in_walk s things still walk f.timer.call.0 (timers_among s f.timer.call.0 (timer_in s.host.timers f.timer f.inside))
       in
       subst (IsTimer h sites) f.is
       (record {

@@ -1,20 +1,16 @@
 -- The sites are what can be reached in the page that was rebuilt.
-use Rattle.std.proofs.Common.{◌≡◌, inl, inr, refl, sym, ap, subst, ◌∙◌, ℕ, ◌<◌, true, nat_lt, drop, map, List, [], ◌∷◌, ◌++◌, Option, length, arith}
-use Rattle.std.proofs.Math.Seq.{drop-append_seam}
+use Rattle.std.proofs.Common.{◌≡◌, inl, inr, refl, sym, ap, subst, ◌∙◌, ℕ, ◌<◌, true, nat_lt, map, List, [], ◌∷◌, ◌++◌, Option, length, arith}
 use Rattle.std.proofs.lemmas.Bool.{and_from, and_parts, lt-ltb, ltb-true}
 use Rattle.std.proofs.lemmas.List.{map-append}
 use Rattle.object_heap.specs.Chain.{object_at}
 use Rattle.object_heap.specs.Environment.{AreInside}
 use Rattle.object_heap.specs.Heap.{Contents}
 use Rattle.object_heap.specs.Object.{Object}
-use Rattle.object_heap.specs.Property.{Props}
 use Rattle.object_heap.specs.declared.object.Class.{Class}
 use Rattle.object_heap.specs.declared.object.Class.TheVariants as class
 use Rattle.page_meaning.specs.Places.{built_in_count}
 use Rattle.object_shapes.specs.Links.{is_thing, props_links, proto_links, value_links, values_links}
-use Rattle.object_shapes.specs.Shapes.{built_in_at}
-use Rattle.page_meaning.specs.Pristine.{built_in_globals}
-use Rattle.page_meaning.specs.Places.{document, window}
+use Rattle.page_meaning.specs.Places.{document}
 use Rattle.page_host.specs.Host.{Host}
 use Rattle.page_host.specs.declared.listener.Listener.{Listener}
 use Rattle.timer_queue.specs.declared.timer.Live.{Live}
@@ -36,20 +32,19 @@ use Rattle.rebuild_plan.proofs.Callers.{document_class}
 use Rattle.heap_walker.specs.Still.{Still}
 use Rattle.heap_walker.specs.Things.{IsWalk, Reach, calls_links, class_links, globals_of, host_links, is_in, link, links, needs_links, needs_of, node_links, nodes_links, parent_links, root, roots, timers_links}
 use Rattle.heap_walker.proofs.Callers.{links_in_walk, roots_in_walk}
-use Rattle.rebuild_plan.specs.Compact.{moved_props}
 use Rattle.rebuilding.specs.Rebuilt as rebuilt
 use Rattle.rebuilding.specs.Rebuilt.{ClassIsRebuilt, IsRebuilt, IsRebuiltAs, nth}
 use Rattle.rebuilding.specs.Scene.{Scene, page_with}
-use Rattle.rebuilding.specs.Sites.{site, sited_props}
+use Rattle.rebuilding.specs.Sites.{site}
 use Rattle.rebuilding.proofs.Agreeing.{stores_rel}
 use Rattle.rebuilding.proofs.OneToOne.{site_parts}
-use Rattle.rebuilding.proofs.Carried.{AreYoung, IsMadeOf, carried, carried_at, from_mapped, in_mapped, needs_carried, props_carried, proto_carried, value_carried, values_carried}
-use Rattle.rebuilding.proofs.Counterparts.{IsKnown, young_at}
-use Rattle.rebuilding.proofs.Globals.{counted}
+use Rattle.rebuilding.proofs.Carried.{IsMadeOf, carried, carried_at, from_mapped, in_mapped, needs_carried, props_carried, proto_carried, value_carried, values_carried}
+use Rattle.rebuilding.proofs.Known.{IsKnown}
+use Rattle.rebuilding.proofs.Globals.{globals_same}
 use Rattle.rebuilding.proofs.Held.{needs_same}
 use Rattle.rebuilding.proofs.Naming as naming
 use Rattle.rebuilding.proofs.Naming.{IsPair, pair_is, rebuilt_world, site_of_built_in, thing_paired}
-use Rattle.rebuilding.proofs.Placed.{number_at, place_in, site_thing}
+use Rattle.rebuilding.proofs.Placed.{number_at, place_in, site_thing, young_walk}
 
 class_carried : (c : Scene) (s t : Store) (things sites : List ℕ) → AreInside t.heap.environments → (k : ℕ) (a b : Class)
     → ClassIsRebuilt c t.heap.environments s things sites k a b → class_links t b ≡ map (carried things sites) (class_links s a)
@@ -74,23 +69,6 @@ module _ (c : Scene) (s : Store) (things : List ℕ) (h : Contents) (g : Host) (
   abbrev to : ℕ → ℕ
   to = carried things sites
 
-  pub old_things : AreYoung things
-  old_things n below = young_at s things walk n below
-
-  pub young_sites : AreYoung sites
-  young_sites n below =
-      let inside : n < length things = omega (arith, below, is.count) in
-      let past = (site_parts c s things h g sites walk is n inside).0 in
-      omega (arith, past)
-
-  -- ---- what is referred to
-
-  pub globals_same : globals_of (page_with h g) ≡ sited_props sites (moved_props things (globals_of s))
-  globals_same =
-      let own : Props = sited_props sites (moved_props things (globals_of s)) in
-      ap (drop built_in_globals) is.globals ∙ ap (λ n. drop n ((built_in_at window.0).props ++ own)) (sym counted)
-      ∙ drop-append_seam (built_in_at window.0).props own
-
   -- ---- what nodes, events and timers refer to
 
   abbrev W : World
@@ -103,7 +81,7 @@ module _ (c : Scene) (s : Store) (things : List ℕ) (h : Contents) (g : Host) (
   pair_to k j n = by (pair_is things sites k j n.named)
     where
       by : IsPair things sites k j → j ≡ to k
-      by (naming.built_in same low) = sym (site_of_built_in things sites k low old_things ∙ same)
+      by (naming.built_in same low) = sym (site_of_built_in things sites k low (young_walk s things walk) ∙ same)
       by (naming.thing p) = p.two ∙ sym (ap to p.one ∙ carried_at things sites p.place walk.rising p.below)
 
   each_to : (ks js : List ℕ) → Each (Named W) ks js → js ≡ map to ks
@@ -191,7 +169,7 @@ module _ (c : Scene) (s : Store) (things : List ℕ) (h : Contents) (g : Host) (
       let p : Object = object_at h.objects document.0 in
       let n : Named W document.0 document.0 = stores.built_ins document.0 (omega arith) in
       let above : proto_links p.proto ≡ map to (proto_links o.proto) = each_to (proto_links o.proto) (proto_links p.proto) (target_named (heap.proto_read stores.heap n)) in
-      let left : class_links s o.class ≡ [] = node_class_links s o.class (document_class s things still walk) in
+      let left : class_links s o.class ≡ [] = node_class_links s o.class (document_class s still) in
       let right : class_links t p.class ≡ [] = node_class_links t p.class is.running.own.document.class in
       let parts : class_links t p.class ≡ map to (class_links s o.class) = right ∙ sym (ap (map to) left) in
       let held : props_links p.props ≡ map to (props_links o.props) = ap props_links is.document.props ∙ props_carried things sites o.props in
@@ -200,7 +178,7 @@ module _ (c : Scene) (s : Store) (things : List ℕ) (h : Contents) (g : Host) (
 
   roots_same : roots t ≡ map to (roots s)
   roots_same =
-      let first : props_links (globals_of t) ≡ map to (props_links (globals_of s)) = ap props_links globals_same ∙ props_carried things sites (globals_of s) in
+      let first : props_links (globals_of t) ≡ map to (props_links (globals_of s)) = ap props_links (globals_same c s things h g sites is) ∙ props_carried things sites (globals_of s) in
       let timers : timers_links g.timers ≡ map to (timers_links s.host.timers) =
       each_to (timers_links s.host.timers) (timers_links g.timers) (timers_named stores.host.timers)
       in
@@ -240,7 +218,7 @@ module _ (c : Scene) (s : Store) (things : List ℕ) (h : Contents) (g : Host) (
   thing_known : (j k : ℕ) → is_thing t j ≡ true → j ≡ to k → IsKnown things k → is_in j sites ≡ true
   thing_known j k thing is_to (inl low) =
       let high : built_in_count < j = ltb-true built_in_count j (and_parts (nat_lt built_in_count j) (nat_lt j (length h.objects)) thing).0 in
-      absurd (omega (arith, high, low, is_to, site_of_built_in things sites k low old_things))
+      absurd (omega (arith, high, low, is_to, site_of_built_in things sites k low (young_walk s things walk)))
   thing_known j k thing is_to (inr found) =
       let m = at_site k found in
       let inside : m.0 < length sites = omega (arith, m.1, is.count) in

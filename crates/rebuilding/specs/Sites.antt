@@ -1,6 +1,7 @@
 -- Sites: where the things of a plan stand in the page that its statements rebuild. The nth of these places is that of the thing with
 -- number n; built-in objects and the document's keep theirs.
 use Rattle.std.specs.Prelude.{ℕ, ◌-◌, List, [], ◌∷◌, Option, Some, None, nat_lt, slice_index_or, if◌then◌else◌}
+use Rattle.heap_relations.specs.Naming.{Pair, pair}
 use Rattle.js_values.specs.declared.ids.ObjId.{ObjId}
 use Rattle.js_values.specs.declared.value.Value.{Value}
 use Rattle.js_values.specs.declared.value.Value.TheVariants.{Object as Reference}
@@ -9,6 +10,12 @@ use Rattle.object_heap.specs.Environment.{Bound}
 use Rattle.object_heap.specs.Property.{Props}
 use Rattle.object_heap.specs.declared.property.Prop.{Prop}
 use Rattle.rebuild_plan.specs.Moved.{first_thing}
+
+-- those at the same places of two lists, as things and their sites
+abbrev pub pairs : List ℕ → List ℕ → List Pair
+pairs [] js = []
+pairs (k ∷ ks) [] = []
+pairs (k ∷ ks) (j ∷ js) = pair k j ∷ pairs ks js
 
 -- of what a plan names by this place
 abbrev pub site : List ℕ → ℕ → ℕ

@@ -7,7 +7,7 @@ use Rattle.heap_walker.proofs.links.see_properties.Given as goal
 abbrev pub invariant-loop-property : goal.invariant-loop-property
 invariant-loop-property l =
     joined l.state l.seen.keys (props_links (drop l.place (object_at l.state.heap.objects l.at.0).props))
-    ≡ joined l.state l.fn.seen.keys (props_links (drop l.first (object_at l.state.heap.objects l.at.0).props))
+    ≡ joined l.state l.fn.seen.keys (props_links (object_at l.state.heap.objects l.at.0).props)
 
 abbrev pub decreases-loop-property : goal.decreases-loop-property
 decreases-loop-property l = length (object_at l.state.heap.objects l.at.0).props - l.place
