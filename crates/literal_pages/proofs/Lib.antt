@@ -1,0 +1,16 @@
+pub mod Accepted
+pub mod Bytes
+pub mod Callers
+pub mod InUnits
+pub mod JsonTokens
+pub mod JsonValues
+pub mod PageNodes
+pub mod PageTokens
+pub mod Parts
+pub mod ReadEvents
+pub mod References
+pub mod ScriptExpressions
+pub mod ScriptStatements
+pub mod ScriptSymbols
+pub mod ScriptTokens
+pub mod WrittenPages

@@ -1,0 +1,13 @@
+pub mod Callers
+pub mod Conversions
+pub mod Declared
+pub mod Define
+pub mod Entries
+pub mod Heap
+pub mod Nodes
+pub mod Numbers
+pub mod Pristine
+pub mod Reading
+pub mod Steps
+pub mod Thrown
+pub mod Units
