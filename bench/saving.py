@@ -1,12 +1,12 @@
 #!/usr/bin/env python3
 """Times what it costs to write a page that rebuilds another one, and how much memory that takes. Each page makes things of a kind, so many that it
-weighs about 1,000, 10,000 and 74,900, where 75,000 is the most that may be saved; of listeners there are at most 10,000, since to add one costs the
-number of all that are there, in the page and in the saved one. For each size it prints the milliseconds of processor time of `save`, those that are
-left over less the ones of `replay` of the page with opened scopes, and the most megabytes. Last it prints how much more of the time left over the
-largest takes than the one before, for their sizes, which stays near 1 where the cost is in proportion. Times are the best of three runs.
+weighs about 1,000, 10,000 and 74,900, where 75,000 is the most that may be saved. For each size it prints the milliseconds of processor time of
+`save`, those that are left over less the ones of `replay` of the page with opened scopes, and the most megabytes. Last it prints how much more of
+the time left over the largest takes than the one before, for their sizes, which stays near 1 where the cost is in proportion. Times are the best of
+three runs.
 
-Closures of one long code are more text than a saved page may have: of these the cost is that of finding it out. After it comes the
-same for as many closures of a code that is ten times as long, where the ratio would be near 1 if each code were measured once.
+Closures of one long code are more text than a saved page may have: of these the cost is that of finding it out. First there are ten times as many,
+where the ratio stays near 10, and then as many of a code that is ten times as long, where it stays near 1, since each code is gone through once.
 
     bench/saving.py [PROGRAM [KIND..]]
 """
@@ -18,9 +18,6 @@ import tempfile
 TOP = os.path.dirname(os.path.dirname(os.path.abspath(__file__)))
 PROGRAM = os.path.abspath(sys.argv[1]) if len(sys.argv) > 1 else f"{TOP}/crates/imagen/out/imagen"
 SIZES = (1_000, 10_000, 74_900)
-# The sizes for listeners.
-FEWER = (1_000, 3_000, 10_000)
-LISTENERS = ("listeners", "heard", "listening")
 # What one turn makes, and how much that weighs with its element.
 KINDS = {
     "objects": ("a[i]={};", 2),
@@ -90,8 +87,7 @@ with tempfile.TemporaryDirectory() as folder:
     for name in (it for it in KINDS if it in wanted):
         turn, weight = KINDS[name]
         made = 'var a=[],d=document,o=null,i,f=function(){},g=function(n){return function(){n=n+1;return n;};};for(i=0;i<%d;i++){%s}'
-        sizes = FEWER if name in LISTENERS else SIZES
-        tell(name, [best(made % (int((size - 30) / weight), turn), folder) for size in sizes], sizes[-1] / sizes[-2])
+        tell(name, [best(made % (int((size - 30) / weight), turn), folder) for size in SIZES], SIZES[-1] / SIZES[-2])
     for name in (it for it in LONG if it in wanted):
         costs = []
         for count, characters in LONG[name]:
