@@ -19,7 +19,7 @@ use Rattle.page_meaning.specs.Pages.{lines_after, lines_of_run, run_of}
 use Rattle.page_meaning.specs.Store.{Store}
 use Rattle.page_writer.specs.Page.{saved_page}
 use Rattle.command_line.specs.Command.{IsPartCount, stress}
-use Rattle.command_line.specs.Faring.{IsMovedBy, IsUnmoved, IsWhole}
+use Rattle.command_line.specs.Faring.{CountsLines, IsMovedBy, IsUnmoved, IsWhole}
 use Rattle.command_line.specs.Moving.{IsOverweight, IsSaved}
 use Rattle.command_line.specs.Page.{Page, IsAccepted, opened, running}
 use Rattle.command_line.specs.Reading.{IsUntaken}
@@ -48,6 +48,17 @@ untaken_is_unmoved page before text (PageRefused (Some r)) numbered saved h = re
 untaken_is_unmoved page before text OutOfMemory numbered saved h = tt
 untaken_is_unmoved page before text (PageRefused None) numbered saved h = absurd h
 untaken_is_unmoved page before text status numbered saved h = absurd h
+
+-- and one that is taken
+pub saved_is_moved : (page : Page) (before after : List Event) (text : List ℕ) (lines bytes : ℕ) → HaveNumbers page.kind page.scripts
+    → IsSaved (run_of (opened page) before) text → CountsLines text after lines → bytes ≡ length text → IsMovedBy page before after lines bytes
+saved_is_moved page before after text lines bytes numbered saved counts size = record {
+  things = saved.0;
+  can = saved.1;
+  numbered = numbered;
+  counts = subst (λ (b : List ℕ). CountsLines b after lines) saved.2 counts;
+  size = size ∙ ap length saved.2;
+}
 
 -- ---- the page and its events
 
