@@ -46,7 +46,7 @@ KINDS = {
 TOO_LARGE = 6
 # How many closures of one code, and about how many characters the code has.
 LONG = {
-    "more closures": ((2_000, 10_000), (20_000, 10_000)),
+    "more closures": ((7_000, 10_000), (70_000, 10_000)),
     "longer code": ((20_000, 1_000), (20_000, 10_000)),
 }
 
