@@ -1,6 +1,9 @@
 #!/usr/bin/env python3
-"""Answers lines as crates/event_lines does, by Python's own JSON reader: run it with that crate's stdin, and its answers are
-the crate's stdout. It was written from the table of items alone, so that the two readings are compared."""
+"""Answers the rows of crates/tables/data/events.rows by Python's own JSON reader, and prints them with its answers: they are to be
+the same. It was written from the table of items alone, so that the two readings are compared.
+
+    compare/event_lines.py < crates/tables/data/events.rows
+"""
 import json
 import sys
 
@@ -89,7 +92,7 @@ def event(item):
     return None
 
 
-def answer(line, calls_alone):
+def answer(line):
     try:
         value = json.loads(line, parse_int=integer, parse_float=real, parse_constant=constant)
     except (ValueError, RecursionError):
@@ -99,11 +102,12 @@ def answer(line, calls_alone):
     found = ["events"]
     for number, item in enumerate(value, 1):
         written = event(item)
-        if number > MOST or written is None or calls_alone and not written.startswith("call("):
+        if number > MOST or written is None:
             return "refused %d" % number
         found.append(written)
     return " ".join(found)
 
 
 for line in sys.stdin.buffer.read().decode().split("\n")[:-1]:
-    sys.stdout.buffer.write((answer(line, False) + "\t" + answer(line, True) + "\n").encode())
+    asked = line.rpartition("\t")[0]
+    sys.stdout.buffer.write((asked + "\t" + answer(asked) + "\n").encode())

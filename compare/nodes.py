@@ -1,5 +1,5 @@
 #!/usr/bin/env python3
-"""Runs the rows of crates/page_rows/data/nodes.rows on Python's minidom, and compares the text that is left. Prints the rows that
+"""Runs the rows of crates/tables/data/nodes.rows on Python's minidom, and compares the text that is left. Prints the rows that
 differ and how many there are; the status is 1 where one differs. Minidom does not look for ancestors, so these are looked for here;
 a node before itself is left out."""
 import os
@@ -7,7 +7,7 @@ import sys
 import xml.dom
 from xml.dom import minidom
 
-SOURCE = os.path.join(os.path.dirname(os.path.abspath(__file__)), "../crates/page_rows/data/nodes.rows")
+SOURCE = os.path.join(os.path.dirname(os.path.abspath(__file__)), "../crates/tables/data/nodes.rows")
 VOID = "area base br col embed hr img input link meta param source track wbr".split()
 
 

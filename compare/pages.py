@@ -1,5 +1,5 @@
 #!/usr/bin/env python3
-"""Makes the table of pages in crates/page_rows/data: each page with how it is read, by a reader of its own.
+"""Makes the table of pages in crates/tables/data: each page with how it is read, by a reader of its own.
 
 The reader is written from the rules of pages alone, by regular expressions, and shares no code with page_reader. A row is a page, a
 tab and its reading: `not utf8`, `not page`, or `page` with the document's text, and for each script its place in the bytes and its text.
@@ -247,7 +247,7 @@ def main():
         source = "".join(chr(b) if 32 <= b < 127 and b != 92 else f"\\x{b:02x}" for b in data)
         rows.append(source + "\t" + reading(data) + "\n")
     top = os.path.dirname(os.path.dirname(os.path.abspath(__file__)))
-    with open(os.path.join(top, "crates/page_rows/data/pages.rows"), "w", encoding="utf-8") as file:
+    with open(os.path.join(top, "crates/tables/data/pages.rows"), "w", encoding="utf-8") as file:
         file.writelines(rows)
     print(len(rows))
 

@@ -3,16 +3,18 @@
 //
 //     node compare/whole_ops.js [CASES [SEED]]
 //
-// It makes CASES random cases (100,000 where left out), has crates/whole_lines answer them, and compares each answer with
-// node's: the same where node's result is true, false, NaN or a whole number in range, with 0 for -0, and `outside` where it
+// It makes CASES random cases (100,000 where left out), each with node's answer, and has crates/tables tell those that it answers
+// otherwise: the same where node's result is true, false, NaN or a whole number in range, with 0 for -0, and `outside` where it
 // is another number. In two places the language here differs from node: a text that is a decimal with a point or an exponent
 // is `outside`, and so is a power below 0 that is a fraction, where node may round it to 0. The program is built by `rt run`
-// in crates/whole_lines.
+// in crates/tables.
 
 const { spawnSync } = require("child_process");
+const fs = require("fs");
+const os = require("os");
 const path = require("path");
 
-const program = path.join(__dirname, "..", "crates", "whole_lines", "out", "whole_lines");
+const program = path.join(__dirname, "..", "crates", "tables", "out", "tables");
 const cases = Number(process.argv[2] || 100000);
 let state = Number(process.argv[3] || 1) >>> 0;
 
@@ -133,17 +135,18 @@ for (let i = 0; i < cases; i++) {
   }
 }
 
-const run = spawnSync(program, [], { input: lines.join("\n") + "\n", maxBuffer: 2 ** 30 });
+const folder = fs.mkdtempSync(path.join(os.tmpdir(), "whole_ops-"));
+fs.writeFileSync(path.join(folder, "numbers.rows"), lines.map((line, i) => `${line}\t${wanted[i]}\n`).join(""));
+const run = spawnSync(program, ["numbers.rows"], { cwd: folder, maxBuffer: 2 ** 30 });
+fs.rmSync(folder, { recursive: true });
 if (run.error || run.status !== 0) {
   console.error("the program failed:", run.error || run.status, String(run.stderr));
   process.exit(2);
 }
-const answers = String(run.stdout).split("\n").slice(0, -1);
-let differ = answers.length === cases ? 0 : 1;
-for (let i = 0; i < cases; i++) {
-  if (answers[i] === wanted[i]) continue;
-  differ++;
-  if (differ <= 20) console.error(`${JSON.stringify(lines[i])}: ${answers[i]}, and node has ${wanted[i]}`);
+const told = String(run.stdout).split("\n").slice(0, -2);
+for (const line of told.slice(0, 20)) {
+  const [number, answer] = line.split(": ");
+  console.error(`${JSON.stringify(lines[number - 1])}: ${answer}, and node has ${wanted[number - 1]}`);
 }
-console.log(`${cases} cases, ${differ} differ`);
-process.exit(differ === 0 ? 0 : 1);
+console.log(`${cases} cases, ${told.length} differ`);
+process.exit(told.length === 0 ? 0 : 1);

@@ -4,12 +4,11 @@ use Rattle.serde_json.specs.Data.{Data}
 use Rattle.serde_json.specs.Find.{get, as_bool, as_number, as_str, as_u64}
 use Rattle.js_core.specs.Text.{utf16_of}
 use Rattle.js_values.specs.Event.{longest_tick}
-use Rattle.event_file.specs.Kinds.{has_kind, has_only_keys_of, kind_of}
+use Rattle.event_file.specs.Kinds.{has_only_keys_of, kind_of}
 use Rattle.js_values.specs.declared.event.Event.{Event}
 use Rattle.js_values.specs.declared.event.Event.TheVariants as event
 use Rattle.event_file.specs.declared.kind.Kind.{Kind}
 use Rattle.event_file.specs.declared.kind.Kind.TheVariants.{Fire, Input, Tick, Call, Dom}
-use Rattle.event_file.specs.declared.kind.Kinds.{Kinds}
 
 -- the text at a key
 abbrev pub text_at : List ℕ → Data → Option (List ℕ)
@@ -62,9 +61,9 @@ event_as Tick d = option_map event.Tick (tick_of d)
 event_as Call d = call_of d
 event_as Dom d = dom_of d
 
--- the event that an item is, if it has the keys of its kind and that is among the kinds
-abbrev pub event_if_of : Kinds → Data → Kind → Option Event
-event_if_of kinds d kind = if has_kind kinds kind && has_only_keys_of kind d then event_as kind d else None
+-- the event that an item is, if it has the keys of its kind alone
+abbrev pub event_if_of : Data → Kind → Option Event
+event_if_of d kind = if has_only_keys_of kind d then event_as kind d else None
 
-abbrev pub event_of : Kinds → Data → Option Event
-event_of kinds d = option_and_then (event_if_of kinds d) (kind_of d)
+abbrev pub event_of : Data → Option Event
+event_of d = option_and_then (event_if_of d) (kind_of d)

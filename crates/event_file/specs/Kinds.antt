@@ -1,12 +1,10 @@
--- The kinds of items, and their keys.
+-- The of items, and their keys.
 use Rattle.std.specs.Prelude.{ℕ, Bool, true, false, List, [], ◌∷◌, codes, Option, Some, None, is_some, bytes_eq, if◌then◌else◌}
 use Rattle.std.specs.List.{list_any, list_all}
 use Rattle.serde_json.specs.Data.{Data, object, Members, no_members, member}
 use Rattle.serde_json.specs.Find.{get}
 use Rattle.event_file.specs.declared.kind.Kind.{Kind}
 use Rattle.event_file.specs.declared.kind.Kind.TheVariants.{Fire, Input, Tick, Call, Dom}
-use Rattle.event_file.specs.declared.kind.Kinds.{Kinds}
-use Rattle.event_file.specs.declared.kind.Kinds.TheVariants.{All, Calls}
 
 -- the keys that an item of a kind may have
 abbrev pub keys_of : Kind → List (List ℕ)
@@ -43,9 +41,3 @@ kind_of d =
     else (if has_key (codes "call") d then Some Call
     else (if has_key (codes "dom") d then Some Dom
     else None))))
-
--- whether the items of a kind are events: each kind's, or a call's alone
-abbrev pub has_kind : Kinds → Kind → Bool
-has_kind All kind = true
-has_kind Calls Call = true
-has_kind Calls kind = false

@@ -6,7 +6,7 @@ ghost use Rattle.js_values.specs.Event.{IsEvent, longest_tick};
 ghost use Rattle.serde_json.specs.View.{view};
 ghost use Rattle.event_file.specs.Items as spec;
 
-use crate::kind::{Kind, Kinds};
+use crate::kind::Kind;
 use js_core::{OutOfMemory, TICK_LIMIT, Units};
 use js_values::Event;
 use serde_json::Value;
@@ -126,14 +126,14 @@ fn event_as(alloc: Global, kind: Kind, item: &Value) -> Result<Option<Event>, Ou
     }
 }
 
-/// The event that an item is, where its kind is among these.
-pub fn to_event(alloc: Global, kinds: Kinds, item: &Value) -> Result<Option<Event>, OutOfMemory>
-    ensures read { IfOk result (λ event. event ≡ spec.event_of kinds (view item.now)) }
+/// The event that an item is, where it is one.
+pub fn to_event(alloc: Global, item: &Value) -> Result<Option<Event>, OutOfMemory>
+    ensures read { IfOk result (λ event. event ≡ spec.event_of (view item.now)) }
     ensures sound { IfOk result (λ event. IfSome event IsEvent) }
 {
     match Kind::of_item(item) {
         Some(kind) => {
-            if kinds.has(kind) && kind.has_the_keys_of(item) {
+            if kind.has_the_keys_of(item) {
                 event_as(alloc, kind, item)
             } else {
                 Ok(None)

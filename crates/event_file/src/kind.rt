@@ -17,27 +17,6 @@ pub enum Kind {
     Dom,
 }
 
-/// The kinds whose items are events.
-#[derive(Clone, Copy, PartialEq, Eq)]
-pub enum Kinds {
-    /// every kind
-    All,
-    /// calls alone
-    Calls,
-}
-
-impl Kinds {
-    /// Whether the items of this kind are events.
-    pub fn has(self, kind: Kind) -> bool
-        ensures { result ≡ spec.has_kind self kind }
-    {
-        match self {
-            Kinds::All => true,
-            Kinds::Calls => matches!(kind, Kind::Call),
-        }
-    }
-}
-
 impl Kind {
     /// The kind of an item, by the key that no other kind has.
     pub fn of_item(item: &Value) -> Option<Kind>

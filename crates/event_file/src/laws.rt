@@ -2,9 +2,8 @@
 
 ghost use Rattle.std.specs.Prelude.{ℕ, List};
 ghost use Rattle.event_file.specs.Laws.{NumbersItems};
-ghost use Rattle.event_file.specs.declared.kind.Kinds.{Kinds};
 
-/// Which number is answered, whichever kinds are events.
+/// Which number is answered.
 pub fn law_numbers_items()
-    ensures { (kinds : Kinds) (bytes : List ℕ) → NumbersItems kinds bytes }
+    ensures { (bytes : List ℕ) → NumbersItems bytes }
 {}

@@ -9,4 +9,4 @@ mod reading;
 
 pub use fault::{EventFault, NotEvents};
 pub use laws::law_numbers_items;
-pub use reading::{calls, events};
+pub use reading::events;

@@ -8,15 +8,14 @@ ghost use Rattle.event_file.specs.Events as spec;
 
 use crate::fault::{EventFault, NotEvents};
 use crate::item::to_event;
-use crate::kind::Kinds;
 use js_core::EVENT_LIMIT;
 use js_values::Event;
 use serde_json::Value;
 use std::alloc::Global;
 
 // The events of the items.
-fn each(alloc: Global, kinds: Kinds, items: &[Value]) -> Result<Vec<Event>, EventFault>
-    ensures found { spec.Finds (spec.events_from kinds 1 (items_view items.now)) result }
+fn each(alloc: Global, items: &[Value]) -> Result<Vec<Event>, EventFault>
+    ensures found { spec.Finds (spec.events_from 1 (items_view items.now)) result }
     ensures sound { IfOk result (λ events. All IsEvent events.items) }
 {
     let mut found = Vec::new(alloc);
@@ -25,32 +24,13 @@ fn each(alloc: Global, kinds: Kinds, items: &[Value]) -> Result<Vec<Event>, Even
         if number > EVENT_LIMIT {
             return Err(EventFault::Cause(NotEvents(number)));
         }
-        match to_event(alloc, kinds, item)? {
+        match to_event(alloc, item)? {
             Some(event) => found.push(event)?,
             None => return Err(EventFault::Cause(NotEvents(number))),
         }
         number += 1;
     }
     Ok(found)
-}
-
-fn events_among(alloc: Global, kinds: Kinds, bytes: &[u8]) -> Result<Vec<Event>, EventFault>
-    ensures found { spec.Finds (spec.events_among kinds bytes.now) result }
-    ensures sound { IfOk result (λ events. All IsEvent events.items) }
-{
-    match Value::from_slice(alloc, bytes) {
-        Err(e) => {
-            if e.is_memory() {
-                Err(EventFault::OutOfMemory)
-            } else {
-                Err(EventFault::Cause(NotEvents(0)))
-            }
-        }
-        Ok(value) => match value.as_array() {
-            Some(items) => each(alloc, kinds, items),
-            None => Err(EventFault::Cause(NotEvents(0))),
-        },
-    }
 }
 
 /// The events that the bytes of an event file hold, a JSON array of these items:
@@ -66,13 +46,17 @@ pub fn events(alloc: Global, bytes: &[u8]) -> Result<Vec<Event>, EventFault>
     ensures found { spec.Finds (spec.events_of bytes.now) result }
     ensures sound { IfOk result (λ events. All IsEvent events.items) }
 {
-    events_among(alloc, Kinds::All, bytes)
-}
-
-/// The same where calls alone are events: an item of another kind is none.
-pub fn calls(alloc: Global, bytes: &[u8]) -> Result<Vec<Event>, EventFault>
-    ensures found { spec.Finds (spec.calls_of bytes.now) result }
-    ensures sound { IfOk result (λ events. All IsEvent events.items) }
-{
-    events_among(alloc, Kinds::Calls, bytes)
+    match Value::from_slice(alloc, bytes) {
+        Err(e) => {
+            if e.is_memory() {
+                Err(EventFault::OutOfMemory)
+            } else {
+                Err(EventFault::Cause(NotEvents(0)))
+            }
+        }
+        Ok(value) => match value.as_array() {
+            Some(items) => each(alloc, items),
+            None => Err(EventFault::Cause(NotEvents(0))),
+        },
+    }
 }

@@ -5,7 +5,6 @@ use Rattle.std.proofs.lemmas.Bool.Decides.{nat_tests}
 use Rattle.std.proofs.lemmas.Str.{is_utf8-from_IsUtf8}
 use Rattle.event_file.specs.Events.{event_at, events_from, events_of_array, most_events, with_event}
 use Rattle.event_file.specs.Items.{event_of}
-use Rattle.event_file.specs.declared.kind.Kinds.TheVariants.{All}
 use Rattle.js_core.specs.Text.{utf16_of}
 use Rattle.js_values.specs.Event.{longest_tick}
 use Rattle.js_values.specs.declared.event.Event.{Event}
@@ -66,7 +65,7 @@ list_is_data n = items_are_data n n (json.item total_json json.no_items) (item t
 in_reach : (length : ℕ) → length < 20 → nat_le length longest_tick ≡ true
 in_reach length h = grind (arith, nat_tests)
 
-picked_is_event : (b c : Bool) (part length : ℕ) → length < 20 → event_of All (picked b c (click_data part) (tick_data length) total_data)
+picked_is_event : (b c : Bool) (part length : ℕ) → length < 20 → event_of (picked b c (click_data part) (tick_data length) total_data)
     ≡ Some (picked b c (Fire (utf16_of (codes "click")) (utf16_of (codes "p" ++ decimal part)) true true) (Tick length) (Call (utf16_of (codes "total"))))
 picked_is_event true c part length h = refl
 picked_is_event false true part length h = rw (in_reach length h) refl
@@ -75,22 +74,22 @@ picked_is_event false false part length h = refl
 few_enough : (i : ℕ) → i ≤ 100000 → nat_le i most_events ≡ true
 few_enough i h = grind (arith, nat_tests)
 
-first_is_event : (i : ℕ) (d : Data) (e : Event) (ds : Items) (es : List Event) → i ≤ 100000 → event_of All d ≡ Some e → events_from All (i + 1) ds ≡ Ok es
-    → events_from All i (item d ds) ≡ Ok (e ∷ es)
+first_is_event : (i : ℕ) (d : Data) (e : Event) (ds : Items) (es : List Event) → i ≤ 100000 → event_of d ≡ Some e → events_from (i + 1) ds ≡ Ok es
+    → events_from i (item d ds) ≡ Ok (e ∷ es)
 first_is_event i d e ds es few is rest =
-    let at : event_at All i d ≡ Some e = rw (few_enough i few) is in
-    ap (λ (o : Option Event). with_event o i (events_from All (i + 1) ds)) at ∙ ap (λ (r : Result (List Event) ℕ). with_event (Some e) i r) rest
+    let at : event_at i d ≡ Some e = rw (few_enough i few) is in
+    ap (λ (o : Option Event). with_event o i (events_from (i + 1) ds)) at ∙ ap (λ (r : Result (List Event) ℕ). with_event (Some e) i r) rest
 
 -- n events and these, of which the first comes after n others
-events_are : (parts n : ℕ) (ds : Items) (es : List Event) → n < 100000 → events_from All (n + 1) ds ≡ Ok es → events_from All 1 (data_before parts n ds) ≡ Ok (chosen_before parts n es)
+events_are : (parts n : ℕ) (ds : Items) (es : List Event) → n < 100000 → events_from (n + 1) ds ≡ Ok es → events_from 1 (data_before parts n ds) ≡ Ok (chosen_before parts n es)
 events_are parts zero ds es few is = is
 events_are parts (suc n) ds es few is =
     let y = drawn (parts + suc n) in
     events_are parts n (item (event_data parts y) ds) (chosen parts y ∷ es) (omega arith)
     (first_is_event (n + 1) (event_data parts y) (chosen parts y) ds es (omega arith) (picked_is_event (y % 3 == 0) (y % 3 == 1) (part_of parts y) (length_of y) (length_is_small y))
-    (let next : (n + 1) + 1 ≡ suc n + 1 = omega arith in ap (λ (i : ℕ). events_from All i ds) next ∙ is))
+    (let next : (n + 1) + 1 ≡ suc n + 1 = omega arith in ap (λ (i : ℕ). events_from i ds) next ∙ is))
 
-last_is : (i : ℕ) → i ≤ 100000 → events_from All i (item total_data no_items) ≡ Ok (Call (utf16_of (codes "total")) ∷ [])
+last_is : (i : ℕ) → i ≤ 100000 → events_from i (item total_data no_items) ≡ Ok (Call (utf16_of (codes "total")) ∷ [])
 last_is i few = first_is_event i total_data (Call (utf16_of (codes "total"))) no_items [] few refl refl
 
 so_many : (parts n : ℕ) (es : List Event) → length (chosen_before parts n es) ≡ n + length es
@@ -101,7 +100,7 @@ pub lists_are_read : ListsAreRead
 lists_are_read n some few =
     let found : read (event_list n) ≡ Some (array (list_data n)) = list_is_read n some few ∙ ap (option_map array) (list_is_data n) in
     let utf8 = is_utf8-from_IsUtf8 (event_list n) (list_is_utf8 n some few) in (
-      rw utf8 (ap (λ (o : Option Data). events_of_array All (option_and_then as_array o)) found)
+      rw utf8 (ap (λ (o : Option Data). events_of_array (option_and_then as_array o)) found)
           ∙ events_are n n (item total_data no_items) (Call (utf16_of (codes "total")) ∷ []) few (last_is (n + 1) (omega arith)),
       so_many n n (Call (utf16_of (codes "total")) ∷ []),
     )

@@ -8,10 +8,9 @@ use Rattle.js_values.specs.declared.event.Event.{Event}
 use Rattle.js_values.specs.declared.event.Event.TheVariants as event
 use Rattle.event_file.specs.Events.{event_at, events_from, events_of_array, items_of, most_events, with_event}
 use Rattle.event_file.specs.Items.{dom_with, event_as, event_if_of, event_of, fire_with, input_with, text_at, tick_of}
-use Rattle.event_file.specs.Kinds.{has_kind, has_only_keys_of, kind_of}
+use Rattle.event_file.specs.Kinds.{has_only_keys_of, kind_of}
 use Rattle.event_file.specs.declared.kind.Kind.{Kind}
 use Rattle.event_file.specs.declared.kind.Kind.TheVariants.{Fire, Input, Tick, Call, Dom}
-use Rattle.event_file.specs.declared.kind.Kinds.{Kinds}
 use Rattle.serde_json.specs.Data.{Data, Items, item, no_items}
 use Rattle.serde_json.specs.Find.{as_array, as_str, get}
 use Rattle.serde_json.specs.Read.{read}
@@ -71,12 +70,12 @@ if_literal : (b : Bool) (o : Option Event) → Found LiteralEvent o → Found Li
 if_literal true o h = h
 if_literal false o h = tt
 
-item_literal : (kinds : Kinds) (d : Data) → DataBytes d → Found LiteralEvent (event_of kinds d)
-item_literal kinds d h = by (kind_of d)
+item_literal : (d : Data) → DataBytes d → Found LiteralEvent (event_of d)
+item_literal d h = by (kind_of d)
   where
-    by : (o : Option Kind) → Found LiteralEvent (option_and_then (event_if_of kinds d) o)
+    by : (o : Option Kind) → Found LiteralEvent (option_and_then (event_if_of d) o)
     by None = tt
-    by (Some kind) = if_literal (has_kind kinds kind && has_only_keys_of kind d) (event_as kind d) (kind_literal kind d h)
+    by (Some kind) = if_literal (has_only_keys_of kind d) (event_as kind d) (kind_literal kind d h)
 
 -- ---- those of a file
 
@@ -89,15 +88,15 @@ with_literal None n r h k = tt
 with_literal (Some e) n (Ok es) h k = (h, k)
 with_literal (Some e) n (Err m) h k = tt
 
-items_literal : (kinds : Kinds) (n : ℕ) (ds : Items) → ItemsBytes ds → AreLiteral (events_from kinds n ds)
-items_literal kinds n no_items h = tt
-items_literal kinds n (item d ds) h =
-    with_literal (event_at kinds n d) n (events_from kinds (n + 1) ds) (if_literal (nat_le n most_events) (event_of kinds d) (item_literal kinds d h.0))
-    (items_literal kinds (n + 1) ds h.1)
+items_literal : (n : ℕ) (ds : Items) → ItemsBytes ds → AreLiteral (events_from n ds)
+items_literal n no_items h = tt
+items_literal n (item d ds) h =
+    with_literal (event_at n d) n (events_from (n + 1) ds) (if_literal (nat_le n most_events) (event_of d) (item_literal d h.0))
+    (items_literal (n + 1) ds h.1)
 
-array_literal : (kinds : Kinds) (o : Option Items) → Found ItemsBytes o → AreLiteral (events_of_array kinds o)
-array_literal kinds None h = tt
-array_literal kinds (Some ds) h = items_literal kinds 1 ds h
+array_literal : (o : Option Items) → Found ItemsBytes o → AreLiteral (events_of_array o)
+array_literal None h = tt
+array_literal (Some ds) h = items_literal 1 ds h
 
 file_bytes : (bytes : List ℕ) → length bytes ≤ longest_name → Found ItemsBytes (items_of bytes)
 file_bytes bytes short = by (is_utf8 bytes) refl
@@ -107,4 +106,4 @@ file_bytes bytes short = by (is_utf8 bytes) refl
     by true e = found_then DataBytes ItemsBytes as_array (read bytes) (read_bytes bytes (record { bytes = utf8_bytes bytes (IsUtf8-from_is_utf8 bytes e); short = short })) array_bytes
 
 pub read_events_are_literal : ReadEventsAreLiteral
-read_events_are_literal kinds bytes events e short = subst AreLiteral e (array_literal kinds (items_of bytes) (file_bytes bytes (omega (arith, short))))
+read_events_are_literal bytes events e short = subst AreLiteral e (array_literal (items_of bytes) (file_bytes bytes (omega (arith, short))))

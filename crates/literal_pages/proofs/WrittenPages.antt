@@ -10,5 +10,5 @@ accepted_pages_are_written literal written bytes page events is short fit =
     written (running page) events parts.0 parts.1 fit
 
 pub read_pages_are_written : AcceptedPagesAreLiteral → PagesCanBeWritten → ReadPagesAreWritten
-read_pages_are_written literal written bytes file page kinds events is short read small =
-    accepted_pages_are_written literal written bytes page events is short (read_events_are_literal kinds file events read small)
+read_pages_are_written literal written bytes file page events is short read small =
+    accepted_pages_are_written literal written bytes page events is short (read_events_are_literal file events read small)

@@ -1,7 +1,6 @@
 -- What accepted pages and files of events hold.
 use Rattle.std.specs.Prelude.{◌≡◌, ℕ, ◌≤◌, List, length, Ok}
-use Rattle.event_file.specs.Events.{events_among}
-use Rattle.event_file.specs.declared.kind.Kinds.{Kinds}
+use Rattle.event_file.specs.Events.{events_of}
 use Rattle.js_values.specs.declared.event.Event.{Event}
 use Rattle.literal_values.specs.Events.{LiteralEvents}
 use Rattle.literal_values.specs.Nodes.{LiteralNodes}
@@ -25,4 +24,4 @@ AcceptedPagesAreLiteral =
 -- and so can the texts of events that are read
 abbrev pub ReadEventsAreLiteral : Type 0
 ReadEventsAreLiteral =
-    (kinds : Kinds) (bytes : List ℕ) (events : List Event) → events_among kinds bytes ≡ Ok events → length bytes ≤ event_file_limit → LiteralEvents events
+    (bytes : List ℕ) (events : List Event) → events_of bytes ≡ Ok events → length bytes ≤ event_file_limit → LiteralEvents events

@@ -1,7 +1,6 @@
 -- What an accepted page reaches can be written.
 use Rattle.std.specs.Prelude.{◌≡◌, ℕ, ◌≤◌, List, length, Ok}
-use Rattle.event_file.specs.Events.{events_among}
-use Rattle.event_file.specs.declared.kind.Kinds.{Kinds}
+use Rattle.event_file.specs.Events.{events_of}
 use Rattle.js_values.specs.declared.event.Event.{Event}
 use Rattle.literal_values.specs.Events.{LiteralEvents}
 use Rattle.literal_pages.specs.Literal.{event_file_limit, page_limit}
@@ -23,5 +22,5 @@ AcceptedPagesAreWritten =
 -- and under events that a file holds
 abbrev pub ReadPagesAreWritten : Type 0
 ReadPagesAreWritten =
-    (bytes file : List ℕ) (page : Page) (kinds : Kinds) (events : List Event) → IsAccepted bytes page → length bytes ≤ page_limit
-    → events_among kinds file ≡ Ok events → length file ≤ event_file_limit → CanBeWritten (run_of (running page) events)
+    (bytes file : List ℕ) (page : Page) (events : List Event) → IsAccepted bytes page → length bytes ≤ page_limit
+    → events_of file ≡ Ok events → length file ≤ event_file_limit → CanBeWritten (run_of (running page) events)

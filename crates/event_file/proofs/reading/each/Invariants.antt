@@ -10,6 +10,6 @@ abbrev pub invariant-loop-item : goal.invariant-loop-item
 invariant-loop-item l = record {
   counted : l.number ≡ l.item-index + 1;
   few : l.number ≤ 100001;
-  found : behind l.found.items (events_from l.kinds l.number (items_view (drop l.item-index l.items))) ≡ events_from l.kinds 1 (items_view l.items);
+  found : behind l.found.items (events_from l.number (items_view (drop l.item-index l.items))) ≡ events_from 1 (items_view l.items);
   sound : All IsEvent l.found.items;
 }

@@ -1,5 +1,0 @@
-use Rattle.event_lines.proofs.Readings.{written_on_ok}
-use Rattle.event_lines.proofs.answer.push_calls_of.Goals as goal
-
-pub returns : goal.returns
-returns c = written_on_ok _ _ _ _ _ c.calls-read.ensures.found c.push_reading.ensures
