@@ -7,6 +7,9 @@ types of `src/` that definitions match on, and the traits of its parameters. Pro
     .ci/reached.py            the rows of docs/BELIEVE.md as they should be
     .ci/reached.py --write    writes them there; a new row may stand anywhere as `| `FILE` | what it says |`
     .ci/reached.py FILE       the definitions of one file that are reached
+
+The page has a table, too, of how many lines each sentence of README.md asks to be read: those that are reached from the definitions
+where the sentence begins.
 """
 import os
 import re
@@ -25,6 +28,9 @@ APART = re.compile(r"--|(?:pub )?(?:use|mod) ")
 GROUP = re.compile(r"(?:abbrev |unfoldable )?(?:pub )?mutual\b")
 # A row: the file, its lines, those that are reached, and what it says. Of a new row the numbers may be missing.
 ROW = re.compile(r"^\| `([\w/]+\.(?:antt|rt))` \|(?: (\d+) \|)?(?: (\d+) \|)? (.*) \|$")
+
+# A row of the table of sentences: the sentence, the file and the definitions where it begins, and how many lines these reach.
+SENTENCE = re.compile(r"^\| (\d+) \| `([\w/]+\.(?:antt|rt))`((?:,? `\w+`)+) \|(?: ([\d,]+) \|)?$")
 
 
 def read(path):
@@ -299,9 +305,20 @@ def totals(table):
     return sum(it[0] for it in counts), sum(it[1] for it in counts)
 
 
+def sentence(line):
+    """The row of a sentence as it should be."""
+    number, path, names, _ = SENTENCE.match(line).groups()
+    definitions = Definitions()
+    for name in re.findall(r"`(\w+)`", names):
+        definitions.follow((path, name))
+    count = sum(block.lines for blocks in definitions.reached.values() for block in blocks)
+    return f"| {number} | `{path}`{names} | {count:,} |"
+
+
 def written(page, definitions):
     """The page with its rows and its two sums as they should be."""
     table = rows(page, definitions)
+    page = "\n".join(sentence(it) if SENTENCE.match(it) else it for it in page.splitlines())
     lines, done, heading = [], set(), None
     for line in page.splitlines():
         if line.startswith("## "):
