@@ -2,7 +2,12 @@
 """Answers lines as crates/event_lines does, by Python's own JSON reader: run it with that crate's stdin, and its answers are
 the crate's stdout. It was written from the table of items alone, so that the two readings are compared."""
 import json
+import os
 import sys
+
+sys.dont_write_bytecode = True
+sys.path.insert(0, os.path.join(os.path.dirname(os.path.dirname(os.path.abspath(__file__))), "tools"))
+import command_words
 
 DEEPEST = 127
 MOST = 100000
@@ -105,5 +110,6 @@ def answer(line, calls_alone):
     return " ".join(found)
 
 
+command_words.or_help(__doc__)
 for line in sys.stdin.buffer.read().decode().split("\n")[:-1]:
     sys.stdout.buffer.write((answer(line, False) + "\t" + answer(line, True) + "\n").encode())

@@ -12,6 +12,11 @@
 const { spawnSync } = require("child_process");
 const path = require("path");
 
+if (/^(-h|--help)$/.test(process.argv[2])) {
+  const lines = require("fs").readFileSync(__filename, "utf8").split("\n");
+  console.log(lines.filter((line) => line.startsWith("//")).map((line) => line.slice(3)).join("\n"));
+  process.exit();
+}
 const program = path.join(__dirname, "..", "crates", "whole_lines", "out", "whole_lines");
 const cases = Number(process.argv[2] || 100000);
 let state = Number(process.argv[3] || 1) >>> 0;

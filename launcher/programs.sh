@@ -45,7 +45,7 @@ place() {
     mkdir -p "$cache/$3" && mv "$1/$2" "$cache/$3/$2" || fail $no_build "$cache cannot be written"
     rm -rf "$1"
     trap - EXIT
-    for old in $(cd "$cache" && ls -dt -- */ | tail -n +$((most_kept + 1))); do
+    for old in $(cd "$cache" && ls -dt -- */ 2>/dev/null | tail -n +$((most_kept + 1))); do
         rm -rf "${cache:?}/$old"
     done
 }

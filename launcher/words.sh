@@ -19,6 +19,7 @@ imagen stress N        generates a page with N parts, runs it, moves it halfway,
 imagen explain P [E]   tells where, by line and column, the page P or the events of E are refused
 imagen help            prints this; so does --help
 imagen --version       prints the commit, the kit, and whether the program is proved
+imagen --program       prints where the program lies that these commands run
 imagen --build         proves and builds the program, and tells where it lies
 
 man -l docs/imagen.1 says more.
