@@ -108,7 +108,7 @@ def saved_cell(before, after, why):
         if kind != "equal":
             gone += ["- " + it for it in before.statements[start:end]]
             new += ["+ " + it for it in after.statements[begin:stop]]
-    return size + (details(f"{len(new):,} lines new, {len(gone):,} gone", new + gone) if new or gone else "<br>other numbers alone")
+    return size + (details(f"{len(new):,} new, {len(gone):,} gone", new + gone) if new or gone else "<br>other numbers alone")
 
 
 def changed_cell(before, after):
@@ -138,7 +138,7 @@ def written(session, name):
         cells = [("number", str(number)), ("clock", f"{clock:,}"), ("event", code(told(event)) if event else "the page is loaded"), ("lines", lines_cell(lines[had:])),
                  ("changed", changed_cell(before, saved)), ("saved", saved_cell(before, saved, why))]
         rows.append("<tr>" + "".join(f"<td class={kind}>{cell}</td>" for kind, cell in cells) + "</tr>")
-    heads = "".join(f"<th>{it}</th>" for it in ("", "ms", "Event", "Lines", "What changed", "What save writes then"))
+    heads = "".join(f"<th>{it}</th>" for it in ("", "ms", "Event", "Lines", "What changed", "Lines that save writes"))
     return (f'<!DOCTYPE html>\n<html lang="en"><head><meta charset="utf-8"><title>{html.escape(name)}</title><style>{STYLE}</style></head>\n<body><h1>{html.escape(name)}</h1>\n'
             f"<table><thead><tr>{heads}</tr></thead><tbody>\n" + "\n".join(rows) + "\n</tbody></table></body></html>\n")
 
