@@ -343,6 +343,9 @@ def written(page, definitions):
 
 
 def main():
+    if sys.argv[1:2] in (["-h"], ["--help"]):
+        print(__doc__.strip())
+        return 0
     definitions = reached()
     if sys.argv[1:] == ["--write"]:
         text = written(read(PAGE), definitions)

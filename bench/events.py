@@ -12,8 +12,12 @@ import sys
 import tempfile
 import time
 
+sys.dont_write_bytecode = True
+sys.path.insert(0, os.path.join(os.path.dirname(os.path.dirname(os.path.abspath(__file__))), "tools"))
+import command_words
+
 TOP = os.path.dirname(os.path.dirname(os.path.abspath(__file__)))
-PROGRAM = os.path.abspath(sys.argv[1]) if len(sys.argv) > 1 else f"{TOP}/crates/imagen/out/imagen"
+PROGRAM = command_words.program(__doc__)
 B = 'var b=document.getElementById("b"),i;'
 FIRE = {"fire": "x", "at": "b"}
 

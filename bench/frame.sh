@@ -1,5 +1,10 @@
 # What the scripts beside it that time crates share; they read it with `.`. A scratch repository holds the crates and a
 # program over them, which prints for each word how many parts it went through and the nanoseconds that they took.
+case ${1:-} in -h | --help)
+    sed -n '2,/^[^#]/s/^# \{0,1\}//p' "$0"
+    exit
+    ;;
+esac
 set -e
 top=$(cd "$(dirname "$0")/.." && pwd)
 work=$(mktemp -d)

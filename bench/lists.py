@@ -11,8 +11,12 @@ import sys
 import tempfile
 import time
 
+sys.dont_write_bytecode = True
+sys.path.insert(0, os.path.join(os.path.dirname(os.path.dirname(os.path.abspath(__file__))), "tools"))
+import command_words
+
 TOP = os.path.dirname(os.path.dirname(os.path.abspath(__file__)))
-PROGRAM = os.path.abspath(sys.argv[1]) if len(sys.argv) > 1 else f"{TOP}/crates/imagen/out/imagen"
+PROGRAM = command_words.program(__doc__)
 FILL = "var a=[],i;for(i=0;i<N;i++)a[i]=i;"
 PAGES = {
     "push": "var a=[],i;for(i=0;i<N;i++)a.push(i);",

@@ -2,9 +2,14 @@
 # How the time of a command grows with the page and the events: `replay` of 10,000 to 200,000 assignments, and of events on a
 # small page; `check` of object literals, of functions with many variables or with many formals that a function inside uses, of
 # uses under 1, 20 and 60 functions and of empty statements under 190 blocks; `instrument` of uses under 60. The last column stays
-# about the same where the time is in proportion. Build the program first: `./imagen --build`.
+# about the same where the time is in proportion. The program is the one that `./imagen` runs.
+case ${1:-} in -h | --help)
+    sed -n '2,/^[^#]/s/^# \{0,1\}//p' "$0"
+    exit
+    ;;
+esac
 top=$(cd "$(dirname "$0")/.." && pwd) || exit 1
-program=$top/crates/imagen/out/imagen
+program=$("$top/imagen" --program) || exit
 work=$(mktemp -d) || exit 1
 trap 'rm -rf "$work"' EXIT
 

@@ -10,6 +10,10 @@ import subprocess
 import sys
 import tempfile
 
+sys.dont_write_bytecode = True
+sys.path.insert(0, os.path.join(os.path.dirname(os.path.dirname(os.path.abspath(__file__))), "tools"))
+import command_words
+
 SIZES = [1_500_000, 3_000_000, 6_000_000]
 KINDS = {
     "statements": lambda k: f"var item{k % 1000} = count + other.value({k % 97});\n",
@@ -37,7 +41,7 @@ def peak(program, page):
 
 
 def main():
-    program = os.path.abspath(sys.argv[1])
+    program = command_words.program(__doc__)
     with tempfile.TemporaryDirectory() as folder:
         page = os.path.join(folder, "page.html")
 

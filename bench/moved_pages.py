@@ -18,6 +18,9 @@ import sys
 import tempfile
 
 sys.dont_write_bytecode = True
+sys.path.insert(0, os.path.join(os.path.dirname(os.path.dirname(os.path.abspath(__file__))), "tools"))
+import command_words
+
 sys.path.insert(0, os.path.join(os.path.dirname(os.path.dirname(os.path.abspath(__file__))), "compare"))
 from random_pages import Page
 from whole_pages import WholePage
@@ -102,6 +105,7 @@ class Mover:
 
 
 def main():
+    command_words.or_help(__doc__, 1)
     count = int(sys.argv[2]) if len(sys.argv) > 2 else 1000
     seed = int(sys.argv[3]) if len(sys.argv) > 3 else 1
     make = KINDS[sys.argv[4] if len(sys.argv) > 4 else "whole"]

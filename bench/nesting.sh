@@ -2,9 +2,14 @@
 # How `check` ends, and how its time grows, where a script nests deep: brackets of each kind, and what nests without brackets, under the
 # usual stack of 8 MiB. A kind that makes height is refused with its note, each other one is a script. The last column stays about the
 # same where the time is in proportion.
-# Build the program first: `./imagen --build`.
+# The program is the one that `./imagen` runs.
+case ${1:-} in -h | --help)
+    sed -n '2,/^[^#]/s/^# \{0,1\}//p' "$0"
+    exit
+    ;;
+esac
 top=$(cd "$(dirname "$0")/.." && pwd) || exit 1
-program=$top/crates/imagen/out/imagen
+program=$("$top/imagen" --program) || exit
 work=$(mktemp -d) || exit 1
 trap 'rm -rf "$work"' EXIT
 ulimit -s 8192
@@ -14,7 +19,7 @@ repeated() {
     yes "$1" | head -n "$2" | tr -d '\n'
 }
 
-# row KIND OPENING MIDDLE CLOSING BEHIND: so many openings and closings, for each of three numbers
+# row KIND OPENING MIDDLE CLOSING AFTER: so many openings and closings, for each of three numbers
 row() {
     for count in 10000 100000 1000000; do
         {

@@ -24,6 +24,10 @@ import tempfile
 import threading
 import time
 
+sys.dont_write_bytecode = True
+sys.path.insert(0, os.path.join(os.path.dirname(os.path.dirname(os.path.abspath(__file__))), "tools"))
+import command_words
+
 FILE = "imagen.db"
 TABLE = ("CREATE TABLE kept(name TEXT NOT NULL, version INTEGER NOT NULL, size INTEGER NOT NULL, bytes BLOB NOT NULL, "
          "PRIMARY KEY(name, version)) STRICT")
@@ -235,7 +239,7 @@ def costs(folder):
 
 
 if __name__ == "__main__":
-    PROGRAM = os.path.abspath(sys.argv[1])
+    PROGRAM = command_words.program(__doc__)
     for part in sys.argv[2:] or ["kills", "together", "faults", "costs"]:
         with tempfile.TemporaryDirectory() as place:
             {"kills": kills, "together": together, "faults": faults, "costs": costs}[part](place)

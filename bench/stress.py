@@ -10,8 +10,12 @@ import os
 import subprocess
 import sys
 
+sys.dont_write_bytecode = True
+sys.path.insert(0, os.path.join(os.path.dirname(os.path.dirname(os.path.abspath(__file__))), "tools"))
+import command_words
+
 TOP = os.path.dirname(os.path.dirname(os.path.abspath(__file__)))
-PROGRAM = os.path.abspath(sys.argv[1]) if len(sys.argv) > 1 else f"{TOP}/crates/imagen/out/imagen"
+PROGRAM = command_words.program(__doc__)
 SIZES = (1, 3, 10, 30, 100, 300, 1_000)
 
 

@@ -17,6 +17,10 @@ import sys
 import tempfile
 import urllib.parse
 
+sys.dont_write_bytecode = True
+sys.path.insert(0, os.path.join(os.path.dirname(os.path.dirname(os.path.abspath(__file__))), "tools"))
+import command_words
+
 TOP = os.path.dirname(os.path.dirname(os.path.abspath(__file__)))
 # A list whose lines are taken out by a click on them, drawn anew at each change, with a timer that counts and one that is started by a click.
 ITEMS = """<!DOCTYPE html>
@@ -156,6 +160,7 @@ def sessions():
 
 
 def main():
+    command_words.or_help(__doc__, 1)
     chromium = sys.argv[2] if len(sys.argv) > 2 else shutil.which("chromium")
     if not chromium:
         sys.exit("no chromium is found; name one as second word")

@@ -5,7 +5,12 @@ the same. It was written from the table of items alone, so that the two readings
     compare/event_lines.py < crates/tables/data/events.rows
 """
 import json
+import os
 import sys
+
+sys.dont_write_bytecode = True
+sys.path.insert(0, os.path.join(os.path.dirname(os.path.dirname(os.path.abspath(__file__))), "tools"))
+import command_words
 
 DEEPEST = 127
 MOST = 100000
@@ -108,6 +113,7 @@ def answer(line):
     return " ".join(found)
 
 
+command_words.or_help(__doc__)
 for line in sys.stdin.buffer.read().decode().split("\n")[:-1]:
     asked = line.rpartition("\t")[0]
     sys.stdout.buffer.write((asked + "\t" + answer(asked) + "\n").encode())

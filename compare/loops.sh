@@ -1,10 +1,14 @@
 #!/bin/sh
 # Times loops over properties, sums, calls and closures, six million turns, under `replay` and under MuJS and Duktape (Debian's packages mujs and
-# duktape) in the same run: the best of five, and the ratio to Duktape. The program is the proved one: run `./imagen --build` before.
+# duktape) in the same run: the best of five, and the ratio to Duktape. The program is the one that `./imagen` runs.
+case ${1:-} in -h | --help)
+    sed -n '2,/^[^#]/s/^# \{0,1\}//p' "$0"
+    exit
+    ;;
+esac
 set -e
 top=$(cd "$(dirname "$0")/.." && pwd)
-program=$top/crates/imagen/out/imagen
-[ -x "$program" ] || { echo "loops.sh: build the program first: ./imagen --build" >&2; exit 1; }
+program=$("$top/imagen" --program)
 work=$(mktemp -d)
 trap 'rm -rf "$work"' EXIT
 cd "$work"

@@ -7,6 +7,10 @@ import sys
 import xml.dom
 from xml.dom import minidom
 
+sys.dont_write_bytecode = True
+sys.path.insert(0, os.path.join(os.path.dirname(os.path.dirname(os.path.abspath(__file__))), "tools"))
+import command_words
+
 SOURCE = os.path.join(os.path.dirname(os.path.abspath(__file__)), "../crates/tables/data/nodes.rows")
 VOID = "area base br col embed hr img input link meta param source track wbr".split()
 
@@ -126,6 +130,7 @@ def shown(node):
     return start + "".join(map(shown, node.childNodes)) + end
 
 
+command_words.or_help(__doc__)
 differing = 0
 for row in rows():
     steps, wanted = row.split("\t")

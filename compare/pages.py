@@ -6,6 +6,11 @@ tab and its reading: `not utf8`, `not page`, or `page` with the document's text,
 """
 import os
 import re
+import sys
+
+sys.dont_write_bytecode = True
+sys.path.insert(0, os.path.join(os.path.dirname(os.path.dirname(os.path.abspath(__file__))), "tools"))
+import command_words
 
 VOID = set("area base br col embed hr img input link meta param source track wbr".split())
 REFUSED = set("frame frameset iframe noembed noframes noscript plaintext template xmp".split())
@@ -242,6 +247,7 @@ def pages():
 
 
 def main():
+    command_words.or_help(__doc__)
     rows = []
     for data in pages():
         source = "".join(chr(b) if 32 <= b < 127 and b != 92 else f"\\x{b:02x}" for b in data)

@@ -6,6 +6,10 @@ const fs = require("fs");
 const path = require("path");
 const vm = require("vm");
 
+if (/^(-h|--help)$/.test(process.argv[2])) {
+  console.log(fs.readFileSync(__filename, "utf8").split("\n").filter((line) => line.startsWith("//")).map((line) => line.slice(3)).join("\n"));
+  process.exit();
+}
 const source = fs.readFileSync(path.join(__dirname, "../crates/rows/data/properties.rows"), "utf8");
 const rows = source.trimEnd().split("\n").map((line) => JSON.parse(line)).filter((row) => !/\bwindow\b/.test(row.items));
 

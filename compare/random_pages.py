@@ -15,6 +15,10 @@ import subprocess
 import sys
 import tempfile
 
+sys.dont_write_bytecode = True
+sys.path.insert(0, os.path.join(os.path.dirname(os.path.dirname(os.path.abspath(__file__))), "tools"))
+import command_words
+
 # The lines of the pages of a folder, as a list of texts, one for each page.
 HARNESS = r"""
 var fs = require("fs"), vm = require("vm");
@@ -337,6 +341,7 @@ def lines_of(words, folder, number, page):
 
 
 def main():
+    command_words.or_help(__doc__, 1)
     words = shlex.split(sys.argv[1])
     count = int(sys.argv[2]) if len(sys.argv) > 2 else 10000
     seed = int(sys.argv[3]) if len(sys.argv) > 3 else 1

@@ -11,6 +11,10 @@ import subprocess
 import sys
 import tempfile
 
+sys.dont_write_bytecode = True
+sys.path.insert(0, os.path.join(os.path.dirname(os.path.dirname(os.path.abspath(__file__))), "tools"))
+import command_words
+
 HEAD = """<html><body></body><script>"use strict";
 var parts=[],sum=0;
 function part(i,k){var n=k,o={"id":i,"next":null},d=document.createElement("p");o.self=o;
@@ -80,6 +84,7 @@ def wanted(program, n):
 
 
 def main():
+    command_words.or_help(__doc__, 1)
     program = os.path.abspath(sys.argv[1])
     numbers = [int(it) for it in sys.argv[2:]] or [*range(1, 41), 100, 300]
     differ = 0

@@ -14,6 +14,11 @@ const fs = require("fs");
 const os = require("os");
 const path = require("path");
 
+if (/^(-h|--help)$/.test(process.argv[2])) {
+  const lines = fs.readFileSync(__filename, "utf8").split("\n");
+  console.log(lines.filter((line) => line.startsWith("//")).map((line) => line.slice(3)).join("\n"));
+  process.exit();
+}
 const program = path.join(__dirname, "..", "crates", "tables", "out", "tables");
 const cases = Number(process.argv[2] || 100000);
 let state = Number(process.argv[3] || 1) >>> 0;

@@ -378,3 +378,7 @@ class WholePage(Page):
 
 
 assert not set(FIELDS) & set(LINKS)
+
+
+if __name__ == "__main__":
+    print(__doc__)
