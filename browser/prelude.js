@@ -4,7 +4,7 @@
     var own = document.currentScript, browserStart = window.setTimeout, browserStop = window.clearTimeout;
     var timers = [], clock = 0, started = 0, waking = null;
     // The clock stands while the page loads, and from when it is moved up to the end of the browser's task.
-    var begun = null, isHeld = true, isRunning = false;
+    var begun = null, isHeld = true, isRunning = false, told = {move: move, firings: 0};
 
     // Makes a property that no for-in visits, as those of built-in objects are.
     function give(object, name, value) {
@@ -61,6 +61,7 @@
         for (timer = first(); timer.due <= end; timer = first()) {
             clock = Math.max(clock, timer.due);
             delete timers[timer.id];
+            told.firings++;
             if (timer.period > 0) {
                 begin(timer, timer.period);
             }
@@ -111,7 +112,7 @@
     give(window, "setIntervalFrom", function (call, delay, period) { return start(call, delay, atLeastOne(period)); });
     give(window, "clearTimeout", clear);
     give(window, "clearInterval", clear);
-    give(window, "imagenClock", {move: move});
+    give(window, "imagenClock", told);
     document.addEventListener("DOMContentLoaded", function () {
         begun = performance.now();
         isHeld = false;
