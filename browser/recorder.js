@@ -5,7 +5,7 @@
     // What the events of Imagen have, besides constants; what else a page asks an event for has no item.
     var KNOWN = /^([A-Z_]+|type|target|currentTarget|eventPhase|bubbles|cancelable|initEvent|stopPropagation|preventDefault|isTrusted)$/;
     var own = document.currentScript, isAtStart = document.readyState === "loading";
-    var items = [], refused = [], types = [], noted = 0, fired = 0;
+    var items = [], refused = [], types = [], noted = 0, firingsNoted = 0;
     var begun = isAtStart ? performance.now() : performance.getEntriesByType("navigation")[0].domInteractive;
 
     // The clock of prelude.js, where that is there, else the time that passes.
@@ -22,10 +22,10 @@
     function note(item) {
         var rest = moment() - noted, firings = window.imagenClock ? window.imagenClock.firings : 0, part;
         noted += rest;
-        while (rest > 0 || firings !== fired) {
+        while (rest > 0 || firings !== firingsNoted) {
             part = Math.min(rest, LONGEST_TICK);
             rest -= part;
-            fired = firings;
+            firingsNoted = firings;
             items.push({"tick": part});
         }
         if (item) {

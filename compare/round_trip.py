@@ -27,6 +27,8 @@ TOP = os.path.dirname(os.path.dirname(os.path.abspath(__file__)))
 sys.dont_write_bytecode = True
 MOST_LOADS = 20
 WORKERS = 3
+# An example of fractions, which browsers have.
+OTHERWISE = ["error"]
 
 
 def open_script():
@@ -149,6 +151,8 @@ class Tab:
         self.events.append(method)
         if method == "Runtime.consoleAPICalled" and params["type"] == "log":
             self.put("log", " ".join(text_of(it) for it in params["args"]))
+        elif method == "Runtime.executionContextsCleared":
+            self.lines.clear()
         elif method == "Runtime.exceptionThrown":
             self.put("uncaught", thrown(params["exceptionDetails"]["exception"]))
         elif method == "Page.javascriptDialogOpening":
@@ -179,7 +183,6 @@ class Tab:
     def go(self, text):
         with open(f"{self.folder}/page.html", "w", encoding="utf-8", newline="") as file:
             file.write(text)
-        self.lines.clear()
         self.events.clear()
         self.ask("Page.navigate", url=f"file://{self.folder}/page.html")
 
@@ -370,13 +373,14 @@ class Trip:
 
     def lack(self, name, page, events, trait):
         """The trips of a row for what a browser lacks, and that a saved page shows the lack without the prelude: by its lines, or by a trait of the document."""
-        saved = self.go(name, page, events, False)[0]
+        saved, wanted = self.go(name, page, events, False)[0], None
         for text, has_prelude in ((OPEN.opened(saved, types=[]), True), (without_prelude(saved), False)):
             self.tab.load(text, has_prelude)
             for item in events:
                 self.tab.do(item)
+            recorded = self.tab.noted()
+            wanted = wanted or [known(it) for it in self.program.lines(page, recorded)] + [True]
             shown = [known(it) for it in self.tab.lines] + [self.tab.value(trait)]
-            wanted = [known(it) for it in self.program.lines(page, events)] + [True]
             self.see(f"{name}: {'with' if has_prelude else 'without'} the prelude", [shown == wanted], [has_prelude])
         self.notes.append(f"{name}: seen without the prelude, where {next((it for it in shown if it not in wanted), 'lines are missing')}")
 
@@ -442,14 +446,6 @@ setTimeout(function () { throw new Error("of a timer"); }, 4);
     ("the comment of the mark", plain("", """
 function ask() { for (var node = document.firstChild; node; node = node.nextSibling) { console.log(node.nodeType); } }
 """), [{"call": "ask"}, {"dom": True}], "true"),
-    ("elements of scripts", plain("", """
-function count(node) {
-    var sum = node.tagName === "SCRIPT" ? 1 : 0, at = node.firstChild;
-    for (; at; at = at.nextSibling) { sum += count(at); }
-    return sum;
-}
-function ask() { console.log(count(document)); }
-"""), [{"call": "ask"}], "true"),
     ("what leaves the page", plain("""<form id="form"><input id="field"><button id="send">Send</button><button id="clear" type="reset">Clear</button></form>
 <p><a id="away" href="about:blank">away</a></p>""", """
 ["form", "away"].forEach(function (id) {
@@ -472,6 +468,23 @@ document.getElementById("i").addEventListener("keydown", function (event) { cons
     ("half of a pair of units", plain("<input id=\"i\">", "document.getElementById(\"i\").value = \"\\uD83D\";"), lambda tab: tab.type("i", "\ud83dx"),
      ["input at i: half of a pair of units is no text"]),
 ]
+
+
+def own_element(trip):
+    """An opened page finds the elements that it had, and without that line of the prelude one more."""
+    page = plain("", """
+function count(node) {
+    var sum = node.tagName === "SCRIPT" ? 1 : 0, at = node.firstChild;
+    for (; at; at = at.nextSibling) { sum += count(at); }
+    return sum;
+}
+console.log("first", count(document));
+function ask() { console.log(count(document)); }
+""")
+    opened, line = OPEN.opened(trip.program.run("instrument", page, None), types=[]), "own.parentNode.removeChild(own);"
+    for text, is_equal in ((opened, True), (opened.replace(line, "", 1), False)):
+        told, lines = trip.follow(text, [{"call": "ask"}])
+        trip.see("the prelude's own element", [lines == trip.program.lines(page, told)], [is_equal])
 
 
 def in_real_time(trip):
@@ -516,10 +529,10 @@ def from_console(trip):
 def pages(words):
     """The pages and the files of their events."""
     for page in words or sorted(glob.glob(f"{TOP}/examples/*.html")):
-        events = re.sub(r"\.html$", "", page) + ".json"
-        if words or os.path.isfile(events):
-            with open(page, encoding="utf-8", newline="") as text, open(events, encoding="utf-8") as items:
-                yield os.path.basename(page)[:-len(".html")], text.read(), json.load(items)
+        name = re.sub(r"\.html$", "", page)
+        if words or os.path.isfile(f"{name}.json") and os.path.basename(name) not in OTHERWISE:
+            with open(page, encoding="utf-8", newline="") as text, open(f"{name}.json", encoding="utf-8") as items:
+                yield os.path.basename(name), text.read(), json.load(items)
 
 
 @contextlib.contextmanager
@@ -555,7 +568,9 @@ def main():
                 trip.lack(*row)
             for row in REFUSALS:
                 trip.refuse(*row)
+            own_element(trip)
         with tab_of(chromium, False) as trip.tab:
+            trip.program.folder = trip.tab.folder
             in_real_time(trip)
             from_console(trip)
         return tell(trip)
