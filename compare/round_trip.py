@@ -4,9 +4,10 @@
 From a browser and back, in headless Chromium. Without words the pages are those of examples/ that have events beside them, and the rows below, for what a
 browser lacks and for what the recorder refuses; a page NAME.html has its events in NAME.json. Each page is done its events as a person would, while
 browser/recorder.js notes them: a click by the mouse, an input by keys, a tick by the browser's virtual time, a call as the page makes it known, and what no hand
-can do, as a click at what is hidden, by the recorder. Then, for the recorded file: `replay` has to give the lines that the browser printed; and at each of its
-places `save` writes the page, which browser/open makes ready and the browser loads, and is done the rest: the recorder has to note the rest again, and the lines,
-a last `dom` among them, have to be the rest of the lines. So it is once more for pages that were saved twice. The last line is `N passed, M failed`.
+can do, as a click at what is hidden, by the recorder. Then, for the recorded file: `replay` has to give the lines that the browser printed; and at each place
+between two events, and in the midst of each that was recorded as several, as keys are, `save` writes the page, which browser/open makes ready, the browser
+loads it, and it is done the rest: the recorder has to note the rest again, and the lines, a last `dom` among them, have to be the rest of the lines. So it is
+once more for pages that were saved twice. The last line is `N passed, M failed`.
 """
 import concurrent.futures
 import contextlib
@@ -116,14 +117,16 @@ class Chromium:
         os.write(self.writer, json.dumps(told).encode() + b"\0")
         return self.number
 
-    def ask(self, method, session=None, **params):
-        number = self.send(method, session, **params)
+    def answer(self, number):
         while number not in self.answers:
             self.read()
         answer = self.answers.pop(number)
         if "error" in answer:
-            raise RuntimeError(f"{method}: {answer['error']}")
+            raise RuntimeError(answer["error"])
         return answer["result"]
+
+    def ask(self, method, session=None, **params):
+        return self.answer(self.send(method, session, **params))
 
     def close(self):
         self.ask("Browser.close")
@@ -210,10 +213,13 @@ class Tab:
             self.browser.send("Input.dispatchMouseEvent", self.session, type="mousePressed", **mouse)
             self.ask("Input.dispatchMouseEvent", type="mouseReleased", **mouse)
 
-    def key(self, key, code=0):
-        text = {} if len(key) > 1 and code else {"text": key, "unmodifiedText": key}
-        self.browser.send("Input.dispatchKeyEvent", self.session, type="keyDown" if text else "rawKeyDown", key=key, windowsVirtualKeyCode=code, **text)
-        self.ask("Input.dispatchKeyEvent", type="keyUp", key=key, windowsVirtualKeyCode=code)
+    def keys(self, keys, code=0):
+        """One key after the other; the browser has done all of them when the last is answered."""
+        for key in keys:
+            text = {} if code else {"text": key, "unmodifiedText": key}
+            for kind in ("rawKeyDown" if code else "keyDown", "keyUp"):
+                number = self.browser.send("Input.dispatchKeyEvent", self.session, type=kind, key=key, windowsVirtualKeyCode=code, **text)
+        self.browser.answer(number)
 
     def type(self, at, text, has_keys=True):
         """Types what makes the text of a field this one, by keys or, where these are noted and not wanted, as an input method does."""
@@ -222,10 +228,9 @@ class Tab:
         if before is None or not is_added and self.call(FIELD, at, False) is None:
             return
         if text == "" and has_keys:
-            self.key("Backspace", 8)
+            self.keys(["Backspace"], 8)
         elif has_keys:
-            for letter in text[len(before) if is_added else 0:]:
-                self.key("\r" if letter == "\n" else letter)
+            self.keys(["\r" if letter == "\n" else letter for letter in text[len(before) if is_added else 0:]])
         elif text != "":
             self.ask("Input.insertText", text=text[len(before) if is_added else 0:])
 
@@ -235,7 +240,8 @@ class Tab:
             self.put("no element", None)
 
     def do(self, item, then=None):
-        """An event by real input, or what of it there is. `then` is the one that it brings with it where it is a key."""
+        """An event by real input, or what of it there is. `then` are the recorded ones after it, where it is one of those: keys bring inputs with them."""
+        typed = typed_text([item] + (then or []))
         if "tick" in item:
             if item["tick"] > 0:
                 self.spend("advance", item["tick"])
@@ -243,10 +249,10 @@ class Tab:
             self.click(f"document.getElementById({json.dumps(item['at'])})")
         elif item.get("fire") == "change":
             self.value(f"document.activeElement && document.activeElement.id === {json.dumps(item['at'])} && document.activeElement.blur()")
-        elif item.get("fire") == "keydown" and then and then.get("at") == item["at"] and "input" in then:
-            self.type(then["at"], then["input"])
+        elif typed is not None:
+            self.type(item["at"], typed)
         elif item.get("fire") == "keydown" and self.call(FIELD, item["at"], True) is not None:
-            self.key("Shift", 16)
+            self.keys(["Shift"], 16)
         elif "input" in item:
             self.type(item["at"], item["input"], then is None)
         elif "dom" in item:
@@ -254,6 +260,17 @@ class Tab:
             self.put("dom", self.value(DOM))
         elif "call" in item:
             self.act(item)
+
+
+def typed_text(items):
+    """The text that a field has after the keys at the beginning of the items, each of which puts one letter to its end, or None where there are none."""
+    text = None
+    for key, put in zip(items[::2], items[1::2]):
+        is_key = key.get("fire") == "keydown" and "input" in put and put["at"] == key["at"] == items[0]["at"]
+        if not is_key or text is not None and (text == "" or put["input"][:-1] != text):
+            break
+        text = put["input"]
+    return text
 
 
 def text_of(value):
@@ -321,16 +338,17 @@ class Trip:
         self.notes.append(f"{what}\n  got    {got[at:at + 3]}\n  wanted {wanted[at:at + 3]}")
 
     def record(self, page, events):
-        """What is recorded while the events are done to a page, and its lines."""
+        """What is recorded while the events are done to a page, its lines, and the places at which the next event begins."""
         self.tab.load(page, False)
-        self.by_script = 0
+        self.by_script, places = 0, [0]
         for item in events:
             before = len(self.tab.noted())
             self.tab.do(item)
             if "tick" not in item and item not in self.tab.noted()[before:]:
                 self.tab.act(item)
                 self.by_script += 1
-        return self.tab.noted(), list(self.tab.lines)
+            places.append(len(self.tab.noted()))
+        return self.tab.noted(), list(self.tab.lines), places
 
     def follow(self, page, rest):
         """What is recorded while the rest is done to a page that is made ready for the browser, and its lines."""
@@ -338,7 +356,7 @@ class Trip:
         told = self.tab.noted()
         while len(told) < len(rest):
             at = len(told)
-            self.tab.do(rest[at], rest[at + 1] if at + 1 < len(rest) else {})
+            self.tab.do(rest[at], rest[at + 1:])
             told = self.tab.noted()
             if len(told) == at and "tick" not in rest[at]:
                 self.tab.act(rest[at])
@@ -353,21 +371,23 @@ class Trip:
         types = sorted({it["fire"] for it in events if "fire" in it})
         ways = [("alone", alone(page, types)), ("after the prelude", OPEN.opened(page, types=types))]
         for what, text in ways if has_alone else ways[1:]:
-            recorded, lines = self.record(text, events)
+            recorded, lines, places = self.record(text, events)
             refused = self.tab.value("imagenRecorder.refused.join('; ')")
             self.see(f"{name}: recorded {what}", [roughly(it) for it in lines], [roughly(it) for it in self.program.lines(page, recorded)])
             if refused:
                 self.notes.append(f"{name}: not recorded: {refused}")
-        wanted, saved = self.program.lines(page, recorded), []
-        for place in range(len(recorded) + 1):
-            rest, begun = recorded[place:], len(self.program.lines(page, recorded[:place]))
-            saved.append(self.program.run("save", page, recorded[:place]))
-            twice = self.program.run("save", saved[place // 2], recorded[place // 2:place])
+        wanted, saved = self.program.lines(page, recorded), {}
+        places = sorted({*places, *((it + other) // 2 for it, other in zip(places, places[1:]))})
+        for at, place in enumerate(places):
+            rest, before = recorded[place:], places[at // 2]
+            begun = len(self.program.lines(page, recorded[:place]))
+            saved[place] = self.program.run("save", page, recorded[:place])
+            twice = self.program.run("save", saved[before], recorded[before:place])
             for how, moved in (("", saved[place]), (" twice", twice)):
                 told, lines = self.follow(OPEN.opened(moved, types=types), rest)
                 self.see(f"{name}: moved{how} after {place} of {len(recorded)} events", told, rest)
                 self.see(f"{name}: moved{how} after {place} of {len(recorded)} events, lines", [known(it) for it in lines], [known(it) for it in wanted[begun:]])
-        how = f"{len(events)} events, {self.by_script} of them by no hand, {len(recorded)} recorded"
+        how = f"{len(events)} events, {self.by_script} of them by no hand, {len(recorded)} recorded, moved at {len(places)} places"
         self.notes.append(f"{name}: {self.passed - passed} of {self.passed + self.failed - passed - failed}, {how}, {len(wanted)} lines")
         return saved
 
