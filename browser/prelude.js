@@ -1,8 +1,10 @@
 // Gives a browser what it does not have, or has otherwise, for a page that Imagen saved or opened. It stands before the first script of the page.
 (function () {
     "use strict";
+    var LONGEST_WAIT = 2147483647;
     var own = document.currentScript, browserStart = window.setTimeout, browserStop = window.clearTimeout;
-    var timers = [], clock = 0, started = 0, waking = null;
+    // The live timers by their ids, of which all below `free` are live.
+    var timers = [], free = 1, clock = 0, started = 0, waking = null;
     // The clock stands while the page loads, and from when it is moved up to the end of the browser's task.
     var begun = null, isHeld = true, isRunning = false, told = {move: move, firings: 0};
 
@@ -47,12 +49,19 @@
         timer.order = started++;
         timers[timer.id] = timer;
     }
+    function clear(id) {
+        id = Number(id);
+        if (timers[id]) {
+            delete timers[id];
+            free = Math.min(free, id);
+        }
+    }
     // Asks the browser to be woken when the next timer is due.
     function wait() {
-        var due = first().due;
+        var due = begun === null ? Infinity : first().due;
         browserStop.call(window, waking);
-        if (begun !== null && due < Infinity) {
-            waking = browserStart.call(window, run, Math.max(0, Math.ceil(begun + due - performance.now())));
+        if (due < Infinity) {
+            waking = browserStart.call(window, run, Math.min(LONGEST_WAIT, Math.max(0, Math.ceil(begun + due - performance.now()))));
         }
     }
     function run() {
@@ -60,10 +69,11 @@
         isRunning = true;
         for (timer = first(); timer.due <= end; timer = first()) {
             clock = Math.max(clock, timer.due);
-            delete timers[timer.id];
             told.firings++;
             if (timer.period > 0) {
                 begin(timer, timer.period);
+            } else {
+                clear(timer.id);
             }
             try {
                 timer.call.call(window);
@@ -85,27 +95,23 @@
         return clock;
     }
     function start(call, delay, period) {
-        var id = 1;
         if (typeof call !== "function") {
             throw new TypeError("wrong argument");
         }
-        while (timers[id]) {
-            id++;
+        while (timers[free]) {
+            free++;
         }
         if (!isHeld && !isRunning) {
             clock = Math.max(clock, now());
         }
-        begin({id: id, call: call, period: period}, Math.floor(Math.max(0, Number(delay) || 0)));
+        begin({id: free, call: call, period: period}, Math.floor(Math.max(0, Number(delay) || 0)));
         if (!isRunning) {
             wait();
         }
-        return id;
+        return free++;
     }
     function atLeastOne(period) {
         return Math.max(1, Math.floor(Number(period) || 0));
-    }
-    function clear(id) {
-        delete timers[Number(id)];
     }
     give(window, "setTimeout", function (call, delay) { return start(call, delay, 0); });
     give(window, "setInterval", function (call, period) { return start(call, atLeastOne(period), atLeastOne(period)); });

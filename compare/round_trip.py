@@ -571,6 +571,9 @@ def tell(trip):
 
 
 def main():
+    if "--help" in sys.argv[1:]:
+        print(__doc__.strip())
+        return 0
     chromium = shutil.which("chromium") or shutil.which("chromium-browser") or shutil.which("google-chrome")
     if not chromium or len(sys.argv) < 2:
         sys.exit("usage: compare/round_trip.py PROGRAM [PAGE ..], where chromium is installed")
