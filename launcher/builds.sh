@@ -18,10 +18,12 @@ begin_build() {
         note "another build is under way: waiting for it"
         flock 8
     fi
-    room=$(mktemp -d "$cache/build.XXXXXX") || fail $no_build "$cache cannot be written"
+    room=$(mktemp -d) || fail $no_build "no temporary folder can be made"
     trap 'end_build' EXIT
     trap 'exit 130' INT TERM
     mkdir "$room/repository" "$room/tmp"
+    # Under root rt runs what it built as nobody, who has to come there.
+    chmod 711 "$room" "$room/tmp"
     (cd "$top" && tar -cf - --exclude=out crates crates.txt HANDLES launcher) | (cd "$room/repository" && tar -xf -)
     copied=$(sources "$room/repository")
     built=$(built_of "$copied")

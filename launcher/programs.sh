@@ -42,7 +42,7 @@ most_kept=10
 
 # place FOLDER NAME SUM: moves the folder's file of this name into the cache, under this sum, and removes the folder and the oldest programs
 place() {
-    mkdir -p "$cache/$3" && mv "$1/$2" "$cache/$3/$2" || fail $no_build "$cache cannot be written"
+    mkdir -p "$cache/$3" && mv "$1/$2" "$cache/$3/$2.$$" && mv "$cache/$3/$2.$$" "$cache/$3/$2" || fail $no_build "$cache cannot be written"
     rm -rf "$1"
     trap - EXIT
     for old in $(cd "$cache" && ls -dt -- */ 2>/dev/null | tail -n +$((most_kept + 1))); do
