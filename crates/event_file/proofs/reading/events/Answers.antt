@@ -1,6 +1,6 @@
 use Rattle.std.proofs.Common.{sym, ◌∙◌, true≢false}
 use Rattle.event_file.proofs.Arrays.{not_json, of_array}
-use Rattle.event_file.proofs.reading.events_of.Goals as goal
+use Rattle.event_file.proofs.reading.events.Goals as goal
 
 pub returns-in-Some : goal.returns-in-Some
 returns-in-Some c =
