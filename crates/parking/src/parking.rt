@@ -116,7 +116,8 @@ pub fn fetch<K: Keeper>(
     version: u64,
     keeper: &mut K,
 ) -> Result<Vec<u8>, Status>
-    ensures gives { GivesOfRows (fetching name.now version) result (K.seen keeper.old) (K.seen keeper.new) }
+    ensures gives { GivesOfRows (fetching name.now version) result
+        (K.seen keeper.old) (K.seen keeper.new) }
     ensures calls { (K.seen keeper.old).faults ≤ (K.seen keeper.new).faults }
 {
     match keeper.get(alloc, name, version) {
@@ -148,7 +149,8 @@ pub fn drop_row<K: Keeper>(
     version: u64,
     keeper: &mut K,
 ) -> Result<Vec<u8>, Status>
-    ensures gives { GivesOfRows (dropping name.now version) result (K.seen keeper.old) (K.seen keeper.new) }
+    ensures gives { GivesOfRows (dropping name.now version) result
+        (K.seen keeper.old) (K.seen keeper.new) }
     ensures calls { (K.seen keeper.old).faults ≤ (K.seen keeper.new).faults }
 {
     let Ok(line) = row_line(alloc, b"dropped ", name, version) else {

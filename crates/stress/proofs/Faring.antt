@@ -104,6 +104,15 @@ list_not_refused lists n i parts refused =
     let same : Good (made_events n) ≡ Err i = sym events.0 ∙ refused in
     cc same
 
+-- half of a list, by how long it is
+half_of : (k : ℕ) → min (k / 2) k ≡ k / 2
+half_of k = omega arith
+
+half_taken : (events : List Event) (k : ℕ) → length events ≡ k → length (earlier events) ≡ k / 2
+half_taken events k many =
+    let taken : length (earlier events) ≡ min (length events / 2) (length events) = length-take (length events / 2) events in
+    taken ∙ half_of (length events) ∙ ap (λ (m : ℕ). m / 2) many
+
 module _ (n : ℕ) where
   -- ---- the move
 
@@ -182,19 +191,17 @@ module _ (n : ℕ) where
       let plain = pages n (omega (arith, parts.1)) in
       ap (λ (p : Page). p.kind) (one (page_text n) page (plain_page plain.0) made.accepted plain.1)
 
+  made_list : ListsAreRead → IsPartCount n → (page : Page) (events : List Event) → IsMade n page events → events ≡ made_events n
+  made_list lists parts page events made =
+      let read = lists n parts.0 (omega (arith, parts.1)) in
+      let same : Good events ≡ Good (made_events n) = sym made.holds ∙ read.0 in cc
+
   -- and the first half of its events has so many
   first_half : ListsAreRead → IsPartCount n → (page : Page) (events : List Event) → IsMade n page events → length (earlier events) ≡ (n + 1) / 2
   first_half lists parts page events made =
       let read = lists n parts.0 (omega (arith, parts.1)) in
-      let same : Good events ≡ Good (made_events n) = sym made.holds ∙ read.0 in
-      let many : length events ≡ n + 1 = ap length (good_same events (made_events n) same) ∙ read.1 in
-      length-take (length events / 2) events ∙ half_of (length events) ∙ ap (λ k. k / 2) many
-    where
-      good_same : (es ds : List Event) → Good es ≡ Good ds → es ≡ ds
-      good_same es ds e = cc
-
-      half_of : (k : ℕ) → min (k / 2) k ≡ k / 2
-      half_of k = omega arith
+      let many : length events ≡ n + 1 = ap (λ (es : List Event). length es) (made_list lists parts page events made) ∙ read.1 in
+      half_taken events (n + 1) many
 
   -- ---- the line
 

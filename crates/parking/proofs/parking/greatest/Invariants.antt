@@ -1,5 +1,5 @@
 use Rattle.std.proofs.Common.{◌≡◌, drop, max}
-use Rattle.parking.specs.Parking.{greatest}
+use Rattle.parking.specs.Rows.{greatest}
 use Rattle.parking.proofs.parking.greatest.Given as goal
 
 abbrev pub invariant-loop-row : goal.invariant-loop-row

@@ -1,5 +1,5 @@
 use Rattle.std.proofs.Common.{◌≡◌, ◌++◌, drop}
-use Rattle.parking.specs.Parking.{listed_text}
+use Rattle.parking.specs.Rows.{listed_text}
 use Rattle.parking.proofs.row_lines.listed_text.Given as goal
 
 abbrev pub invariant-loop-row : goal.invariant-loop-row
