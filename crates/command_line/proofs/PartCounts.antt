@@ -4,9 +4,8 @@ use Rattle.std.specs.Prelude.{if◌then◌else◌, bytes_eq, codes}
 use Rattle.std.proofs.lemmas.Bool.{and_parts, leb-true}
 use Rattle.std.specs.Option.{option_map}
 use Rattle.command_line.specs.declared.command.Command.{Command as Asked}
-use Rattle.command_line.specs.declared.command.Work.{Work}
-use Rattle.command_line.specs.declared.command.Work.TheVariants.{Replay, Save}
-use Rattle.command_line.specs.Command.{Command, HasParts, check, command_of, counted, drop_row, fetch, few_parts, instrument, is_session_name, most_parts, page_of, park_of, parked_of, row_of, session_of, stress_of, version_of, versioned, view}
+use Rattle.stress.specs.Stress.{most_parts}
+use Rattle.command_line.specs.Command.{Command, HasParts, check, command_of, counted, drop_row, fetch, few_parts, instrument, is_session_name, page_of, park_of, parked_of, replay, row_of, save, session_of, stress_of, version_of, versioned, view}
 
 either : (b : Bool) (left right : Option Command) → IfSome left HasParts → IfSome right HasParts → IfSome (if b then left else right) HasParts
 either true left right l r = l
@@ -30,11 +29,12 @@ of_page command h (page ∷ []) = h page
 of_page command h [] = tt
 of_page command h (page ∷ more ∷ words) = tt
 
-of_session : (work : Work) (words : List (List ℕ)) → IfSome (session_of work words) HasParts
-of_session work (page ∷ events ∷ []) = tt
-of_session work [] = tt
-of_session work (page ∷ []) = tt
-of_session work (page ∷ events ∷ more ∷ words) = tt
+of_session : (command : List ℕ → List ℕ → Command) → ((page events : List ℕ) → HasParts (command page events)) → (words : List (List ℕ))
+    → IfSome (session_of command words) HasParts
+of_session command h (page ∷ events ∷ []) = h page events
+of_session command h [] = tt
+of_session command h (page ∷ []) = tt
+of_session command h (page ∷ events ∷ more ∷ words) = tt
 
 of_park : (words : List (List ℕ)) → IfSome (park_of words) HasParts
 of_park (page ∷ events ∷ name ∷ []) = either (is_session_name name) _ None tt tt
@@ -63,8 +63,8 @@ few_commanded [] = tt
 few_commanded (verb ∷ words) =
     either (bytes_eq verb (codes "check")) _ _ (of_page check (λ page. tt) words) (
     either (bytes_eq verb (codes "instrument")) _ _ (of_page instrument (λ page. tt) words) (
-    either (bytes_eq verb (codes "replay")) _ _ (of_session Replay words) (
-    either (bytes_eq verb (codes "save")) _ _ (of_session Save words) (
+    either (bytes_eq verb (codes "replay")) _ _ (of_session replay (λ page events. tt) words) (
+    either (bytes_eq verb (codes "save")) _ _ (of_session save (λ page events. tt) words) (
     either (bytes_eq verb (codes "park")) _ _ (of_park words) (
     either (bytes_eq verb (codes "fetch")) _ _ (of_row fetch (λ name version. tt) words) (
     either (bytes_eq verb (codes "parked")) _ _ (of_parked words) (

@@ -3,15 +3,15 @@ use Rattle.std.specs.Prelude.{ℕ, ◌+◌, ◌-◌, ◌*◌, ◌≤◌, Bool, �
 use Rattle.std.specs.List.{list_all}
 use Rattle.command_line.specs.declared.command.Command.{Command as Asked}
 use Rattle.command_line.specs.declared.command.Command.TheVariants as asked
-use Rattle.command_line.specs.declared.command.Work.{Work}
-use Rattle.command_line.specs.declared.command.Work.TheVariants.{Replay, Save}
-use Rattle.command_line.specs.Parking.{last_version}
+use Rattle.parking.specs.Rows.{last_version}
+use Rattle.stress.specs.Stress.{most_parts, IsPartCount}
 
 -- a command with the names of its files, and the name and version of its session
 pub data Command : Type 0 where
   check : List ℕ → Command
   instrument : List ℕ → Command
-  session : Work → List ℕ → List ℕ → Command
+  replay : List ℕ → List ℕ → Command
+  save : List ℕ → List ℕ → Command
   park : List ℕ → List ℕ → List ℕ → Command
   fetch : List ℕ → ℕ → Command
   parked : Command
@@ -21,7 +21,8 @@ pub data Command : Type 0 where
 abbrev pub view : Asked → Command
 view (asked.Check page) = check page.now
 view (asked.Instrument page) = instrument page.now
-view (asked.Session work page events) = session work page.now events.now
+view (asked.Replay page events) = replay page.now events.now
+view (asked.Save page events) = save page.now events.now
 view (asked.Park page events name) = park page.now events.now name.now
 view (asked.Fetch name version) = fetch name.now version
 view asked.Parked = parked
@@ -59,13 +60,6 @@ version_of (c ∷ cs) = if nat_eq c 48 then None else number_from 0 (c ∷ cs)
 
 -- ---- how many parts a generated page has
 
-abbrev pub most_parts : ℕ
-most_parts = 1000
-
--- from 1 to that many
-abbrev pub IsPartCount : ℕ → Type 0
-IsPartCount n = (1 ≤ n) × (n ≤ most_parts)
-
 abbrev pub few_parts : Option ℕ → Option ℕ
 few_parts None = None
 few_parts (Some n) = if nat_le 1 n && nat_le n most_parts then Some n else None
@@ -82,9 +76,9 @@ page_of command (page ∷ []) = Some (command page)
 page_of command words = None
 
 -- a page and events
-abbrev pub session_of : Work → List (List ℕ) → Option Command
-session_of work (page ∷ events ∷ []) = Some (session work page events)
-session_of work words = None
+abbrev pub session_of : (List ℕ → List ℕ → Command) → List (List ℕ) → Option Command
+session_of command (page ∷ events ∷ []) = Some (command page events)
+session_of command words = None
 
 -- a page, events and the name of a session
 abbrev pub park_of : List (List ℕ) → Option Command
@@ -119,8 +113,8 @@ abbrev pub command_by : List ℕ → List (List ℕ) → Option Command
 command_by verb words =
     if bytes_eq verb (codes "check") then page_of check words
     else (if bytes_eq verb (codes "instrument") then page_of instrument words
-    else (if bytes_eq verb (codes "replay") then session_of Replay words
-    else (if bytes_eq verb (codes "save") then session_of Save words
+    else (if bytes_eq verb (codes "replay") then session_of replay words
+    else (if bytes_eq verb (codes "save") then session_of save words
     else (if bytes_eq verb (codes "park") then park_of words
     else (if bytes_eq verb (codes "fetch") then row_of fetch words
     else (if bytes_eq verb (codes "parked") then parked_of words
@@ -137,14 +131,3 @@ command_of (verb ∷ words) = command_by verb words
 abbrev pub HasParts : Command → Type 0
 HasParts (stress parts) = IsPartCount parts
 HasParts command = Unit {0}
-
--- the files that a command reads
-abbrev pub files_of : Command → List (List ℕ)
-files_of (check page) = page ∷ []
-files_of (instrument page) = page ∷ []
-files_of (session work page events) = page ∷ events ∷ []
-files_of (park page events name) = page ∷ events ∷ []
-files_of (fetch name version) = []
-files_of parked = []
-files_of (drop_row name version) = []
-files_of (stress parts) = []

@@ -5,15 +5,6 @@ ghost use Rattle.command_line.specs.Command as spec;
 
 use crate::session_words::{is_session_name, parts_of, version_of};
 
-/// What is done with a page and its events.
-#[derive(Clone, Copy, PartialEq, Eq)]
-pub enum Work {
-    /// Writes the lines of loading the page and then those of its events.
-    Replay,
-    /// Writes the page as it is after the events.
-    Save,
-}
-
 /// A command line.
 #[derive(Clone, Copy, PartialEq, Eq)]
 pub enum Command<'a> {
@@ -21,8 +12,10 @@ pub enum Command<'a> {
     Check(&'a str),
     /// `instrument P`: writes the page file P with opened scopes.
     Instrument(&'a str),
-    /// `replay P E` or `save P E`: what is done with the page file P and the event file E.
-    Session(Work, &'a str, &'a str),
+    /// `replay P E`: writes the lines of loading the page file P and then those of the event file E.
+    Replay(&'a str, &'a str),
+    /// `save P E`: writes the page file P as it is after the event file E.
+    Save(&'a str, &'a str),
     /// `park P E NAME`: keeps the page file P as it is after the event file E, as the next version of the name.
     Park(&'a str, &'a str, &'a str),
     /// `fetch NAME V`: writes the page that is kept under this name and version.
@@ -49,11 +42,14 @@ fn page_of(words: &[String]) -> Option<&str>
 }
 
 // `replay P E` and `save P E`.
-fn session_of(work: Work, words: &[String]) -> Option<Command<'_>>
-    ensures { option_map spec.view result ≡ spec.session_of work (map string_bytes words.now) }
+fn session_of(words: &[String]) -> Option<(&str, &str)>
+    ensures replay { option_map (λ both. spec.replay both.0.now both.1.now) result
+        ≡ spec.session_of spec.replay (map string_bytes words.now) }
+    ensures save { option_map (λ both. spec.save both.0.now both.1.now) result
+        ≡ spec.session_of spec.save (map string_bytes words.now) }
 {
     match words {
-        [page, events] => Some(Command::Session(work, page.as_str(), events.as_str())),
+        [page, events] => Some((page.as_str(), events.as_str())),
         _ => None,
     }
 }
@@ -121,8 +117,8 @@ pub fn command_of(words: &[String]) -> Option<Command<'_>>
     match verb.as_str() {
         "check" => page_of(words).map(Command::Check),
         "instrument" => page_of(words).map(Command::Instrument),
-        "replay" => session_of(Work::Replay, words),
-        "save" => session_of(Work::Save, words),
+        "replay" => session_of(words).map(|(page, events)| Command::Replay(page, events)),
+        "save" => session_of(words).map(|(page, events)| Command::Save(page, events)),
         "park" => park_of(words),
         "fetch" => row_of(words).map(|(name, version)| Command::Fetch(name, version)),
         "parked" => parked_of(words),

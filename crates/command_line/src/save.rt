@@ -1,19 +1,16 @@
 //! What `save` does.
 
-ghost use Rattle.command_line.specs.declared.command.Work.TheVariants.{Save as SaveWork};
-ghost use Rattle.command_line.specs.Command.{session};
-ghost use Rattle.command_line.specs.Stages.{seen_between, unasked};
-ghost use Rattle.command_line.specs.Texts.{Answers};
+ghost use Rattle.std.specs.Prelude.{◌≡◌};
+ghost use Rattle.page_io.specs.Seen.{KeeperSeen};
+ghost use Rattle.outcomes.specs.Seen.{seen_between};
+ghost use Rattle.outcomes.specs.Stages.{IsRefusal};
+ghost use Rattle.outcomes.specs.Work.{Answers};
+ghost use Rattle.command_line.specs.Works.{saving};
 
-use crate::reading::read_session;
-use crate::saving::save_page;
-use crate::status::Status;
-use moved_pages::{
-    law_accepted_pages_are_plain, law_accepted_scripts_are_in_form, law_moved_pages_go_on,
-};
-use opened_pages::{law_opened_pages_are_accepted, law_opened_pages_put_out_the_same};
-use page_check::law_one_answer;
+use migrate::{law_saved_pages_move, save_page};
+use outcomes::Status;
 use page_io::{Files, Sink};
+use read_files::read_session;
 use std::alloc::Global;
 
 /// Writes the page of this name as it is after the events. The order is: reading and accepting the page, reading the
@@ -26,19 +23,18 @@ pub fn save<F: Files, O: Sink>(
     files: &mut F,
     out: &mut O,
 ) -> Status
-    ensures { Answers (session SaveWork page.now events.now) result
-        (seen_between (F.seen files.old) (F.seen files.new) unasked unasked
-        (O.seen out.old) (O.seen out.new)) }
+    ensures answers { (keeper : KeeperSeen) → Answers (saving page.now events.now) result
+        (seen_between (F.seen files.old) (F.seen files.new) keeper keeper)
+        (O.seen out.old) (O.seen out.new) }
+    ensures unput { IsRefusal result → out.new ≡ out.old }
 {
-    law_one_answer();
-    law_accepted_pages_are_plain();
-    law_accepted_scripts_are_in_form();
-    law_moved_pages_go_on();
-    law_opened_pages_are_accepted();
-    law_opened_pages_put_out_the_same();
+    law_saved_pages_move();
     let (page, list) = match read_session(alloc, page, events, files) {
         Ok(read) => read,
         Err(status) => return status,
     };
-    save_page(alloc, page, &list, out)
+    match save_page(alloc, page, &list, out) {
+        Ok(()) => Status::Ok,
+        Err(cause) => cause.status(),
+    }
 }

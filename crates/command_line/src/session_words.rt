@@ -4,8 +4,7 @@ ghost use Rattle.std.specs.Prelude.{◌≡◌};
 ghost use Rattle.std.specs.List.{list_all};
 ghost use Rattle.command_line.specs.Command as spec;
 
-/// The last version that a session may have.
-pub const LAST_VERSION: u64 = 1_000_000_000;
+use parking::LAST_VERSION;
 
 // A generated page has at most so many parts.
 const MOST_PARTS: u64 = 1000;

@@ -1,12 +1,13 @@
 //! The program over the system: its words, real files, its output and its notes.
 
-ghost use Rattle.std.specs.Prelude.{◌≡◌, ◌<◌, ◌⊎◌, IsErr};
+ghost use Rattle.std.specs.Prelude.{◌≡◌, ◌⊎◌, IsErr};
 ghost use Rattle.std.specs.Process.{exit_status};
-ghost use Rattle.command_line.specs.Notes.{note_of, Noted};
+ghost use Rattle.outcomes.specs.Notes.{note_of, Noted};
+ghost use Rattle.outcomes.specs.Status.{exit_status_of};
+ghost use Rattle.outcomes.specs.declared.status.Status.{Status as Ending};
 
-use crate::notes::write_note;
 use crate::program::run;
-use crate::status::Status;
+use outcomes::{Status, write_note};
 use page_io::{Files, Keeper, RealFiles, RealSink, Sink};
 use std::alloc::Global;
 use std::io;
@@ -22,7 +23,7 @@ where
     O: Write + Drop,
     N: Write + Drop,
     K: Keeper + Drop,
-    ensures { exit_status result < 12 }
+    ensures { (status : Ending) × (exit_status result ≡ exit_status_of status) }
 {
     let words = words_of(rt);
     let mut files = RealFiles::new(rt);
@@ -37,6 +38,15 @@ where
         &mut keeper,
     );
     ExitCode::from(status.code())
+}
+
+/// Ends a program for which memory ran out before its words were read: puts the note of that to `notes`.
+pub fn tell_out_of_memory<N: Write + Drop>(notes: N) -> ExitCode
+    ensures { exit_status result ≡ exit_status_of Status.OutOfMemory }
+{
+    let mut notes = RealSink::new(notes);
+    write_note(&mut notes, Status::OutOfMemory);
+    ExitCode::from(Status::OutOfMemory.code())
 }
 
 // The words after the program's name.

@@ -1,6 +1,0 @@
-use Rattle.std.proofs.Common.{◌≡◌, drop, max}
-use Rattle.command_line.specs.Parking.{greatest}
-use Rattle.command_line.proofs.parking.greatest.Given as goal
-
-abbrev pub invariant-loop-row : goal.invariant-loop-row
-invariant-loop-row l = max l.version (greatest l.name (drop l.row-index l.rows)) ≡ greatest l.name l.rows

@@ -1,0 +1,4 @@
+pub mod Moves
+pub mod Moving
+pub mod Saving
+pub mod Stage

@@ -1,0 +1,5 @@
+pub mod Answering
+pub mod Callers
+pub mod Causes
+pub mod Limits
+pub mod Pieces

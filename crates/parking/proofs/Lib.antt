@@ -1,0 +1,4 @@
+pub mod Drops
+pub mod Lawful
+pub mod Parks
+pub mod Rows

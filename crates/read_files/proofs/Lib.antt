@@ -1,0 +1,4 @@
+pub mod Callers
+pub mod Endings
+pub mod Lawful
+pub mod Refusals

@@ -1,0 +1,2 @@
+pub mod Faring
+pub mod Lawful

@@ -1,0 +1,3 @@
+pub mod Faring
+pub mod Stress
+pub mod Works
