@@ -303,9 +303,12 @@ def known(line):
     return re.sub(r"^(uncaught (?:Type|Range|Reference)Error): .*|^(uncaught Error): [A-Z_]*_ERR$", lambda it: (it.group(1) or it.group(2)) + ": ", line)
 
 
-def roughly(line):
-    """A line of a plain page, where the browser's reader puts the space after the body into it."""
-    return re.sub(r"(?:\\u000A| )*</body>", "</body>", line) if line.startswith("dom ") else known(line)
+def roughly(lines, page):
+    """The lines of a plain page. The browser's reader supplies a head, and puts what stands after the body into it: where that is more than space, no `dom`
+    is compared."""
+    is_alike = "<head" in page and page.rfind("</body>") > page.rfind("</script>")
+    return [re.sub(r"(?:\\u000A| )*</body>", "</body>", it) if it.startswith("dom ") else known(it) for it in lines
+            if is_alike or not it.startswith("dom ")]
 
 
 class Program:
@@ -373,7 +376,7 @@ class Trip:
         for what, text in ways if has_alone else ways[1:]:
             recorded, lines, places = self.record(text, events)
             refused = self.tab.value("imagenRecorder.refused.join('; ')")
-            self.see(f"{name}: recorded {what}", [roughly(it) for it in lines], [roughly(it) for it in self.program.lines(page, recorded)])
+            self.see(f"{name}: recorded {what}", roughly(lines, page), roughly(self.program.lines(page, recorded), page))
             if refused:
                 self.notes.append(f"{name}: not recorded: {refused}")
         wanted, saved = self.program.lines(page, recorded), {}
