@@ -15,7 +15,8 @@ import tempfile
 
 TOP = os.path.dirname(os.path.dirname(os.path.abspath(__file__)))
 EXAMPLES = os.path.join(TOP, "examples")
-SECONDS = 60
+# So many that a busy machine is no finding.
+SECONDS = 300
 
 
 def names():

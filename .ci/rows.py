@@ -21,6 +21,7 @@ import tempfile
 TOP = os.path.dirname(os.path.dirname(os.path.abspath(__file__)))
 DATA = os.path.join(TOP, "crates/rows/data")
 ROOM = 1000
+# So many that a busy machine is no finding.
 SECONDS = 300
 # What no system can be asked for.
 FAULTS = {"calls", "puts", "notes"}
