@@ -24,11 +24,14 @@ use Rattle.migrate.specs.declared.unsaved.Unsaved.TheVariants as unsaved
 use Rattle.migrate.proofs.Callers.{large, movable}
 use Rattle.command_line.specs.Works.{saving}
 
+abbrev pub failed : Unsaved → Result (Unit {0}) Unsaved
+failed cause = Err cause
+
 module _ (p e : List ℕ) (files files_now : FilesSeen) (out out_now : SinkSeen) (keeper : KeeperSeen) where
   abbrev seen : Seen
   seen = seen_between files files_now keeper keeper
 
-  last : FilesLast files files_now → out.faults ≤ out_now.faults → Lasts seen out out_now
+  pub last : FilesLast files files_now → out.faults ≤ out_now.faults → Lasts seen out out_now
   last lasts later = record { content = lasts.content; reads = lasts.reads; calls = omega arith; puts = later }
 
   -- reading ends it
@@ -70,8 +73,8 @@ module _ (p e : List ℕ) (files files_now : FilesSeen) (out out_now : SinkSeen)
       lasts = lasts;
     }
 
-    pub not_saved : SavedPagesMove → (cause : Unsaved) → (¬ (Err {Unit {0}} cause ≡ Err unsaved.OutOfMemory) → HaveNumbers page.kind page.scripts)
-        → IsAnswer (run_of (opened page) events) out out_now (Err cause) → Lasts seen out out_now → Answers (saving p e) (unsaved_status cause) seen out out_now
+    pub not_saved : SavedPagesMove → (cause : Unsaved) → (¬ (failed cause ≡ failed unsaved.OutOfMemory) → HaveNumbers page.kind page.scripts)
+        → IsAnswer (run_of (opened page) events) out out_now (failed cause) → Lasts seen out out_now → Answers (saving p e) (unsaved_status cause) seen out out_now
     not_saved move unsaved.WriteFault numbered a lasts = record {
       ends = inr (passes a.0 a.1, a.3);
       puts = (saved_page (run_of (opened page) events) a.0, saved_text move (numbered (λ e. cc)) a.0 a.1, a.2);

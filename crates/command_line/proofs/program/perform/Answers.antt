@@ -17,9 +17,9 @@ returns-in-Check-clause-answers g c =
     let keeper = g.K.Keeper.seen c.args.keeper.now in
     let keeper_now = g.K.Keeper.seen c.args.keeper.now in
     let out = g.O.Sink.seen c.args.out.now in
-    let out_now = g.O.Sink.seen c.put_text-in-Check.new.out in
-    subst (λ (asked : Asked). Answers (work_of (view asked)) c.put_text-in-Check.result (seen_between files files_now keeper keeper_now) out out_now) (sym c.in-Check.is)
-    (files_answer (checking c.in-Check.page.now) c.check.result c.put_text-in-Check.result files files_now keeper keeper_now out out_now c.put_text-in-Check.ensures.put c.put_text-in-Check.ensures.later
+    let out_now = g.O.Sink.seen c.put_text.new.out in
+    subst (λ (asked : Asked). Answers (work_of (view asked)) c.put_text.result (seen_between files files_now keeper keeper_now) out out_now) (sym c.in-Check.is)
+    (files_answer (checking c.in-Check.page.now) c.check.result c.put_text.result files files_now keeper keeper_now out out_now c.put_text.ensures.put c.put_text.ensures.later
     c.check.ensures.gives c.check.ensures.lasts)
 
 pub returns-in-Instrument-clause-answers : goal.returns-in-Instrument-clause-answers
@@ -110,4 +110,4 @@ returns-in-Stress-clause-answers g c =
     let out_now = g.O.Sink.seen c.put_text-in-Stress.new.out in
     subst (λ (asked : Asked). Answers (work_of (view asked)) c.put_text-in-Stress.result (seen_between files files_now keeper keeper_now) out out_now) (sym c.in-Stress.is)
     (alone_answers (stressing c.in-Stress.parts) c.stress.result c.put_text-in-Stress.result files files_now keeper keeper_now out out_now c.put_text-in-Stress.ensures.put c.put_text-in-Stress.ensures.later
-    c.stress.ensures)
+    c.stress.ensures.gives)
