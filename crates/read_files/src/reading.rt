@@ -13,9 +13,9 @@ use event_file::{EventFault, NotEvents, events};
 use js_core::{EVENT_FILE_LIMIT, OutOfMemory, PAGE_LIMIT};
 use js_values::Event;
 use opened_pages::{law_opened_pages_are_accepted, law_opened_pages_put_out_the_same, open_page};
+use outcomes::Status;
 use page_check::{AcceptFault, Accepted, CheckedPage, accept};
 use page_io::{Files, ReadFault};
-use outcomes::Status;
 use std::alloc::Global;
 
 // Reads a page file.

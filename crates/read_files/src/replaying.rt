@@ -9,9 +9,9 @@ ghost use Rattle.outcomes.specs.Work.{GivesOfFiles};
 ghost use Rattle.read_files.specs.Works.{replaying};
 
 use crate::reading::read_session;
-use outcomes::Status;
 use js_core::OutOfMemory;
 use js_values::{Event, Line};
+use outcomes::Status;
 use page_check::CheckedPage;
 use page_io::Files;
 use session::{Session, load};
