@@ -1,9 +1,6 @@
 -- The causes of a command's end exclude each other, and there is always one: by what is so of the stages of each command.
 use Rattle.std.proofs.Common.{◌≡◌, ℕ, List, [], ◌∷◌, Option, Some, None, IfSome, refl, sym, ◌∙◌}
-use Rattle.page_io.specs.Faults.{Rose}
-use Rattle.page_io.specs.Seen.{SinkSeen}
 use Rattle.outcomes.specs.Lawful.{AreAsked, AreDecided, AreExclusive, nothing_before}
-use Rattle.outcomes.specs.Seen.{Seen}
 use Rattle.outcomes.specs.declared.status.Status.{Status}
 use Rattle.outcomes.specs.declared.status.Status.TheVariants as status
 use Rattle.outcomes.proofs.Callers.{causes_exclude, some_cause}

@@ -1,10 +1,9 @@
 -- A page that is little enough is saved, and parked.
-use Rattle.std.proofs.Common.{◌≡◌, ℕ, ◌≤◌, length, List, [], ◌∷◌, Option, Some, None, refl, sym, ◌∙◌, inl, inr}
+use Rattle.std.proofs.Common.{◌≡◌, ℕ, ◌≤◌, length, List, Some, None, refl, sym, ◌∙◌, inl, inr}
 use Rattle.std.specs.Prelude.{◌⊎◌}
 use Rattle.page_io.specs.Faults.{Rose}
 use Rattle.page_io.specs.Seen.{SinkSeen}
 use Rattle.page_io.specs.Content.{Told}
-use Rattle.page_io.specs.Table.{Table}
 use Rattle.outcomes.specs.Lawful.{AreExclusive, AreQuiet, IsQuietAt}
 use Rattle.outcomes.specs.Seen.{Seen, Held}
 use Rattle.outcomes.specs.Stages.{EndsBy, PassesAll, Stage}

@@ -1,9 +1,9 @@
 -- That what the words ask for is done as the work of their command says.
-use Rattle.std.proofs.Common.{◌≡◌, ℕ, Option, Some, None, refl, subst}
+use Rattle.std.proofs.Common.{◌≡◌, Option, Some, None, refl, subst}
 use Rattle.page_io.specs.Seen.{SinkSeen}
 use Rattle.outcomes.specs.Seen.{Seen, KeepsRows}
 use Rattle.outcomes.specs.Stages.{EndsBy, Keeps, Spares}
-use Rattle.outcomes.specs.Work.{Leaves, PutsNothing, PutsText}
+use Rattle.outcomes.specs.Work.{Leaves, PutsText}
 use Rattle.outcomes.specs.declared.status.Status.{Status}
 use Rattle.outcomes.specs.declared.status.Status.TheVariants.{Usage}
 use Rattle.outcomes.proofs.Callers.{not_usage}

@@ -1,5 +1,5 @@
 -- That a command answers as its text and what became of it say, whatever it was not handed.
-use Rattle.std.proofs.Common.{◌≡◌, ℕ, ◌≤◌, Result, Vec, Global, refl, arith}
+use Rattle.std.proofs.Common.{ℕ, ◌≤◌, Result, Vec, Global, refl, arith}
 use Rattle.page_io.specs.Seen.{FilesSeen, KeeperSeen, SinkSeen}
 use Rattle.outcomes.specs.declared.status.Status.{Status}
 use Rattle.outcomes.specs.Seen.{seen_between, FilesLast}

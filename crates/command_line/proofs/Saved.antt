@@ -1,17 +1,17 @@
 -- How `save` ends.
-use Rattle.std.proofs.Common.{◌≡◌, ℕ, ◌≤◌, List, [], ◌∷◌, Result, Ok as Good, Err, refl, sym, ap, subst, inl, inr, arith}
+use Rattle.std.proofs.Common.{◌≡◌, ℕ, ◌≤◌, List, [], ◌∷◌, Result, Ok as Good, Err, refl, ap, inl, inr, arith}
 use Rattle.js_values.specs.declared.event.Event.{Event}
 use Rattle.opened_pages.specs.Opened.{HaveNumbers}
 use Rattle.page_io.specs.Seen.{FilesSeen, KeeperSeen, SinkSeen}
 use Rattle.page_meaning.specs.Pages.{run_of}
 use Rattle.page_writer.specs.Page.{saved_page}
 use Rattle.outcomes.specs.declared.status.Status.{Status}
-use Rattle.outcomes.specs.declared.status.Status.TheVariants.{Ok, TooLarge, WriteFault, OutOfMemory}
+use Rattle.outcomes.specs.declared.status.Status.TheVariants.{Ok, TooLarge}
 use Rattle.outcomes.specs.Seen.{Seen, seen_between, FilesLast, Lasts}
 use Rattle.outcomes.specs.Stages.{PassesAll}
 use Rattle.outcomes.specs.Work.{Answers}
 use Rattle.outcomes.proofs.Callers.{ends_behind, ends_within, passes_both, refused}
-use Rattle.read_files.specs.Page.{Page, IsAccepted, opened}
+use Rattle.read_files.specs.Page.{Page, opened}
 use Rattle.read_files.specs.Reading.{AreRead, StopsReading}
 use Rattle.read_files.specs.Replay.{HeldBoth}
 use Rattle.read_files.specs.Stages.{reading}

@@ -1,12 +1,12 @@
 -- That any number of moves gives the lines of none.
-use Rattle.std.proofs.Common.{◌≡◌, ℕ, List, [], ◌∷◌, ◌++◌, length, drop, refl, sym, ap, ◌∙◌, subst, append-nil, append_assoc}
+use Rattle.std.proofs.Common.{◌≡◌, List, [], ◌∷◌, ◌++◌, length, drop, refl, sym, ap, ◌∙◌, subst, append-nil, append_assoc}
 use Rattle.js_values.specs.declared.event.Event.{Event}
 use Rattle.js_values.specs.declared.line.Line.{Line}
 use Rattle.moved_pages.specs.Moved.{FollowsFrom, MovesJoin}
 use Rattle.page_meaning.specs.Laws.{LinesGrow}
 use Rattle.page_meaning.specs.Pages.{Page, do_event, lines_after, lines_of_run, run_all, run_of}
 use Rattle.page_meaning.specs.Store.{Store}
-use Rattle.migrate.specs.Moves.{AnyMovesJoin, IsUnmoved, Moves, SavedPagesFollow, joined, lines_of_moves, more, once}
+use Rattle.migrate.specs.Moves.{AnyMovesJoin, SavedPagesFollow, joined, more, once}
 
 -- ---- a page that goes on
 

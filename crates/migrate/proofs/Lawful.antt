@@ -1,17 +1,15 @@
 -- The stage of moving excludes other causes, and at it there is a cause or it is passed; and what the answers of saving say of it.
-use Rattle.std.proofs.Common.{◌≡◌, ℕ, List, [], ◌∷◌, ◌++◌, refl, sym, ap, ◌∙◌}
+use Rattle.std.proofs.Common.{◌≡◌, ℕ, List, [], ◌∷◌, refl, sym, ap, ◌∙◌}
 use Rattle.heap_walker.specs.declared.weight.Weight.{Weight}
-use Rattle.heap_walker.specs.Weight.{load_of, told}
 use Rattle.js_values.specs.declared.event.Event.{Event}
 use Rattle.outcomes.specs.declared.status.Status.{Status}
 use Rattle.outcomes.specs.declared.status.Status.TheVariants as status
-use Rattle.outcomes.specs.Lawful.{AreDecided, AreExclusive, IsBehind, IsDecided, IsExclusive, nothing_before}
+use Rattle.outcomes.specs.Lawful.{AreDecided, AreExclusive, IsDecided, IsExclusive, nothing_before}
 use Rattle.outcomes.specs.Seen.{Seen}
 use Rattle.outcomes.specs.Stages.{StopsAt}
 use Rattle.page_meaning.specs.Pages.{run_of}
 use Rattle.read_files.specs.Page.{Page, opened}
 use Rattle.read_files.specs.Replay.{HeldBoth}
-use Rattle.read_files.specs.Stages.{acceptance, event_file, page_file}
 use Rattle.read_files.proofs.Callers.{AnswersAreOne, after_reading, held_both, read_both, reading_decided_before, reading_exclusive_before}
 use Rattle.migrate.specs.Moving.{IsLight, IsOverweight}
 use Rattle.migrate.specs.Saving.{CanBeSaved, IsMovable, IsTooLarge}

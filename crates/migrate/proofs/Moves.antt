@@ -23,7 +23,7 @@ use Rattle.page_writer.specs.Sizes.{text_limit, things_limit}
 use Rattle.rebuilding.specs.Laws.{LoadsWithin}
 use Rattle.script_rules.specs.Form.{in_form}
 use Rattle.read_files.specs.Page.{Page, IsAccepted, opened, opened_page, running}
-use Rattle.migrate.specs.Saving.{CanBeSaved, GoesOn, IsAfter, IsTooMuch, MovesTo, SavedPagesMove, Saves}
+use Rattle.migrate.specs.Saving.{CanBeSaved, GoesOn, IsTooMuch, MovesTo, SavedPagesMove}
 use Rattle.outcomes.proofs.Callers.{at_most_or_more}
 
 -- bytes are accepted in one way

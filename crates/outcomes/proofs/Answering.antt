@@ -1,5 +1,5 @@
 -- That a command answers as its text and what became of it say.
-use Rattle.std.proofs.Common.{◌≡◌, ℕ, ◌≤◌, List, [], ◌∷◌, ◌++◌, Result, Ok as Good, Err, Vec, Global, refl, ap, inl, inr, arith}
+use Rattle.std.proofs.Common.{◌≡◌, ℕ, ◌≤◌, List, [], ◌∷◌, ◌++◌, Result, Ok as Good, Err, Vec, Global, ap, inl, inr, arith}
 use Rattle.page_io.specs.Faults.{Rose}
 use Rattle.page_io.specs.Seen.{SinkSeen}
 use Rattle.outcomes.specs.declared.status.Status.{Status}

@@ -8,7 +8,7 @@ use Rattle.outcomes.specs.declared.status.Status.{Status}
 use Rattle.outcomes.specs.declared.status.Status.TheVariants as status
 use Rattle.outcomes.specs.Lawful.{AreAsked, AreDecided, AreExclusive, AreQuiet, IsBehind}
 use Rattle.outcomes.specs.Seen.{Seen, Of}
-use Rattle.outcomes.specs.Stages.{Stage, EndsAt, EndsBy, PassesAll, StopsAt, StopsWriting}
+use Rattle.outcomes.specs.Stages.{Stage, EndsAt, EndsBy, PassesAll, StopsWriting}
 
 -- ---- of told bytes and rows
 

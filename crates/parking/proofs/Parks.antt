@@ -11,12 +11,12 @@ use Rattle.page_io.proofs.Callers.{tied}
 use Rattle.page_meaning.specs.Pages.{run_of}
 use Rattle.opened_pages.specs.Opened.{HaveNumbers}
 use Rattle.outcomes.specs.declared.status.Status.{Status}
-use Rattle.outcomes.specs.declared.status.Status.TheVariants.{TooLarge, KeeperFault, VersionsUsed, OutOfMemory}
+use Rattle.outcomes.specs.declared.status.Status.TheVariants.{KeeperFault, VersionsUsed, OutOfMemory}
 use Rattle.outcomes.specs.Seen.{Seen, seen_between, KeepsRows}
 use Rattle.outcomes.specs.Stages.{EndsAt, StopsAt}
 use Rattle.outcomes.specs.Work.{Gives}
 use Rattle.outcomes.proofs.Callers.{ends_behind, ends_within, passes_both}
-use Rattle.read_files.specs.Page.{Page, IsAccepted, opened}
+use Rattle.read_files.specs.Page.{Page, opened}
 use Rattle.read_files.specs.Reading.{AreRead, StopsReading}
 use Rattle.read_files.specs.Replay.{HeldBoth}
 use Rattle.read_files.specs.Stages.{reading}

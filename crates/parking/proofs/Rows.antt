@@ -1,16 +1,13 @@
 -- How commands on rows end.
-use Rattle.std.proofs.Common.{◌≡◌, ℕ, List, Option, Some, None, IfSome, Result, Ok as Good, Err, Vec, Global, refl, sym, inl, inr}
+use Rattle.std.proofs.Common.{◌≡◌, ℕ, List, Option, Some, None, IfSome, Ok as Good, Err, Vec, Global, inl}
 use Rattle.std.specs.FinMap.{get}
-use Rattle.std.specs.Option.{option_map}
 use Rattle.page_io.specs.Faults.{Rose}
 use Rattle.page_io.specs.Seen.{KeeperSeen}
 use Rattle.page_io.specs.Table.{Table}
 use Rattle.outcomes.specs.declared.status.Status.TheVariants.{KeeperFault, NoSession, OutOfMemory}
 use Rattle.outcomes.specs.Work.{GivesOfRows}
-use Rattle.parking.specs.Rows.{listed, listed_text, row_line}
+use Rattle.parking.specs.Rows.{listed, listed_text}
 use Rattle.parking.specs.Works.{dropping, fetching, listing}
-use Rattle.std.specs.Prelude.{codes}
-use Rattle.std.specs.FinMap.{remove}
 
 module _ (before now : KeeperSeen) where
   some_row : (o : Option Table) (name : List ℕ) (version : ℕ) (bytes : List ℕ) → IfSome o (λ t. get t (name, version) ≡ Some bytes)

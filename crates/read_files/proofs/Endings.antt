@@ -6,7 +6,7 @@ use Rattle.page_check.specs.Accept.{IsRefused}
 use Rattle.js_values.specs.declared.event.Event.{Event}
 use Rattle.outcomes.specs.declared.status.Status.{Status}
 use Rattle.outcomes.specs.declared.status.Status.TheVariants.{PageRefused, EventsRefused, ReadFault, OutOfMemory}
-use Rattle.outcomes.specs.Seen.{Seen, Of, Held, KeepsRows, ReadFailed, seen_between}
+use Rattle.outcomes.specs.Seen.{Seen, Of, Held, ReadFailed, seen_between}
 use Rattle.outcomes.specs.Stages.{Stage, PassesAll, EndsAt}
 use Rattle.outcomes.specs.Work.{GivesOfFiles}
 use Rattle.outcomes.proofs.Callers.{ends_behind, passes_both}
@@ -14,7 +14,7 @@ use Rattle.read_files.specs.Checking.{Tells}
 use Rattle.read_files.specs.Opening.{OpensTo}
 use Rattle.read_files.specs.Page.{page_limit, Page, IsAccepted, IsPage}
 use Rattle.read_files.specs.Reading.{AreRead, StopsAtPage, StopsAtEvents, StopsReading}
-use Rattle.read_files.specs.Replay.{AreBoth, HeldBoth, IsEventFile, Replays}
+use Rattle.read_files.specs.Replay.{AreBoth, IsEventFile, Replays}
 use Rattle.read_files.specs.Stages.{page_file, acceptance, event_file, reading}
 use Rattle.read_files.specs.Works.{checking, instrumenting, replaying}
 

@@ -1,7 +1,6 @@
 -- The stages of reading exclude each other's causes, and at each of them there is a cause or it is passed.
-use Rattle.std.proofs.Common.{◌≡◌, ℕ, ◌<◌, ◌≤◌, List, [], ◌∷◌, ◌++◌, length, Option, Some, None, Result, Ok, Err, refl, sym, ap, ◌∙◌, inl, inr, arith}
+use Rattle.std.proofs.Common.{◌≡◌, ℕ, ◌<◌, ◌≤◌, List, ◌++◌, length, Some, None, Result, Ok, Err, refl, sym, ap, ◌∙◌, inl, inr, arith}
 use Rattle.std.specs.Prelude.{◌⊎◌}
-use Rattle.page_io.specs.Content.{Told}
 use Rattle.page_check.specs.Accept.{IsRefused}
 use Rattle.page_check.specs.declared.page.Refusal.{Refusal}
 use Rattle.js_values.specs.declared.event.Event.{Event}
@@ -9,7 +8,7 @@ use Rattle.event_file.specs.Events.{events_of}
 use Rattle.outcomes.specs.declared.status.Status.{Status}
 use Rattle.outcomes.specs.declared.status.Status.TheVariants as status
 use Rattle.outcomes.specs.Lawful.{AreDecided, AreExclusive, IsBehind, IsDecided, IsExclusive, IsQuietAt, IsReadOrFailed}
-use Rattle.outcomes.specs.Seen.{Seen, Held, Of}
+use Rattle.outcomes.specs.Seen.{Seen, Held}
 use Rattle.outcomes.specs.Stages.{Stage, StopsAt}
 use Rattle.outcomes.proofs.Callers.{at_most_or_more, of_both, of_held}
 use Rattle.read_files.specs.Page.{page_limit, event_file_limit, Page, IsAccepted, IsPage}

@@ -1,5 +1,5 @@
 -- How generated pages fare: the causes of each end, and the line.
-use Rattle.std.proofs.Common.{◌≡◌, ℕ, ◌+◌, ◌<◌, ◌/◌, List, [], drop, length, min, take, Some, None, Result, Ok as Good, Err, IfOk, IfErr, Vec, Global, refl, sym, ap, subst, ◌∙◌, inl, arith, length-take}
+use Rattle.std.proofs.Common.{◌≡◌, ℕ, ◌+◌, ◌<◌, ◌/◌, List, [], drop, length, min, Some, None, Result, Ok as Good, Err, IfOk, IfErr, Vec, Global, refl, sym, ap, subst, ◌∙◌, inl, arith, length-take}
 use Rattle.dom_tree.specs.Sound.{IsSound}
 use Rattle.event_file.specs.Events.{events_of}
 use Rattle.generated_pages.specs.Lists.{ListsAreRead, made_events}
@@ -24,13 +24,13 @@ use Rattle.outcomes.specs.Work.{GivesAlone}
 use Rattle.read_files.specs.Page.{Page, IsAccepted, opened, running}
 use Rattle.read_files.specs.Reading.{IsUntaken}
 use Rattle.migrate.specs.Moving.{IsNotSaved, IsOverweight, IsSaved, unsaved_status}
-use Rattle.migrate.specs.Saving.{CanBeSaved, GoesOn, IsMovable, IsTooMuch, MovesTo, SavedPagesMove, Saves}
+use Rattle.migrate.specs.Saving.{CanBeSaved, GoesOn, IsTooMuch, MovesTo, SavedPagesMove, Saves}
 use Rattle.migrate.specs.declared.unsaved.Unsaved.{Unsaved}
 use Rattle.migrate.specs.declared.unsaved.Unsaved.TheVariants as unsaved
 use Rattle.migrate.proofs.Callers.{large, light}
 use Rattle.stress.specs.Faring.{CountsLines, HasNoLine, IsMovedBy, IsUnmoved, IsWhole}
 use Rattle.stress.specs.Stress.{earlier, last_line, later, stress_line, IsMade, IsMoved, IsMovableHalfway, IsPartCount, IsTooLargeHalfway}
-use Rattle.stress.specs.Works.{StopsHalfway, stressing}
+use Rattle.stress.specs.Works.{stressing}
 
 abbrev pub OneAcceptance : Type 0
 OneAcceptance = (bytes : List ℕ) (page other : Page) → IsAccepted bytes page → IsAccepted bytes other → page ≡ other

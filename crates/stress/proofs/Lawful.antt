@@ -8,9 +8,9 @@ use Rattle.outcomes.specs.Lawful.{AreDecided, AreExclusive, IsDecided, IsExclusi
 use Rattle.outcomes.specs.Seen.{Seen}
 use Rattle.outcomes.specs.Stages.{StopsAt}
 use Rattle.read_files.specs.Page.{Page}
-use Rattle.migrate.specs.Saving.{IsMovable, IsTooLarge}
+use Rattle.migrate.specs.Saving.{IsTooLarge}
 use Rattle.migrate.proofs.Callers.{large_or_little, one_weight, some_outcome}
-use Rattle.stress.specs.Stress.{earlier, IsMade, IsMovableHalfway, IsPartCount, IsTooLargeHalfway}
+use Rattle.stress.specs.Stress.{earlier, IsMade, IsPartCount, IsTooLargeHalfway}
 use Rattle.stress.specs.Works.{halfway}
 use Rattle.stress.proofs.Faring.{IsMadeOnce, MadePages, OneAcceptance, same_list, same_page}
 

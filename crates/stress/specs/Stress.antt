@@ -1,5 +1,5 @@
 -- What `stress` writes: how a generated page fares under its events, whole and moved after the first half of them.
-use Rattle.std.specs.Prelude.{ℕ, ◌≡◌, ◌+◌, ◌-◌, ◌/◌, ◌*◌, ◌≤◌, List, [], ◌∷◌, ◌++◌, codes, drop, length, take, Option, Some, None, Ok, slice_get}
+use Rattle.std.specs.Prelude.{ℕ, ◌≡◌, ◌+◌, ◌-◌, ◌/◌, ◌≤◌, List, [], ◌∷◌, ◌++◌, codes, drop, length, take, Option, Some, None, Ok, slice_get}
 use Rattle.event_file.specs.Events.{events_of}
 use Rattle.heap_walker.specs.Things.{IsWalk}
 use Rattle.heap_walker.specs.Weight.{load_of, told}

@@ -1,5 +1,5 @@
 -- What `stress` does, and the stage at which its page is moved.
-use Rattle.std.specs.Prelude.{ℕ, false, List, [], ◌∷◌}
+use Rattle.std.specs.Prelude.{ℕ, false, [], ◌∷◌}
 use Rattle.outcomes.specs.Stages.{Stage}
 use Rattle.outcomes.specs.Work.{Work, writing}
 use Rattle.outcomes.specs.declared.status.Status.{Status}

@@ -1,4 +1,4 @@
-use Rattle.std.proofs.Common.{List, Err, Ok as Good, Result, arith, refl, subst, sym}
+use Rattle.std.proofs.Common.{List, Err, Ok as Good, refl, subst, sym}
 use Rattle.page_meaning.specs.Pages.{run_of}
 use Rattle.outcomes.specs.Seen.{seen_between}
 use Rattle.outcomes.specs.Work.{Answers}

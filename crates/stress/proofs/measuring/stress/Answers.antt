@@ -1,4 +1,4 @@
-use Rattle.stress.proofs.Faring.{stress_gives, stress_lacks_memory, stress_stops}
+use Rattle.stress.proofs.Faring.{stress_gives}
 use Rattle.stress.proofs.measuring.stress.Goals as goal
 
 pub returns-in-Ok-line_of : goal.returns-in-Ok-line_of
